@@ -1,0 +1,4 @@
+pub mod Pick
+pub mod PickLaws
+pub mod Cases
+pub mod Refusal
