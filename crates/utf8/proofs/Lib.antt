@@ -1,0 +1,4 @@
+pub mod Answers
+pub mod Lead
+pub mod Tags
+pub mod Vectors

@@ -1,0 +1,46 @@
+-- `utf8::read_char` meets its contract: past the end nothing is left, and else the part from the place on is what is left.
+-- Assumes nothing.
+use native.Mathlib.Omega.{arith}
+use Prim.Native.Nat.{_-_}
+use mathlib.Core.Path.{sym, ap, _∙_}
+use lib.ListN.{length, drop, length-drop}
+use denote.Ref.{now}
+use lib.Seq.{take-all}
+use Rattle.utf8.specs.Read.{decodeHead}
+use Rattle.utf8.specs.CharsLaws.{end-cut}
+use borrow.Author.Needs.{needs}
+use Rattle.utf8.proofs.read_char.Statement.{statement}
+use Rattle.utf8.proofs.read_char.Tie as tie
+
+returns : tie.Need-returns
+returns c = sym (end-cut _ _ (c .if1 .taken))
+
+sub-read-head : tie.Need-sub-read-head
+sub-read-head c = search needs
+
+part-read-head-start : tie.Need-part-read-head-start
+part-read-head-start c = search needs
+
+part-read-head-end : tie.Need-part-read-head-end
+part-read-head-end c = search needs
+
+read-head-requires : tie.Need-read-head-requires
+read-head-requires c κs = search needs
+
+returns-2 : tie.Need-returns-2
+returns-2 c =
+    let start = c .before .before .before .before in
+    let s = now (start .args .s) in
+    let at = start .args .at in
+    c .read-head .ensures ∙ ap decodeHead (take-all (length s - at) (drop at s) (omega (arith, length-drop at s)))
+
+pub read-char-spec : {M : Type 1} → statement M
+read-char-spec =
+    tie.close
+    (tie.spec
+    returns
+    sub-read-head
+    part-read-head-start
+    part-read-head-end
+    read-head-requires
+    returns-2)

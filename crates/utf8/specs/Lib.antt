@@ -1,0 +1,10 @@
+pub mod Encode
+pub mod Meaning
+pub mod Read
+pub mod Chars
+pub mod Answer
+pub mod EncodeLaws
+pub mod GrammarLaws
+pub mod ReadLaws
+pub mod CharsLaws
+pub mod MeaningLaws
