@@ -1,0 +1,12 @@
+pub mod Parts
+pub mod Table
+pub mod TableLaws
+pub mod Small
+pub mod First
+pub mod FirstLaws
+pub mod Fit
+pub mod FitLaws
+pub mod Ascii
+pub mod SmallLaws
+pub mod File
+pub mod FileLaws

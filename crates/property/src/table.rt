@@ -1,0 +1,167 @@
+// A table: what it says of a code point, and whether it is fit.
+use crate::parts::class_of;
+use crate::parts::is_id_continue;
+use crate::parts::is_id_start;
+ghost use mathlib.Core.Path.{_≡_};
+ghost use Prim.Native.Nat.{_<_};
+ghost use lib.ListN.{length};
+ghost use Rattle.property.specs.Table.{propertiesAt, Rises};
+ghost use Rattle.property.specs.Small.{smallTable};
+ghost use Rattle.property.specs.First.{firstBad};
+ghost use Rattle.property.specs.Fit.{startOk, propertiesOk, runOk, asciiOk, tableCheck};
+
+// A table has 1 to 8,000 numbers.
+pub const MOST: usize = 8000;
+
+// The last code point, U+10FFFF.
+const LAST: u32 = 1114111;
+
+// Whether a table is fit.
+pub enum TableCheck {
+    Fit,
+    // Refusal 2, with its place: 0 for a bad count; else the first bad run, from 0; else, if only 0 to 127 differ, the count.
+    BadTable(usize),
+}
+
+// The properties of a code point, by halving: the run that has it is from lo on and before hi.
+pub fn lookup(table: &[u32], code: u32) -> u32
+    requires { ⌜ Rises (now table) ⌝ }
+    ensures { λ r. ⌜ r ≡ propertiesAt (now (table .entry)) code ⌝ }
+{
+    let mut lo = 0;
+    let mut hi = table.len();
+    while lo + 1 < hi {
+        let mid = lo + (hi - lo) / 2;
+        if code < table[mid] / 2048 {
+            hi = mid;
+        } else {
+            lo = mid;
+        }
+    }
+    table[lo] % 2048
+}
+
+// The first run starts at 0, and starts rise strictly.
+fn start_ok(table: &[u32], i: usize) -> bool
+    requires { ⌜ i < length (now table) ⌝ }
+    ensures { λ r. ⌜ r ≡ startOk (now (table .entry)) i ⌝ }
+{
+    let start = table[i] / 2048;
+    if i == 0 {
+        return start == 0;
+    }
+    table[i - 1] / 2048 < start
+}
+
+// No class 14 or 15, no XID_Start without XID_Continue.
+fn properties_ok(properties: u32) -> bool
+    ensures { λ r. ⌜ r ≡ propertiesOk properties ⌝ }
+{
+    if 13 < class_of(properties) {
+        return false;
+    }
+    if is_id_start(properties) {
+        return is_id_continue(properties);
+    }
+    true
+}
+
+// The run rules, at one run.
+fn run_ok(table: &[u32], i: usize) -> bool
+    requires { ⌜ i < length (now table) ⌝ }
+    ensures { λ r. ⌜ r ≡ runOk (now (table .entry)) i ⌝ }
+{
+    let run = table[i];
+    if !start_ok(table, i) {
+        return false;
+    }
+    if LAST < run / 2048 {
+        return false;
+    }
+    properties_ok(run % 2048)
+}
+
+// The first run that breaks a run rule; the count where none does.
+fn first_bad_run(table: &[u32]) -> usize
+    ensures { λ r. ⌜ r ≡ firstBad (runOk (now (table .entry))) 0 (length (now (table .entry))) ⌝ }
+{
+    let mut i = 0;
+    while i < table.len() {
+        if !run_ok(table, i) {
+            return i;
+        }
+        i += 1;
+    }
+    i
+}
+
+// The small table: each number is a run's start times 2,048 and its properties.
+const SMALL: [u32; 22] = [
+    48,
+    0xa * 2048 + 32,
+    0xb * 2048 + 48,
+    0xd * 2048 + 16,
+    0xe * 2048 + 48,
+    0x20 * 2048 + 4,
+    0x30 * 2048 + 6,
+    0x3a * 2048 + 4,
+    0x41 * 2048 + 7,
+    0x5b * 2048 + 4,
+    0x5f * 2048 + 6,
+    0x60 * 2048 + 4,
+    0x61 * 2048 + 7,
+    0x7b * 2048 + 4,
+    0x7f * 2048 + 48,
+    0xa0 * 2048 + 4,
+    0xe9 * 2048 + 7,
+    0xea * 2048 + 4,
+    0x300 * 2048 + 1090,
+    0x370 * 2048 + 4,
+    0x4e00 * 2048 + 11,
+    0xa000 * 2048 + 4,
+];
+
+// The small table, which is fit (`small-fit`). A constant that is indexed is rebuilt at each use, so a caller keeps this and lends it.
+pub fn small_table() -> [u32; 22]
+    ensures { λ r. ⌜ r ≡ smallTable ⌝ }
+{
+    SMALL
+}
+
+// The first code point below 128 that has other properties than the small table gives it; 128 where there is none.
+fn first_bad_ascii(table: &[u32], small: &[u32]) -> u32
+    requires { ⌜ Rises (now table) ⌝ }
+    requires { ⌜ now small ≡ smallTable ⌝ }
+    ensures { λ r. ⌜ r ≡ firstBad (asciiOk (now (table .entry))) 0 128 ⌝ }
+{
+    let mut c = 0;
+    while c < 128 {
+        if lookup(table, c) != lookup(small, c) {
+            return c;
+        }
+        c += 1;
+    }
+    c
+}
+
+// Whether a table is fit, in the order of refusal 2's places: its count, its runs, code points 0 to 127.
+pub fn check_table(table: &[u32]) -> TableCheck
+    ensures { λ r. ⌜ r ≡ tableCheck (now (table .entry)) ⌝ }
+{
+    let count = table.len();
+    if count < 1 {
+        return TableCheck::BadTable(0);
+    }
+    if MOST < count {
+        return TableCheck::BadTable(0);
+    }
+    let run = first_bad_run(table);
+    if run < count {
+        return TableCheck::BadTable(run);
+    }
+    let small = small_table();
+    if first_bad_ascii(table, &small) < 128 {
+        return TableCheck::BadTable(count);
+    }
+    TableCheck::Fit
+}
