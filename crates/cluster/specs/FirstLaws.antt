@@ -1,0 +1,211 @@
+-- Laws of first clusters, over the edition and the look-up.
+--     first-is-shortest, one-shortest    `firstSize` is `Shortest`, and no second number is
+--     first-some, first-within    the first cluster of some text is not empty, and is no longer than the text
+--     first-at                 what a caller of `cluster_end` knows: the end is inside, what stands from it on is well formed, and is `firstRest`
+--     no-longer, no-longer-end    a cluster of edition 1 is no longer than that of edition 2, in characters and in bytes
+--     Agree, same-first        look-ups that agree on the code points that occur give the same cluster
+--     plain-forgets            where a cluster begins with a plain character, nothing that stands left of it matters
+--     second-plain             so such a second cluster is what is read from the first one's end as if the text began there
+--     second-by-first          the second cluster is exactly such a character where reading a first cluster from there gives its one byte
+-- Assumes nothing.
+use Prim.Native.Nat.{ℕ, zero, suc, _+_, _<_, _≤_}
+use native.Mathlib.Omega.{arith}
+use mathlib.Core.Path.{_≡_, refl, ap, _∙_}
+use mathlib.Core.List.{List, [], _∷_, _++_}
+use mathlib.Core.Bool.{Bool, true, false, _&&_, _||_}
+use lib.Dec.{eqb}
+use lib.ListN.{length, getD, take, drop, length-append}
+use borrow.Author.Tests.{lt-ltb, le-ltb, eq-eqb, ne-eqb}
+use Rattle.base.specs.PickLaws.{by-test, split-lt, split-eq}
+use Rattle.utf8.specs.Encode.{encode, encodeAll, WellFormed}
+use Rattle.utf8.specs.EncodeLaws.{encode1, encode-some}
+use Rattle.utf8.specs.Chars.{chars}
+use Rattle.utf8.specs.CharsLaws.{After, after-chars}
+use Rattle.property.specs.Parts.{classOf}
+use Rattle.cluster.specs.Uax29.{pairRule, endsPict, endsPictZwj, endsOdd, endsConsonant, endsLinked, gb9c, gb11, gb12, onOpen, joined}
+use Rattle.cluster.specs.First.{before, breakAfter, Shortest, goOn, clusterSize, firstSize, firstEnd, firstRest, secondSize, secondIs}
+use Rattle.cluster.specs.Uax29Laws.{or-right}
+use Rattle.cluster.specs.State.{leftOf}
+use Rattle.cluster.specs.StateLaws.{same-left}
+use Rattle.cluster.specs.declared.Pair.{Pair}
+use Rattle.cluster.specs.declared.Pair.the-variants.{Joined, Broken, Open}
+
+-- ---- the shortest beginning after which there is a break
+
+-- n characters of cs go on with the cluster that left ends in: no break before any of them, and a break after them
+record Goes (edition : ℕ) (look : ℕ → ℕ) (left cs : List ℕ) (n : ℕ) : Type 0 where
+  within : n ≤ length cs
+  inside : (k : ℕ) → k < n → joined edition (before look left k cs) (look (getD cs k 0)) ≡ true
+  after : n < length cs → joined edition (before look left n cs) (look (getD cs n 0)) ≡ false
+
+module _ (edition : ℕ) (look : ℕ → ℕ) where
+  one-on :
+      (left : List ℕ) (c : ℕ) (cs : List ℕ) (n : ℕ) → joined edition left (look c) ≡ true → Goes edition look (look c ∷ left) cs n
+      → Goes edition look left (c ∷ cs) (suc n)
+  one-on left c cs n t w = record { within = omega (arith, w .within); inside = go; after = λ h. w .after (omega arith) }
+    where
+      go : (k : ℕ) → k < suc n → joined edition (before look left k (c ∷ cs)) (look (getD (c ∷ cs) k 0)) ≡ true
+      go zero h = t
+      go (suc k) h = w .inside k (omega arith)
+
+  goes : (left cs : List ℕ) → Goes edition look left cs (goOn edition look left cs)
+  unfolding goOn
+  goes left [] = record { within = omega arith; inside = λ k h. absurd (omega arith); after = λ h. absurd (omega arith) }
+  goes left (c ∷ cs) =
+      by-test (Goes edition look left (c ∷ cs)) (joined edition left (look c))
+      (λ t. one-on left c cs (goOn edition look (look c ∷ left) cs) t (goes (look c ∷ left) cs))
+      (λ t. record { within = omega arith; inside = λ k h. absurd (omega arith); after = λ h. t })
+
+  pub first-is-shortest : (c : ℕ) (cs : List ℕ) → Shortest edition look (c ∷ cs) (firstSize edition look (c ∷ cs))
+  first-is-shortest c cs =
+      record { some = omega arith; within = omega (arith, w .within); break-after = last; none-shorter = inner }
+    where
+      n : ℕ
+      n = goOn edition look (look c ∷ []) cs
+
+      w : Goes edition look (look c ∷ []) cs n
+      w = goes (look c ∷ []) cs
+
+      last : breakAfter edition look (c ∷ cs) (suc n) ≡ true
+      last =
+          split-lt (suc n) (suc (length cs)) (λ h. rw (lt-ltb (suc n) (suc (length cs)) h, w .after (omega arith)))
+          (λ h. rw (le-ltb (suc n) (suc (length cs)) h))
+
+      inner : (k : ℕ) → 0 < k → k < suc n → breakAfter edition look (c ∷ cs) k ≡ false
+      inner zero h l = absurd (omega arith)
+      inner (suc k) h l = rw (lt-ltb (suc k) (suc (length cs)) (omega (arith, w .within)), w .inside k (omega arith))
+
+  module _ (cs : List ℕ) where
+    -- of two first clusters neither is shorter: where the shorter ends there is a break, and inside the longer there is none
+    not-shorter : (n m : ℕ) → Shortest edition look cs n → Shortest edition look cs m → m ≤ n
+    not-shorter n m p q =
+        split-lt n m
+        (λ h. let a = p .break-after in
+        let b = q .none-shorter n (p .some) h in
+        let z : _≡_ {A = ℕ} 0 1 = cc in
+        absurd (omega arith))
+        (λ h. h)
+
+    pub one-shortest : (n m : ℕ) → Shortest edition look cs n → Shortest edition look cs m → n ≡ m
+    one-shortest n m p q = omega (arith, not-shorter n m p q, not-shorter m n q p)
+
+  pub first-within : (cs : List ℕ) → firstSize edition look cs ≤ length cs
+  first-within [] = omega arith
+  first-within (c ∷ cs) = first-is-shortest c cs .within
+
+  pub first-some : (i c : ℕ) (cs : List ℕ) → i < firstEnd edition look i (c ∷ cs)
+  unfolding encodeAll
+  first-some i c cs =
+      omega (arith, encode-some c, length-append (encode c) (encodeAll (take (goOn edition look (look c ∷ []) cs) cs)))
+
+  -- the end of the first cluster of what stands from the place i of s on
+  pub first-at : (s : List ℕ) (i : ℕ) → i ≤ length s → WellFormed (drop i s)
+      → After s (firstEnd edition look i (chars (drop i s))) (firstRest edition look (chars (drop i s)))
+  first-at s i h w = after-chars s i h w (firstSize edition look (chars (drop i s)))
+
+-- ---- GB9c only joins
+
+joined-more : (left : List ℕ) (p : ℕ) → joined 1 left p ≡ true → joined 2 left p ≡ true
+unfolding gb9c
+joined-more left p e =
+    go (pairRule (classOf (getD left 0 0)) (classOf p)) (gb9c 2 (endsLinked left) p) (gb11 (endsPictZwj left) p || gb12 (endsOdd left) p) e
+  where
+    go : (q : Pair) (x r : Bool) → onOpen q r ≡ true → onOpen q (x || r) ≡ true
+    go Joined x r e = refl
+    go Broken x r e = e
+    go Open x r e = or-right x r e
+
+-- fewer characters have no more bytes
+fewer-bytes : (cs : List ℕ) (m n : ℕ) → m ≤ n → length (encodeAll (take m cs)) ≤ length (encodeAll (take n cs))
+unfolding encodeAll
+fewer-bytes cs zero n h = omega arith
+fewer-bytes [] (suc m) n h = omega arith
+fewer-bytes (c ∷ cs) (suc m) zero h = absurd (omega arith)
+fewer-bytes (c ∷ cs) (suc m) (suc n) h =
+    omega
+    (arith, fewer-bytes cs m n (omega arith), length-append (encode c) (encodeAll (take m cs)), length-append (encode c) (encodeAll (take n cs)))
+
+module _ (look : ℕ → ℕ) where
+  goes-no-longer : (left cs : List ℕ) → goOn 1 look left cs ≤ goOn 2 look left cs
+  unfolding goOn
+  goes-no-longer left [] = omega arith
+  goes-no-longer left (c ∷ cs) =
+      by-test (λ (r : ℕ). r ≤ goOn 2 look left (c ∷ cs)) (joined 1 left (look c))
+      (λ t. rw (joined-more left (look c) t) (omega (arith, goes-no-longer (look c ∷ left) cs))) (λ t. omega arith)
+
+  pub no-longer : (cs : List ℕ) → firstSize 1 look cs ≤ firstSize 2 look cs
+  no-longer [] = omega arith
+  no-longer (c ∷ cs) = omega (arith, goes-no-longer (look c ∷ []) cs)
+
+  pub no-longer-end : (i : ℕ) (cs : List ℕ) → firstEnd 1 look i cs ≤ firstEnd 2 look i cs
+  no-longer-end i cs = omega (arith, fewer-bytes cs (firstSize 1 look cs) (firstSize 2 look cs) (no-longer cs))
+
+-- ---- only the code points that occur matter
+
+-- f and g give the code points of the list the same properties
+abbrev pub Agree : (ℕ → ℕ) → (ℕ → ℕ) → List ℕ → Type 0
+Agree f g [] = Unit {0}
+Agree f g (c ∷ cs) = (f c ≡ g c) × Agree f g cs
+
+module _ (edition : ℕ) (f g : ℕ → ℕ) where
+  same-goes : (left cs : List ℕ) → Agree f g cs → goOn edition f left cs ≡ goOn edition g left cs
+  unfolding goOn
+  same-goes left [] a = refl
+  same-goes left (c ∷ cs) a = rw (a .0, same-goes (g c ∷ left) cs (a .1))
+
+  pub same-first : (cs : List ℕ) → Agree f g cs → firstSize edition f cs ≡ firstSize edition g cs
+  same-first [] a = refl
+  same-first (c ∷ cs) a = rw (a .0, same-goes (g c ∷ []) cs (a .1))
+
+-- ---- a plain character: one column wide, and nothing else. Every fit table says so of "<", "^" and ">"
+
+abbrev pub plain : ℕ
+plain = 4
+
+forgets : (left : List ℕ) → leftOf (plain ∷ left) ≡ leftOf (plain ∷ [])
+unfolding endsPict endsPictZwj endsOdd endsConsonant endsLinked
+forgets left = refl
+
+module _ (edition : ℕ) (look : ℕ → ℕ) where
+  pub plain-forgets : (left : List ℕ) (c : ℕ) (cs : List ℕ) → look c ≡ plain
+      → clusterSize edition look left (c ∷ cs) ≡ firstSize edition look (c ∷ cs)
+  plain-forgets left c cs e = rw e (ap suc (same-left edition look (plain ∷ left) (plain ∷ []) cs (forgets left)))
+
+  pub second-plain : (cs : List ℕ) (c : ℕ) (rest : List ℕ) → firstRest edition look cs ≡ c ∷ rest → look c ≡ plain
+      → secondSize edition look cs ≡ firstSize edition look (firstRest edition look cs)
+  second-plain cs c rest p e = rw p (plain-forgets (before look [] (firstSize edition look cs) cs) c rest e)
+
+  -- m characters have m bytes or more
+  count-bytes : (cs : List ℕ) (m : ℕ) → m ≤ length cs → m ≤ length (encodeAll (take m cs))
+  unfolding encodeAll
+  count-bytes cs zero h = omega arith
+  count-bytes [] (suc m) h = absurd (omega arith)
+  count-bytes (c ∷ cs) (suc m) h =
+      omega (arith, count-bytes cs m (omega arith), encode-some c, length-append (encode c) (encodeAll (take m cs)))
+
+  -- one byte is one character
+  one-byte : (e c : ℕ) (cs : List ℕ) → c < 0x80 → eqb (firstSize edition look (c ∷ cs)) 1 ≡ eqb (firstEnd edition look e (c ∷ cs)) (e + 1)
+  unfolding encodeAll
+  one-byte e c cs h =
+      let m = goOn edition look (look c ∷ []) cs in
+      let more = encodeAll (take m cs) in
+      let b = count-bytes cs m (omega (arith, first-within edition look (c ∷ cs))) in
+      let n : length (encode c ++ more) ≡ suc (length more) = rw (encode1 c h) in
+      split-eq m 0
+      (λ z. let y : length more ≡ 0 = rw z in rw (eq-eqb (suc m) 1 (omega arith), eq-eqb (e + length (encode c ++ more)) (e + 1) (omega arith)))
+      (λ z. rw (ne-eqb (suc m) 1 (λ x. omega arith), ne-eqb (e + length (encode c ++ more)) (e + 1) (λ x. omega arith)))
+
+  pub second-by-first : (cs : List ℕ) (e c : ℕ) → c < 0x80 → look c ≡ plain → secondIs edition look cs c
+      ≡ (eqb (getD (firstRest edition look cs) 0 0) c && eqb (firstEnd edition look e (firstRest edition look cs)) (e + 1))
+  unfolding encodeAll
+  second-by-first cs e c h p = go (before look [] (firstSize edition look cs) cs) (firstRest edition look cs)
+    where
+      go : (left rest : List ℕ) → (eqb (getD rest 0 0) c && eqb (clusterSize edition look left rest) 1)
+          ≡ (eqb (getD rest 0 0) c && eqb (firstEnd edition look e rest) (e + 1))
+      go left [] = rw (ne-eqb (e + 0) (e + 1) (λ x. omega arith))
+      go left (d ∷ ds) =
+          split-eq d c
+          (λ x. let q : look d ≡ plain = ap look x ∙ p in
+          let n : d < 0x80 = omega arith in
+          ap (λ (t : Bool). eqb d c && t) (ap (λ (k : ℕ). eqb k 1) (plain-forgets left d ds q) ∙ one-byte e d ds n))
+          (λ x. rw (ne-eqb d c x))
