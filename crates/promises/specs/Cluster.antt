@@ -1,0 +1,34 @@
+-- The promise of `cluster::first_cluster`, case by case in document 01's order: 1 as a source, 2, 3, and then the first cluster.
+-- Assumes nothing.
+use Prim.Native.Nat.{ℕ, _<_, _≤_}
+use mathlib.Core.Path.{_≡_}
+use mathlib.Core.List.{List, [], _∷_}
+use lib.ListN.{length, take}
+use Rattle.base.specs.Refusal.{none, tooLong, badTable, badUtf8, sourceMost}
+use Rattle.utf8.specs.Encode.{encodeAll, WellFormed}
+use Rattle.utf8.specs.Chars.{chars}
+use Rattle.utf8.specs.Meaning.{Longest}
+use Rattle.property.specs.Table.{propertiesAt}
+use Rattle.property.specs.Fit.{tableCheck}
+use Rattle.property.specs.declared.table.TableCheck.the-variants.{Fit, BadTable}
+use Rattle.cluster.specs.First.{Shortest}
+use Rattle.cluster.specs.Call.{baseEdition, firstCluster, numberOf, placeOf}
+use Rattle.cluster.specs.declared.Cluster.{Cluster}
+use Rattle.promises.specs.Said.{Said, says}
+
+-- what it ensures of its answer
+abbrev pub FirstClusterEnsures : List ℕ → List ℕ → Cluster → Type 0
+FirstClusterEnsures source table r = r ≡ firstCluster source table
+
+abbrev pub clusterSays : Cluster → Said
+clusterSays r = says (numberOf r) (placeOf r)
+
+-- the cases shut each other out, and leave nothing out. A cluster's length is that of its characters in UTF-8
+pub record FirstClusterPromise (source table : List ℕ) (r : Cluster) : Type 0 where
+  pub too-long : sourceMost < length source → clusterSays r ≡ says tooLong 0
+  pub bad-table : length source ≤ sourceMost → (i : ℕ) → tableCheck table ≡ BadTable i → clusterSays r ≡ says badTable i
+  pub bad-utf8 : length source ≤ sourceMost → tableCheck table ≡ Fit → (n : ℕ) → Longest source n → clusterSays r ≡ says badUtf8 n
+  pub no-bytes : source ≡ [] → tableCheck table ≡ Fit → clusterSays r ≡ says none 0
+  pub cluster :
+      length source ≤ sourceMost → tableCheck table ≡ Fit → WellFormed source → (n : ℕ) → Shortest baseEdition (propertiesAt table) (chars source) n
+      → clusterSays r ≡ says none (length (encodeAll (take n (chars source))))
