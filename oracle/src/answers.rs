@@ -1,0 +1,74 @@
+//! What the two builds of koto's code are asked and answer, in plain numbers and under document 01's names.
+
+/// kind, detail, byte start, byte end, start line, start column, end line, end column, indent
+pub type Record = [u32; 9];
+
+#[derive(Clone, Copy, PartialEq)]
+pub enum Status {
+    End,
+    Stuck,
+    Refused(u32),
+}
+
+#[derive(PartialEq)]
+pub struct Scan {
+    pub status: Status,
+    pub records: Vec<Record>,
+    /// The current byte, or the place of the refusal
+    pub place: usize,
+}
+
+#[derive(Clone, Copy)]
+pub enum Call {
+    Next,
+    Peek(usize),
+}
+
+pub enum Shown {
+    Record(Record),
+    Nothing,
+    Refused(u32),
+}
+
+#[derive(PartialEq)]
+pub struct Options {
+    pub alignment: u32,
+    pub width: Option<u32>,
+    pub precision: Option<u32>,
+    pub representation: Option<u32>,
+    pub fill: Option<Fill>,
+}
+
+/// The fill as a place and a length in the format string, and its index in the pool
+#[derive(PartialEq)]
+pub struct Fill {
+    pub place: usize,
+    pub length: usize,
+    pub index: u32,
+}
+
+/// A pool before a parse: its strings, and the room of its rows
+pub struct Pool {
+    pub strings: Vec<String>,
+    pub entries: usize,
+    pub bytes: usize,
+}
+
+#[derive(PartialEq)]
+pub struct Parse {
+    /// The options, or the refusal's number and value
+    pub answer: Result<Options, (u32, u64)>,
+    /// The strings of the pool afterwards
+    pub strings: Vec<String>,
+}
+
+/// One build of koto's code. The texts are those that refusals 1 to 3 let pass.
+pub struct Judge {
+    pub scan: fn(&str, usize) -> Scan,
+    pub walk: fn(&str, &[Call]) -> (Vec<Shown>, usize),
+    pub parse: fn(&str, &Pool) -> Parse,
+    /// The byte length of the first cluster, 0 for an empty text
+    pub first_cluster: fn(&str) -> usize,
+    /// The byte lengths of all clusters
+    pub clusters: fn(&str) -> Vec<usize>,
+}
