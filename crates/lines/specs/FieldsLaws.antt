@@ -1,0 +1,28 @@
+-- What a program's loop over the lines asks of `Fields`.
+--     past-less    past a mark less of the text is left, so the loop ends
+-- Assumes nothing.
+use Prim.Native.Nat.{ℕ, suc, _+_, _-_, _<_, _≤_}
+use mathlib.Core.Path.{_≡_}
+use mathlib.Core.List.{List, [], _∷_}
+use native.Mathlib.Omega.{arith}
+use lib.ListN.{length, drop, getD}
+use lib.Seq.{drop-cons}
+use Rattle.base.specs.PickLaws.{by-eq}
+use Rattle.lines.specs.Fields.{pastFrom}
+
+-- what is past a mark is not before the place where the search began
+not-before : (mark at : ℕ) (s : List ℕ) → at ≤ pastFrom mark at s
+unfolding pastFrom
+not-before mark at [] = omega arith
+not-before mark at (b ∷ rest) =
+    by-eq (λ (k : ℕ). at ≤ k) b mark (λ _. omega arith) (λ _. omega (arith, not-before mark (at + 1) rest))
+
+-- where there is a byte it is further on
+further : (mark at : ℕ) (s : List ℕ) → at < length s → at < pastFrom mark at (drop at s)
+unfolding pastFrom
+further mark at s h =
+    rw (drop-cons s at 0)
+    (by-eq (λ (k : ℕ). at < k) (getD s at 0) mark (λ _. omega arith) (λ _. omega (arith, not-before mark (at + 1) (drop (suc at) s))))
+
+pub past-less : (mark at : ℕ) (s : List ℕ) (r : ℕ) → r ≡ pastFrom mark at (drop at s) → at < length s → length s - r < length s - at
+past-less mark at s r e h = omega (arith, further mark at s h)

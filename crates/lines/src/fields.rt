@@ -1,0 +1,107 @@
+// The fields of a line.
+ghost use mathlib.Core.Path.{_≡_};
+ghost use Prim.Native.Nat.{_+_, _<_};
+ghost use lib.ListN.{length, drop};
+ghost use Rattle.io.specs.Counts.{Counts};
+ghost use Rattle.lines.specs.Fields.{pastFrom, digitOf, DigitIs, numberFrom, pairAt, HexIs};
+
+// The place after the first `mark` from `at` on: with a space the next field, with a newline the next line. Where there is none it is the end
+// of the text, or `at` where that is past the end.
+pub fn past(text: &[u8], at: usize, mark: u8) -> usize
+    ensures { λ r. ⌜ r ≡ pastFrom mark at (drop at (now (text .entry))) ⌝ }
+{
+    let mut i = at;
+    while i < text.len() {
+        if text[i] == mark {
+            return i + 1;
+        }
+        i += 1;
+    }
+    i
+}
+
+// What a digit says, "0" to "9" or "a" to "f"; 16 for any other byte.
+fn digit_of(b: u8) -> u8
+    ensures { λ r. ⌜ r ≡ digitOf b ⌝ }
+{
+    if b < 48 {
+        return 16;
+    }
+    if b <= 57 {
+        return b - 48;
+    }
+    if b < 97 {
+        return 16;
+    }
+    if b <= 102 {
+        return b - 87;
+    }
+    16
+}
+
+// What the digit at a place says; 16 where there is none.
+fn digit_at(text: &[u8], at: usize) -> u8
+    ensures { λ r. ⌜ DigitIs (now (text .entry)) at r ⌝ }
+{
+    if text.len() <= at {
+        return 16;
+    }
+    digit_of(text[at])
+}
+
+// The decimal number at a place, up to the first byte that is no digit; 0 where no digit is there.
+pub fn number(text: &[u8], at: usize) -> usize
+    ensures { λ r. ⌜ r ≡ numberFrom 0 (drop at (now (text .entry))) ⌝ }
+{
+    let mut value: usize = 0;
+    let mut i = at;
+    while i < text.len() {
+        let digit = digit_at(text, i);
+        if 10 <= digit {
+            return value;
+        }
+        // A number so large takes no further digit.
+        if 1_000_000_000_000_000_000 <= value {
+            return value;
+        }
+        value = 10 * value + (digit as usize);
+        i += 1;
+    }
+    value
+}
+
+// The byte that the two hex digits at a place say; 256 where there are no two.
+fn pair_at(text: &[u8], at: usize) -> u16
+    ensures { λ r. ⌜ r ≡ pairAt (now (text .entry)) at ⌝ }
+    ensures { λ r. ⌜ (r < 256 → at + 1 < length (now (text .entry))) ⌝ }
+{
+    let high = digit_at(text, at);
+    if 16 <= high {
+        return 256;
+    }
+    let low = digit_at(text, at + 1);
+    if 16 <= low {
+        return 256;
+    }
+    16 * (high as u16) + (low as u16)
+}
+
+// Puts the bytes that the hex digits at a place say at the start of out, and answers how many there are. It stops at the first byte that
+// is no digit, as the "-" that stands for no bytes, or when out is full; the rest of out stays.
+pub fn hex(text: &[u8], at: usize, out: &mut [u8]) -> usize
+    ensures { λ r. ⌜ Counts r (now (out .exit)) ⌝ }
+    ensures { λ r. ⌜ HexIs (now (text .entry)) at (now (out .entry)) (now (out .exit)) r ⌝ }
+{
+    let mut n = 0;
+    let mut i = at;
+    while n < out.len() {
+        let byte = pair_at(text, i);
+        if 256 <= byte {
+            return n;
+        }
+        out[n] = byte as u8;
+        n += 1;
+        i += 2;
+    }
+    n
+}

@@ -1,0 +1,32 @@
+// A data file, whole. No contract can say what stands in a file.
+use libc::STDOUT_FILENO;
+ghost use mathlib.Core.Path.{_≡_};
+ghost use lib.ListN.{length};
+ghost use Rattle.io.specs.Counts.{Counts};
+
+// Zeros, of which there are more than any data file has bytes.
+pub fn text_buffer() -> [u8; 524288]
+    ensures { λ r. ⌜ 524288 ≡ length r ⌝ }
+{
+    [0; 524288]
+}
+
+// Reads the file of that name into the start of text, and answers how many bytes it has; 0 where it can't be read or leaves no byte of text
+// free, which is said.
+pub fn read_file(name: &[u8], text: &mut [u8]) -> usize
+    ensures { λ r. ⌜ Counts r (now (text .exit)) ⌝ }
+{
+    let file = os::open_read(name);
+    if file < 0 {
+        os::fail(name);
+        return 0;
+    }
+    let n = io::read_full(file, text);
+    libc::close(file);
+    if n == text.len() {
+        io::write_all(STDOUT_FILENO, name);
+        io::write_all(STDOUT_FILENO, b": does not fit\n");
+        return 0;
+    }
+    n
+}

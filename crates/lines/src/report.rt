@@ -1,0 +1,70 @@
+// What a replay program says of a file: each of the first ten cases that differ, by its line, and how many cases there were and agreed.
+use libc::STDOUT_FILENO;
+ghost use mathlib.Core.Path.{_≡_};
+ghost use Rattle.lines.specs.Tallies.{noCases, counted, casesOf};
+
+// The cases of a file so far, one a line.
+pub struct Tally {
+    pub agreed: u64,
+    pub differ: u64,
+}
+
+impl Tally {
+    pub fn new() -> Tally
+        ensures { λ r. ⌜ r ≡ noCases ⌝ }
+    {
+        Tally {
+            agreed: 0,
+            differ: 0,
+        }
+    }
+
+    // How many cases there were.
+    pub fn cases(self) -> u64
+        ensures { λ r. ⌜ r ≡ casesOf self ⌝ }
+    {
+        std::num::wrapping_add_u64(self.agreed, self.differ)
+    }
+
+    // Says the line of the next case, which differs, after fewer than ten others.
+    fn print_line(self, name: &[u8]) {
+        if 10 <= self.differ {
+            return;
+        }
+        io::write_all(STDOUT_FILENO, name);
+        io::write_all(STDOUT_FILENO, b": line ");
+        io::print_decimal(STDOUT_FILENO, std::num::wrapping_add_u64(self.cases(), 1));
+        io::write_all(STDOUT_FILENO, b" differs\n");
+    }
+
+    // Counts the next case, and says its line where it differs.
+    pub fn count(self, name: &[u8], agrees: bool) -> Tally
+        ensures { λ r. ⌜ r ≡ counted self agrees ⌝ }
+    {
+        if agrees {
+            return Tally {
+                agreed: std::num::wrapping_add_u64(self.agreed, 1),
+                differ: self.differ,
+            };
+        }
+        self.print_line(name);
+        Tally {
+            agreed: self.agreed,
+            differ: std::num::wrapping_add_u64(self.differ, 1),
+        }
+    }
+
+    // Says how many cases there were and agreed, and answers how many there were.
+    pub fn print(self, name: &[u8]) -> u64
+        ensures { λ r. ⌜ r ≡ casesOf self ⌝ }
+    {
+        let cases = self.cases();
+        io::write_all(STDOUT_FILENO, name);
+        io::write_all(STDOUT_FILENO, b": ");
+        io::print_decimal(STDOUT_FILENO, cases);
+        io::write_all(STDOUT_FILENO, b" cases, ");
+        io::print_decimal(STDOUT_FILENO, self.agreed);
+        io::write_all(STDOUT_FILENO, b" agreed\n");
+        cases
+    }
+}

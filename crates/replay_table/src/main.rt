@@ -1,0 +1,170 @@
+// Replays what the oracle's own check said of table files, good and bad (data/tables.txt; tools/README.md says how it was made): what reading
+// one answers, what it leaves in the row, and what the check of its numbers answers. Then a file with one wrong line, so that a difference
+// is seen to be reported.
+use property::TableCheck;
+use property::TableFile;
+ghost use Prim.Native.Nat.{_<_};
+ghost use mathlib.Core.Path.{_≡_};
+ghost use lib.ListN.{length};
+
+// The row that each file is read into; no line has more room.
+const ROOM: usize = 8192;
+
+// What stands in the row before. It has class 15, so it is in no table that is fit.
+const PATTERN: u32 = 0xa5a5_a5f0;
+
+// What a line `HEX ROOM NUMBER PLACE COUNT` says, but for the file.
+struct Case {
+    room: usize,
+    number: usize,
+    place: usize,
+    count: usize,
+}
+
+fn case_at(text: &[u8], at: usize) -> Case {
+    let room_at = lines::past(text, at, b' ');
+    let number_at = lines::past(text, room_at, b' ');
+    let place_at = lines::past(text, number_at, b' ');
+    let count_at = lines::past(text, place_at, b' ');
+    Case {
+        room: lines::number(text, room_at),
+        number: lines::number(text, number_at),
+        place: lines::number(text, place_at),
+        count: lines::number(text, count_at),
+    }
+}
+
+fn wide(byte: u8) -> u32
+    ensures { λ r. ⌜ r < 256 ⌝ }
+{
+    byte as u32
+}
+
+// Four bytes of the file as a number, the lowest first; 0 where they are not there.
+fn word_at(file: &[u8], at: usize) -> u32 {
+    if file.len() < 4 {
+        return 0;
+    }
+    if file.len() - 4 < at {
+        return 0;
+    }
+    wide(file[at])
+        + 256 * wide(file[at + 1])
+        + 65536 * wide(file[at + 2])
+        + 16777216 * wide(file[at + 3])
+}
+
+fn fresh_row() -> [u32; ROOM]
+    ensures { λ r. ⌜ 8192 ≡ length r ⌝ }
+{
+    [PATTERN; ROOM]
+}
+
+// Puts the file's first numbers at the start of the row.
+fn fill(file: &[u8], count: usize, row: &mut [u32]) {
+    let mut i = 0;
+    while i < row.len() {
+        if count <= i {
+            return;
+        }
+        row[i] = word_at(file, 8 + 4 * i);
+        i += 1;
+    }
+}
+
+// A row with the file's first numbers, and the pattern after them.
+fn row_of(file: &[u8], count: usize) -> [u32; ROOM]
+    ensures { λ r. ⌜ 8192 ≡ length r ⌝ }
+{
+    let mut row = fresh_row();
+    fill(file, count, &mut row);
+    row
+}
+
+fn same(a: &[u32], b: &[u32]) -> bool {
+    if a.len() != b.len() {
+        return false;
+    }
+    let mut i = 0;
+    while i < a.len() {
+        if a[i] != b[i] {
+            return false;
+        }
+        i += 1;
+    }
+    true
+}
+
+fn file_agrees(case: Case, said: TableFile) -> bool {
+    match said {
+        TableFile::Read(count) => case.number == 0 && case.place == 0 && case.count == count,
+        TableFile::BadFile(place) => case.number == 14 && case.place == place && case.count == 0,
+        TableFile::ListFull => case.number == 4 && case.place == 0 && case.count == 0,
+        TableFile::BadTable(place) => case.number == 2 && case.place == place && case.count == 0,
+    }
+}
+
+// Reads the file into so much of the row, and compares the answer.
+fn read_agrees(case: Case, file: &[u8], row: &mut [u32]) -> bool {
+    let room = lines::within(case.room, row);
+    file_agrees(case, property::read_table(file, &mut row[..room]))
+}
+
+// Checks the first numbers of the row as a table, and compares the answer.
+fn check_agrees(case: Case, row: &[u32], count: usize) -> bool {
+    let n = lines::within(count, row);
+    match property::check_table(&row[..n]) {
+        TableCheck::Fit => case.number == 0,
+        TableCheck::BadTable(place) => case.number == 2 && case.place == place,
+    }
+}
+
+// The table by itself: a file that 14 or 4 refuses is not asked for one.
+fn table_agrees(case: Case, file: &[u8]) -> bool {
+    if case.number == 14 {
+        return true;
+    }
+    if case.number == 4 {
+        return true;
+    }
+    if file.len() < 8 {
+        return false;
+    }
+    let count = (file.len() - 8) / 4;
+    check_agrees(case, &row_of(file, count), count)
+}
+
+fn agrees(text: &[u8], at: usize) -> bool {
+    let mut bytes = io::large_buffer();
+    let n = lines::hex(text, at, &mut bytes);
+    let case = case_at(text, at);
+    let mut row = fresh_row();
+    if !read_agrees(case, &bytes[..n], &mut row) {
+        return false;
+    }
+    if !same(&row, &row_of(&bytes[..n], case.count)) {
+        return false;
+    }
+    table_agrees(case, &bytes[..n])
+}
+
+fn replay_lines(name: &[u8], text: &[u8]) {
+    let mut tally = lines::Tally::new();
+    let mut at = 0;
+    while at < text.len() {
+        tally = tally.count(name, agrees(text, at));
+        at = lines::past(text, at, b'\n');
+    }
+    tally.print(name);
+}
+
+fn replay(name: &[u8]) {
+    let mut text = lines::text_buffer();
+    let n = lines::read_file(name, &mut text);
+    replay_lines(name, &text[..n]);
+}
+
+fn main() {
+    replay(b"tables.txt");
+    replay(b"wrong.txt");
+}

@@ -1,0 +1,54 @@
+// Replays what Rust's `from_utf8` said of bytes, well formed, ill formed and cut (data/utf8.txt; tools/README.md says how it was made), and
+// then a file with one wrong line, so that a difference is seen to be reported.
+use utf8::Utf8Check;
+
+// What the check says, as a line has it: the answer (0 fine, 1 bad, 2 cut) and the place (0 where fine).
+struct Said {
+    answer: usize,
+    place: usize,
+}
+
+fn said_by(check: Utf8Check) -> Said {
+    match check {
+        Utf8Check::Fine => Said {
+            answer: 0,
+            place: 0,
+        },
+        Utf8Check::BadAt(place) => Said { answer: 1, place },
+        Utf8Check::CutAt(place) => Said { answer: 2, place },
+    }
+}
+
+// Whether the line `HEX ANSWER PLACE` at a place of the text has what the check says.
+fn agrees(text: &[u8], at: usize) -> bool {
+    let mut bytes = io::buffer();
+    let n = lines::hex(text, at, &mut bytes);
+    let answer_at = lines::past(text, at, b' ');
+    let place_at = lines::past(text, answer_at, b' ');
+    let said = said_by(utf8::check_utf8(&bytes[..n]));
+    if said.answer != lines::number(text, answer_at) {
+        return false;
+    }
+    said.place == lines::number(text, place_at)
+}
+
+fn replay_lines(name: &[u8], text: &[u8]) {
+    let mut tally = lines::Tally::new();
+    let mut at = 0;
+    while at < text.len() {
+        tally = tally.count(name, agrees(text, at));
+        at = lines::past(text, at, b'\n');
+    }
+    tally.print(name);
+}
+
+fn replay(name: &[u8]) {
+    let mut text = lines::text_buffer();
+    let n = lines::read_file(name, &mut text);
+    replay_lines(name, &text[..n]);
+}
+
+fn main() {
+    replay(b"utf8.txt");
+    replay(b"wrong.txt");
+}
