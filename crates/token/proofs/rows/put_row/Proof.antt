@@ -1,0 +1,127 @@
+-- `token::rows::put_row` meets its contract: eight stores in a row are `putRow`. Assumes nothing.
+use native.Mathlib.Omega.{arith}
+use native.Mathlib.Numerals.{add-one, add-two, add-three, add-four, add-five, add-six, add-seven}
+use borrow.Author.Needs.{needs}
+use lib.ListN.{length-set}
+use Rattle.token.specs.RowLaws.{put-by-stores}
+use Rattle.token.proofs.rows.put_row.Statement.{statement}
+use Rattle.token.proofs.rows.put_row.Tie as tie
+
+mul-at : tie.Need-mul-at
+mul-at c = search needs
+
+mul-list : tie.Need-mul-list
+mul-list c = search needs
+
+add-list : tie.Need-add-list
+add-list c = search needs
+
+mul-list-2 : tie.Need-mul-list-2
+mul-list-2 c = search needs
+
+slice-write-list : tie.Need-slice-write-list
+slice-write-list c = search needs
+
+add-list-2 : tie.Need-add-list-2
+add-list-2 c = search needs
+
+mul-list-3 : tie.Need-mul-list-3
+mul-list-3 c = search needs
+
+slice-write-list-2 : tie.Need-slice-write-list-2
+slice-write-list-2 c = simp length-set (omega arith)
+
+add-list-3 : tie.Need-add-list-3
+add-list-3 c = search needs
+
+mul-list-4 : tie.Need-mul-list-4
+mul-list-4 c = search needs
+
+slice-write-list-3 : tie.Need-slice-write-list-3
+slice-write-list-3 c = simp length-set (omega arith)
+
+add-list-4 : tie.Need-add-list-4
+add-list-4 c = search needs
+
+mul-list-5 : tie.Need-mul-list-5
+mul-list-5 c = search needs
+
+slice-write-list-4 : tie.Need-slice-write-list-4
+slice-write-list-4 c = simp length-set (omega arith)
+
+add-list-5 : tie.Need-add-list-5
+add-list-5 c = search needs
+
+mul-list-6 : tie.Need-mul-list-6
+mul-list-6 c = search needs
+
+slice-write-list-5 : tie.Need-slice-write-list-5
+slice-write-list-5 c = simp length-set (omega arith)
+
+add-list-6 : tie.Need-add-list-6
+add-list-6 c = search needs
+
+mul-list-7 : tie.Need-mul-list-7
+mul-list-7 c = search needs
+
+slice-write-list-6 : tie.Need-slice-write-list-6
+slice-write-list-6 c = simp length-set (omega arith)
+
+add-list-7 : tie.Need-add-list-7
+add-list-7 c = search needs
+
+mul-list-8 : tie.Need-mul-list-8
+mul-list-8 c = search needs
+
+slice-write-list-7 : tie.Need-slice-write-list-7
+slice-write-list-7 c = simp length-set (omega arith)
+
+add-list-8 : tie.Need-add-list-8
+add-list-8 c = search needs
+
+mul-list-9 : tie.Need-mul-list-9
+mul-list-9 c = search needs
+
+slice-write-list-8 : tie.Need-slice-write-list-8
+slice-write-list-8 c = simp length-set (omega arith)
+
+same-length : tie.Need-same-length
+same-length c = search needs
+
+returns : tie.Need-returns
+returns c =
+    let a = c .before .before .args in
+    rw (add-one, add-two, add-three, add-four, add-five, add-six, add-seven) (put-by-stores (a .list .now) (a .i) (a .row) (search needs))
+
+pub put-row-spec : {M : Type 1} → statement M
+put-row-spec =
+    tie.close
+    (tie.spec
+    mul-at
+    mul-list
+    add-list
+    mul-list-2
+    slice-write-list
+    add-list-2
+    mul-list-3
+    slice-write-list-2
+    add-list-3
+    mul-list-4
+    slice-write-list-3
+    add-list-4
+    mul-list-5
+    slice-write-list-4
+    add-list-5
+    mul-list-6
+    slice-write-list-5
+    add-list-6
+    mul-list-7
+    slice-write-list-6
+    add-list-7
+    mul-list-8
+    slice-write-list-7
+    add-list-8
+    mul-list-9
+    slice-write-list-8
+    same-length
+    returns)

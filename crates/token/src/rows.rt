@@ -1,0 +1,89 @@
+// Records (document 01, "Records"): eight numbers of 32 bits, one record after the other from the start of a lent list.
+//
+// The other crates know `Row`, a record with named fields; which number of the list holds what is known here alone.
+ghost use mathlib.Core.Path.{_≡_};
+ghost use Prim.Native.Nat.{_*_, _<_};
+ghost use Rattle.token.specs.Row.{room, Packs, putRow, rowFrom, shownAt};
+use crate::detail_allowed;
+use crate::kinds::KIND_MOST;
+
+// What a record tells of its token.
+pub struct Row {
+    pub kind: u32,
+    pub detail: u32,
+    // The token's bytes, from `start` to before `end`.
+    pub start: u32,
+    pub end: u32,
+    // Its span.
+    pub start_line: u32,
+    pub start_column: u32,
+    pub end_line: u32,
+    pub end_column: u32,
+    // The indent of its line.
+    pub indent: u32,
+}
+
+// What stands at an index of a list.
+pub enum RowAt {
+    Fit(Row),
+    // The kind is over 80, or the detail is none that this kind may have: no scan wrote it.
+    Unfit,
+}
+
+// How many records the list has room for.
+pub fn room(list: &[u32]) -> usize
+    ensures { λ r. ⌜ r ≡ room (now (list .entry)) ⌝ }
+{
+    list.len() / 8
+}
+
+// Writes record i. Every number of the other records stays.
+pub fn put_row(list: &mut [u32], i: usize, row: Row)
+    requires { ⌜ (i < room (now list)) × Packs row ⌝ }
+    ensures { λ _. ⌜ now (list .exit) ≡ putRow (now (list .entry)) i row ⌝ }
+{
+    let at = 8 * i;
+    list[at] = row.kind + 128 * row.detail;
+    list[at + 1] = row.start;
+    list[at + 2] = row.end;
+    list[at + 3] = row.start_line;
+    list[at + 4] = row.start_column;
+    list[at + 5] = row.end_line;
+    list[at + 6] = row.end_column;
+    list[at + 7] = row.indent;
+}
+
+// Record i as its numbers say, fit or not.
+fn read_row(list: &[u32], i: usize) -> Row
+    requires { ⌜ i < room (now list) ⌝ }
+    ensures { λ r. ⌜ r ≡ rowFrom (now (list .entry)) (8 * i) ⌝ }
+{
+    let at = 8 * i;
+    let first = list[at];
+    Row {
+        kind: first % 128,
+        detail: first / 128,
+        start: list[at + 1],
+        end: list[at + 2],
+        start_line: list[at + 3],
+        start_column: list[at + 4],
+        end_line: list[at + 5],
+        end_column: list[at + 6],
+        indent: list[at + 7],
+    }
+}
+
+// Record i, or that it is none that may be shown (refusal 9).
+pub fn row_at(list: &[u32], i: usize) -> RowAt
+    requires { ⌜ i < room (now list) ⌝ }
+    ensures { λ r. ⌜ r ≡ shownAt (now (list .entry)) i ⌝ }
+{
+    let row = read_row(list, i);
+    if KIND_MOST < row.kind {
+        return RowAt::Unfit;
+    }
+    if detail_allowed(row.kind, row.detail) {
+        return RowAt::Fit(row);
+    }
+    RowAt::Unfit
+}
