@@ -1,0 +1,29 @@
+-- `state::State::replace` meets its contract: each return is a case of `replaced`. Assumes nothing.
+use mathlib.Core.Path.{refl, sym, _∙_}
+use borrow.Author.Tests.{eq-eqb}
+use Rattle.base.specs.Cases.{cases, pick-yes}
+use borrow.Author.Needs.{needs}
+use Rattle.state.proofs.State.replace.Statement.{statement}
+use Rattle.state.proofs.State.replace.Tie as tie
+
+push-requires : tie.Need-push-requires
+push-requires c κs = search needs
+
+returns : tie.Need-returns
+returns c = c .push .ensures ∙ sym (pick-yes _ _ _ _ (eq-eqb _ _ (c .before .if1 .taken)) refl)
+
+sub-modes : tie.Need-sub-modes
+sub-modes c = search needs
+
+mul-modes : tie.Need-mul-modes
+mul-modes c = search needs
+
+element-write-modes : tie.Need-element-write-modes
+element-write-modes c = search needs
+
+returns-2 : tie.Need-returns-2
+returns-2 c = sym (search cases)
+
+pub replace-spec : {M : Type 1} → statement M
+replace-spec =
+    tie.close (tie.spec push-requires returns sub-modes mul-modes element-write-modes returns-2)

@@ -1,0 +1,281 @@
+// The lexer's state (lexer.rs `TokenLexer` and `StringMode`), by value, in two structs that travel together: the stack of modes with its
+// array, and the rest with copies of the stack's depth and top. Every method takes the state and hands the next one back. It knows no
+// source and no list.
+ghost use mathlib.Core.Path.{_≡_};
+ghost use Prim.Native.Nat.{_≤_, _<_};
+ghost use Rattle.base.specs.Refusal.{sourceMost};
+ghost use Rattle.position.specs.Position.{columnMost};
+ghost use Rattle.state.specs.Modes.{quoteOf, hashCountOf};
+ghost use Rattle.state.specs.Lexer.{startLexer, atPlace, advancedLine, advancedTo, reachOf, settled, indented, remembered, tokenTo, tokenOf, stuckAt};
+ghost use Rattle.state.specs.State.{startState, pushed, popped, replaced, changedBy, Fits};
+use position::Place;
+use position::Reach;
+use token::Token;
+use token::kinds;
+use token::token_of;
+
+// The tags of the modes. A mode is a code: its tag times 512, and its delimiter, which is twice the hash count and 1 more for a single
+// quote. The code 0 is no mode.
+pub const LITERAL: u16 = 1;
+
+pub const TEMPLATE_EXPR: u16 = 2;
+
+pub const TEMPLATE_EXPR_INLINE_MAP: u16 = 3;
+
+pub const TEMPLATE_EXPR_FORMAT: u16 = 4;
+
+pub const RAW_START: u16 = 5;
+
+pub const RAW_END: u16 = 6;
+
+// A delimiter's quote, lexer.rs `StringQuote::as_char`.
+pub fn quote_of(delimiter: u16) -> u32
+    ensures { λ r. ⌜ r ≡ quoteOf delimiter ⌝ }
+{
+    if delimiter % 2 == 0 {
+        return 34;
+    }
+    39
+}
+
+pub fn hash_count_of(delimiter: u16) -> usize
+    ensures { λ r. ⌜ r ≡ hashCountOf delimiter ⌝ }
+{
+    (delimiter / 2) as usize
+}
+
+// lexer.rs `string_mode_stack`.
+pub struct Modes {
+    pub codes: [u16; 64],
+    pub depth: usize,
+}
+
+// What the read step takes and hands back: all of the state but the stack, with copies of its depth and of the code on top.
+pub struct Lexer {
+    pub place: Place,
+    pub indent: u32,
+    pub previous_token: u8,
+    pub depth: usize,
+    pub mode: u16,
+}
+
+// The state as a whole.
+pub struct State {
+    pub lexer: Lexer,
+    pub modes: Modes,
+}
+
+// What becomes of the modes.
+pub enum Change {
+    Keep,
+    Push(u16),
+    Pop,
+    // RawStart by RawEnd, which is no push: it is possible at depth 64 too.
+    Replace(u16),
+}
+
+// What a `consume_*` makes: the token, the lexer after it, and what becomes of the modes.
+pub struct Taken {
+    pub token: Token,
+    pub lexer: Lexer,
+    pub change: Change,
+}
+
+impl Lexer {
+    pub fn new() -> Lexer
+        ensures { λ r. ⌜ r ≡ startLexer ⌝ }
+    {
+        Lexer {
+            place: Place::new(),
+            indent: 0,
+            previous_token: kinds::NO_TOKEN,
+            depth: 0,
+            mode: 0,
+        }
+    }
+
+    fn at_place(self, place: Place) -> Lexer
+        ensures { λ r. ⌜ r ≡ atPlace place self ⌝ }
+    {
+        Lexer {
+            place,
+            indent: self.indent,
+            previous_token: self.previous_token,
+            depth: self.depth,
+            mode: self.mode,
+        }
+    }
+
+    // Where the next token begins.
+    pub fn reach(self) -> Reach
+        ensures { λ r. ⌜ r ≡ reachOf self ⌝ }
+    {
+        let place = self.place;
+        place.reach()
+    }
+
+    pub fn advance_line(self, char_bytes: usize) -> Lexer
+        requires { ⌜ (reachOf self .byte .0 ≤ sourceMost) × («char_bytes» ≤ sourceMost) ⌝ }
+        requires { ⌜ reachOf self .position .column .0 ≤ columnMost ⌝ }
+        ensures { λ r. ⌜ r ≡ advancedLine «char_bytes» self ⌝ }
+    {
+        let place = self.place;
+        self.at_place(place.advance_line(char_bytes))
+    }
+
+    pub fn advance_to_position(self, end: Reach) -> Lexer
+        ensures { λ r. ⌜ r ≡ advancedTo end self ⌝ }
+    {
+        let place = self.place;
+        self.at_place(place.advance_to_position(end))
+    }
+
+    // The indent is 0 again where a token is read after NewLine.
+    pub fn settle(mut self) -> Lexer
+        ensures { λ r. ⌜ r ≡ settled self ⌝ }
+    {
+        let previous_token = self.previous_token;
+        if previous_token == kinds::NEW_LINE {
+            self.indent = 0;
+            return self;
+        }
+        self
+    }
+
+    // Whitespace at the start and after NewLine is the indent.
+    pub fn indent_by(mut self, count: u32) -> Lexer
+        ensures { λ r. ⌜ r ≡ indented count self ⌝ }
+    {
+        let previous_token = self.previous_token;
+        if previous_token == kinds::NEW_LINE {
+            self.indent = count;
+            return self;
+        }
+        if previous_token == kinds::NO_TOKEN {
+            self.indent = count;
+            return self;
+        }
+        self
+    }
+
+    pub fn remember(mut self, kind: u8) -> Lexer
+        ensures { λ r. ⌜ r ≡ remembered kind self ⌝ }
+    {
+        self.previous_token = kind;
+        self
+    }
+
+    // The token of so many ASCII bytes.
+    pub fn token(self, kind: u8, char_bytes: usize) -> Taken
+        requires { ⌜ (reachOf self .byte .0 ≤ sourceMost) × («char_bytes» ≤ sourceMost) ⌝ }
+        requires { ⌜ reachOf self .position .column .0 ≤ columnMost ⌝ }
+        ensures { λ r. ⌜ r ≡ tokenOf kind «char_bytes» self ⌝ }
+    {
+        Taken {
+            token: token_of(kind),
+            lexer: self.advance_line(char_bytes),
+            change: Change::Keep,
+        }
+    }
+
+    // The token that reaches so far.
+    pub fn token_to(self, kind: u8, end: Reach) -> Taken
+        ensures { λ r. ⌜ r ≡ tokenTo kind end self ⌝ }
+    {
+        Taken {
+            token: token_of(kind),
+            lexer: self.advance_to_position(end),
+            change: Change::Keep,
+        }
+    }
+
+    // The Error that stands still.
+    pub fn stuck(self) -> Taken
+        ensures { λ r. ⌜ r ≡ stuckAt self ⌝ }
+    {
+        Taken {
+            token: token_of(kinds::ERROR),
+            lexer: self,
+            change: Change::Keep,
+        }
+    }
+}
+
+impl State {
+    pub fn new() -> State
+        ensures { λ r. ⌜ r ≡ startState ⌝ }
+    {
+        State {
+            lexer: Lexer::new(),
+            modes: Modes {
+                codes: [0u16; 64],
+                depth: 0,
+            },
+        }
+    }
+
+    // lexer.rs `string_mode_stack.push(..)`
+    pub fn push(self, code: u16) -> State
+        requires { ⌜ self .modes .depth < 64 ⌝ }
+        ensures { λ r. ⌜ r ≡ pushed code self ⌝ }
+    {
+        let mut lexer = self.lexer;
+        let mut modes = self.modes;
+        let depth = modes.depth;
+        modes.codes[depth] = code;
+        modes.depth = depth + 1;
+        lexer.depth = depth + 1;
+        lexer.mode = code;
+        State { lexer, modes }
+    }
+
+    // lexer.rs `string_mode_stack.pop()`
+    pub fn pop(self) -> State
+        requires { ⌜ self .modes .depth ≤ 64 ⌝ }
+        ensures { λ r. ⌜ r ≡ popped self ⌝ }
+    {
+        let mut lexer = self.lexer;
+        let mut modes = self.modes;
+        let depth = modes.depth;
+        if depth < 2 {
+            modes.depth = 0;
+            lexer.depth = 0;
+            lexer.mode = 0;
+            return State { lexer, modes };
+        }
+        modes.depth = depth - 1;
+        lexer.depth = depth - 1;
+        lexer.mode = modes.codes[depth - 2];
+        State { lexer, modes }
+    }
+
+    // A pop and a push at once.
+    pub fn replace(self, code: u16) -> State
+        requires { ⌜ self .modes .depth ≤ 64 ⌝ }
+        ensures { λ r. ⌜ r ≡ replaced code self ⌝ }
+    {
+        let mut lexer = self.lexer;
+        let mut modes = self.modes;
+        let depth = modes.depth;
+        if depth == 0 {
+            return self.push(code);
+        }
+        modes.codes[depth - 1] = code;
+        lexer.depth = depth;
+        lexer.mode = code;
+        State { lexer, modes }
+    }
+
+    // The modes are changed as a token asked for.
+    pub fn apply(self, change: Change) -> State
+        requires { ⌜ Fits change self ⌝ }
+        ensures { λ r. ⌜ r ≡ changedBy change self ⌝ }
+    {
+        match change {
+            Change::Keep => self,
+            Change::Push(code) => self.push(code),
+            Change::Pop => self.pop(),
+            Change::Replace(code) => self.replace(code),
+        }
+    }
+}

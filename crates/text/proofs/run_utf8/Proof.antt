@@ -1,0 +1,88 @@
+-- `text::run_utf8` meets its contract. The loop's invariant is `Running`: the run from here on reaches as far as the run from the start.
+-- Assumes nothing.
+use borrow.Author.Needs.{needs}
+use borrow.Author.Tests.{not-true, not-false}
+use Prim.Native.Nat.{ℕ, _-_}
+use mathlib.Core.Path.{_≡_, sym, ap, _∙_}
+use lib.ListN.{length}
+use Rattle.position.specs.Place.{alongBy}
+use Rattle.property.specs.Parts.{widthOf}
+use Rattle.text.specs.Tests.{testUtf8}
+use Rattle.text.specs.CountLaws.{width-most}
+use Rattle.text.proofs.Runs.{Running, running, runs-well, runs-fit, runs-on, runs-fall, runs-stop, runs-end}
+use Rattle.text.proofs.run_utf8.Statement.{statement}
+use Rattle.text.proofs.run_utf8.Tie as tie
+
+abbrev Inv-loop : tie.InvT-loop
+Inv-loop source table test reach₀ i₀ reach i = Running test source table reach₀ reach i
+
+abbrev μ-loop : tie.MeasureT-loop
+μ-loop source table test reach₀ i₀ reach i = length source - i
+
+loop-holds : tie.Need-loop-holds Inv-loop μ-loop
+loop-holds c = running _ _ _ _ (c .before .before .pre .0)
+
+char-at-requires : tie.Need-char-at-requires Inv-loop μ-loop
+char-at-requires c κs =
+    let l = c .before in
+    ((runs-well _ _ _ (l .loop .inv), c .loop-test .taken), l .before .before .before .pre .1)
+
+passes-utf8-requires : tie.Need-passes-utf8-requires Inv-loop μ-loop
+passes-utf8-requires c κs = search needs
+
+returns : tie.Need-returns Inv-loop μ-loop
+returns c =
+    let d = c .before .before in
+    runs-stop _ _ _ (d .before .before .loop .inv) _ (d .char-at .ensures)
+    (ap (testUtf8 _ _) (sym (d .char-at .ensures .properties)) ∙ sym (c .before .passes-utf8 .ensures) ∙ not-true _ (c .if1 .taken))
+
+width-of-requires : tie.Need-width-of-requires Inv-loop μ-loop
+width-of-requires c κs = search needs
+
+along-requires : tie.Need-along-requires Inv-loop μ-loop
+along-requires c κs =
+    let d = c .before .before .before in
+    runs-fit _ _ _ (d .before .before .loop .inv) _ (d .char-at .ensures) _ (rw (c .width-of .ensures) (width-most _))
+
+-- the reach after a turn
+after : (c : tie.After-along Inv-loop μ-loop)
+    → c .along .result
+    ≡ alongBy (c .before .before .before .before .char-at .result .len) (widthOf (c .before .before .before .before .char-at .result .properties))
+    (c .before .before .before .before .before .before .loop .reach)
+after c =
+    let d = c .before .before .before .before in
+    c .along .ensures
+    ∙ ap (λ (w : ℕ). alongBy (d .char-at .result .len) w (d .before .before .loop .reach)) (c .before .width-of .ensures)
+
+loop-less : tie.Need-loop-less Inv-loop μ-loop
+loop-less c =
+    let d = c .before .before .before .before in
+    runs-fall _ _ _ (d .before .before .loop .inv) _ (d .char-at .ensures) _ (after c)
+
+loop-again : tie.Need-loop-again Inv-loop μ-loop
+loop-again c =
+    let d = c .before .before .before .before in
+    runs-on _ _ _ (d .before .before .loop .inv) _ (d .char-at .ensures)
+    (ap (testUtf8 _ _) (sym (d .char-at .ensures .properties))
+    ∙ sym (c .before .before .before .passes-utf8 .ensures)
+    ∙ not-false _ (c .before .before .if1 .left))
+    _ (after c)
+
+returns-2 : tie.Need-returns-2 Inv-loop μ-loop
+returns-2 c = runs-end _ _ _ (c .before .loop .inv) (c .loop-test .left)
+
+pub run-utf8-spec : {M : Type 1} → statement M
+run-utf8-spec =
+    tie.close
+    (tie.spec
+    Inv-loop
+    μ-loop
+    loop-holds
+    char-at-requires
+    passes-utf8-requires
+    returns
+    width-of-requires
+    along-requires
+    loop-less
+    loop-again
+    returns-2)

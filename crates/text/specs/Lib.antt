@@ -1,0 +1,9 @@
+pub mod Bytes
+pub mod Tests
+pub mod Ascii
+pub mod Count
+pub mod Follow
+pub mod Stands
+pub mod Chars
+pub mod FollowLaws
+pub mod CountLaws

@@ -1,0 +1,129 @@
+-- lexer.rs, the predicates on characters, of a code point. The code has no closures, so `testOf` numbers the predicates that
+-- `consume_and_count` is called with, and `testUtf8Of` those of `consume_and_count_utf8`.
+-- Assumes nothing.
+use Prim.Native.Nat.{ℕ}
+use mathlib.Core.Bool.{Bool, false, not, _||_}
+use lib.Dec.{ltb, leb, eqb}
+use Rattle.base.specs.Pick.{pick}
+use Rattle.property.specs.Parts.{xidContinue}
+
+-- ---- the characters that are named here
+
+abbrev pub tab : ℕ
+tab = 9
+
+abbrev pub lf : ℕ
+lf = 10
+
+abbrev pub cr : ℕ
+cr = 13
+
+abbrev pub space : ℕ
+space = 32
+
+abbrev pub doubleQuote : ℕ
+doubleQuote = 34
+
+abbrev pub hash : ℕ
+hash = 35
+
+abbrev pub singleQuote : ℕ
+singleQuote = 39
+
+abbrev pub plus : ℕ
+plus = 43
+
+abbrev pub minus : ℕ
+minus = 45
+
+abbrev pub dot : ℕ
+dot = 46
+
+abbrev pub zeroDigit : ℕ
+zeroDigit = 48
+
+abbrev pub less : ℕ
+less = 60
+
+abbrev pub greater : ℕ
+greater = 62
+
+abbrev pub backslash : ℕ
+backslash = 92
+
+abbrev pub caret : ℕ
+caret = 94
+
+abbrev pub underscore : ℕ
+underscore = 95
+
+abbrev pub letterB : ℕ
+letterB = 98
+
+abbrev pub letterE : ℕ
+letterE = 101
+
+abbrev pub letterO : ℕ
+letterO = 111
+
+abbrev pub letterU : ℕ
+letterU = 117
+
+abbrev pub letterX : ℕ
+letterX = 120
+
+abbrev pub curlyOpen : ℕ
+curlyOpen = 123
+
+abbrev pub curlyClose : ℕ
+curlyClose = 125
+
+-- ---- the predicates
+
+-- lo ≤ c ≤ hi
+unfoldable pub inRange : ℕ → ℕ → ℕ → Bool
+inRange c lo hi = pick (ltb c lo) false (leb c hi)
+
+-- `is_whitespace`
+unfoldable pub isWhitespace : ℕ → Bool
+isWhitespace c = eqb c space || eqb c tab
+
+-- `is_ascii_digit`
+abbrev pub isDigit : ℕ → Bool
+isDigit c = inRange c 48 57
+
+-- `is_binary_digit`
+unfoldable pub isBinaryDigit : ℕ → Bool
+isBinaryDigit c = inRange c 48 49 || eqb c underscore
+
+-- `is_octal_digit`
+unfoldable pub isOctalDigit : ℕ → Bool
+isOctalDigit c = inRange c 48 55 || eqb c underscore
+
+-- `is_decimal_digit`
+unfoldable pub isDecimalDigit : ℕ → Bool
+isDecimalDigit c = isDigit c || eqb c underscore
+
+-- `is_hex_digit`
+unfoldable pub isHexDigit : ℕ → Bool
+isHexDigit c = isDigit c || (inRange c 97 102 || (inRange c 65 70 || eqb c underscore))
+
+-- '\r' or '\n'
+unfoldable pub isLineEnd : ℕ → Bool
+isLineEnd c = eqb c lf || eqb c cr
+
+-- the predicate of this number: whitespace, binary, octal, decimal and hex digits, and any other number the hash
+unfoldable pub testOf : ℕ → ℕ → Bool
+testOf test c =
+    pick (eqb test 0) (isWhitespace c)
+    (pick (eqb test 1) (isBinaryDigit c)
+    (pick (eqb test 2) (isOctalDigit c)
+    (pick (eqb test 3) (isDecimalDigit c)
+    (pick (eqb test 4) (isHexDigit c) (eqb c hash)))))
+
+-- 1: `is_id_continue`, which asks for the properties; any other number: no end of a line
+unfoldable pub testUtf8 : ℕ → ℕ → ℕ → Bool
+testUtf8 test c properties = pick (eqb test 1) (xidContinue properties) (not (isLineEnd c))
+
+abbrev pub testUtf8Of : (ℕ → ℕ) → ℕ → ℕ → Bool
+testUtf8Of look test c = testUtf8 test c (look c)

@@ -1,0 +1,238 @@
+// Reading along a source: the byte and the character at a place, runs of characters that pass a test, and what a loop over characters
+// does at one of them. It carries over `consume_and_count` and `consume_and_count_utf8` of lexer.rs, whose predicates are numbered
+// tests here, and the ASCII predicates beside them. It knows no tokens.
+ghost use mathlib.Core.Path.{_≡_};
+ghost use Prim.Native.Nat.{_+_, _<_};
+ghost use lib.ListN.{length, drop};
+ghost use Rattle.utf8.specs.Encode.{WellFormed};
+ghost use Rattle.utf8.specs.Chars.{chars};
+ghost use Rattle.property.specs.Table.{propertiesAt};
+ghost use Rattle.property.specs.FitLaws.{FitTable};
+ghost use Rattle.text.specs.Bytes.{byteAt};
+ghost use Rattle.text.specs.Tests.{inRange, isWhitespace, isBinaryDigit, isOctalDigit, isDecimalDigit, isHexDigit, isLineEnd, testOf, testUtf8};
+ghost use Rattle.text.specs.Ascii.{asciiProperties};
+ghost use Rattle.text.specs.Count.{countWhile, runTest};
+ghost use Rattle.text.specs.Stands.{Stands};
+ghost use Rattle.text.specs.Chars.{CharIs};
+use position::Reach;
+
+// What a loop does at a character.
+pub enum Turn {
+    // So many bytes are passed, which take so many columns.
+    Pass(usize, u32),
+    // So many bytes are passed, and a line ends with them.
+    Line(usize),
+    // The end is found: so many bytes and columns belong to the token still.
+    Close(usize, u32),
+    // An Error that passes nothing.
+    Stuck,
+}
+
+// A character: its code point, its bytes, and its properties.
+pub struct Char {
+    pub code: u32,
+    pub len: usize,
+    pub properties: u32,
+}
+
+// The predicates that `run_end` and `run_utf8` take by number.
+pub const WHITESPACE: u8 = 0;
+
+pub const BINARY_DIGIT: u8 = 1;
+
+pub const OCTAL_DIGIT: u8 = 2;
+
+pub const DECIMAL_DIGIT: u8 = 3;
+
+pub const HEX_DIGIT: u8 = 4;
+
+pub const HASH: u8 = 5;
+
+// The byte at `at`, or 256 past the end.
+pub fn byte_at(source: &[u8], at: usize) -> u32
+    ensures { λ r. ⌜ r ≡ byteAt (now (source .entry)) at ⌝ }
+{
+    if at < source.len() {
+        return source[at] as u32;
+    }
+    256
+}
+
+// lexer.rs `is_whitespace`
+fn is_whitespace(b: u8) -> bool
+    ensures { λ r. ⌜ r ≡ isWhitespace b ⌝ }
+{
+    b == b' ' || b == b'\t'
+}
+
+fn between(b: u8, lo: u8, hi: u8) -> bool
+    ensures { λ r. ⌜ r ≡ inRange b lo hi ⌝ }
+{
+    if b < lo {
+        return false;
+    }
+    b <= hi
+}
+
+// lexer.rs `is_binary_digit`. Like the three below it takes the underscore too.
+fn is_binary_digit(b: u8) -> bool
+    ensures { λ r. ⌜ r ≡ isBinaryDigit b ⌝ }
+{
+    between(b, b'0', b'1') || b == b'_'
+}
+
+// lexer.rs `is_octal_digit`
+fn is_octal_digit(b: u8) -> bool
+    ensures { λ r. ⌜ r ≡ isOctalDigit b ⌝ }
+{
+    between(b, b'0', b'7') || b == b'_'
+}
+
+// lexer.rs `is_decimal_digit`
+fn is_decimal_digit(b: u8) -> bool
+    ensures { λ r. ⌜ r ≡ isDecimalDigit b ⌝ }
+{
+    between(b, b'0', b'9') || b == b'_'
+}
+
+// lexer.rs `is_hex_digit`
+fn is_hex_digit(b: u8) -> bool
+    ensures { λ r. ⌜ r ≡ isHexDigit b ⌝ }
+{
+    between(b, b'0', b'9') || (between(b, b'a', b'f') || (between(b, b'A', b'F') || b == b'_'))
+}
+
+// The predicate of this number.
+fn passes(test: u8, b: u8) -> bool
+    ensures { λ r. ⌜ r ≡ testOf test b ⌝ }
+{
+    if test == WHITESPACE {
+        return is_whitespace(b);
+    }
+    if test == BINARY_DIGIT {
+        return is_binary_digit(b);
+    }
+    if test == OCTAL_DIGIT {
+        return is_octal_digit(b);
+    }
+    if test == DECIMAL_DIGIT {
+        return is_decimal_digit(b);
+    }
+    if test == HEX_DIGIT {
+        return is_hex_digit(b);
+    }
+    b == b'#'
+}
+
+// lexer.rs `consume_and_count`: the byte after the run of characters from `at` on that pass the test, all ASCII.
+pub fn run_end(source: &[u8], at: usize, test: u8) -> usize
+    requires { ⌜ WellFormed (drop at (now source)) ⌝ }
+    ensures { λ r. ⌜ r ≡ at + countWhile (testOf test) (chars (drop at (now (source .entry)))) ⌝ }
+{
+    let mut i = at;
+    while i < source.len() {
+        if !passes(test, source[i]) {
+            return i;
+        }
+        i += 1;
+    }
+    i
+}
+
+// The properties that every fit table gives an ASCII character: document 01, the small table.
+fn ascii_properties(b: u8) -> u32
+    ensures { λ r. ⌜ r ≡ asciiProperties b ⌝ }
+{
+    if between(b, b'a', b'z') {
+        return 7;
+    }
+    if between(b, b'A', b'Z') {
+        return 7;
+    }
+    if between(b, b'0', b'9') {
+        return 6;
+    }
+    if b == b'_' {
+        return 6;
+    }
+    if b == b'\n' {
+        return 32;
+    }
+    if b == b'\r' {
+        return 16;
+    }
+    if b < b' ' {
+        return 48;
+    }
+    if b == 0x7f {
+        return 48;
+    }
+    4
+}
+
+// The character at `at`.
+pub fn char_at(source: &[u8], table: &[u32], at: usize) -> Char
+    requires { ⌜ WellFormed (drop at (now source)) × (at < length (now source)) ⌝ }
+    requires { ⌜ FitTable (now table) ⌝ }
+    ensures { λ r. ⌜ CharIs (now (source .entry)) (now (table .entry)) at r ⌝ }
+{
+    let b = source[at];
+    if b < 0x80 {
+        return Char {
+            code: b as u32,
+            len: 1,
+            properties: ascii_properties(b),
+        };
+    }
+    let utf8::Read::Char { code, len } = utf8::read_char(source, at) else {
+        return Char {
+            code: 0,
+            len: 1,
+            properties: 0,
+        };
+    };
+    Char {
+        code,
+        len,
+        properties: property::lookup(table, code),
+    }
+}
+
+fn is_line_end(code: u32) -> bool
+    ensures { λ r. ⌜ r ≡ isLineEnd code ⌝ }
+{
+    code == 10 || code == 13
+}
+
+// The tests of `run_utf8`.
+pub const NO_LINE_END: u8 = 0;
+
+pub const ID_CONTINUE: u8 = 1;
+
+// The predicate of this number, of a character.
+fn passes_utf8(test: u8, code: u32, properties: u32) -> bool
+    ensures { λ r. ⌜ r ≡ testUtf8 test code properties ⌝ }
+{
+    if test == ID_CONTINUE {
+        return property::is_id_continue(properties);
+    }
+    !is_line_end(code)
+}
+
+// lexer.rs `consume_and_count_utf8`: how far the run of characters from `start` on that pass the test reaches.
+pub fn run_utf8(source: &[u8], table: &[u32], start: Reach, test: u8) -> Reach
+    requires { ⌜ Stands (now source) start × FitTable (now table) ⌝ }
+    ensures { λ r. ⌜ r ≡ runTest (propertiesAt (now (table .entry))) test start (chars (drop (start .byte .0) (now (source .entry)))) ⌝ }
+{
+    let mut reach = start;
+    let mut i = reach.byte.0;
+    while i < source.len() {
+        let c = char_at(source, table, i);
+        if !passes_utf8(test, c.code, c.properties) {
+            return reach;
+        }
+        reach = reach.along(c.len, property::width_of(c.properties));
+        i = reach.byte.0;
+    }
+    reach
+}
