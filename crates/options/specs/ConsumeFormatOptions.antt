@@ -1,0 +1,43 @@
+-- lexer.rs `consume_format_options`: if the first cluster is followed by a cluster that is exactly "<", "^" or ">", both are passed; the
+-- literal then ends at the next "}". No "}" is an Error that stands still. Columns count bytes.
+-- Assumes nothing.
+use Prim.Native.Nat.{ℕ, _+_, _-_}
+use mathlib.Core.Bool.{Bool, _||_}
+use mathlib.Core.List.{List, [], _∷_}
+use lib.Dec.{eqb}
+use Rattle.base.specs.Pick.{pick}
+use Rattle.token.specs.Kind.{stringLiteral}
+use Rattle.cluster.specs.First.{firstEnd, secondIs}
+use Rattle.text.specs.Tests.{less, caret, greater, curlyClose}
+use Rattle.text.specs.Count.{lenUtf8}
+use Rattle.text.specs.Follow.{dropBytes}
+use Rattle.state.specs.Lexer.{reachOf, advancedLine, plainToken, stuckAt}
+use Rattle.state.specs.declared.Change.the-variants.{Pop}
+use Rattle.state.specs.declared.Lexer.{Lexer}
+use Rattle.state.specs.declared.Taken.{Taken}
+use Rattle.options.specs.declared.Brace.{Brace}
+use Rattle.options.specs.declared.Brace.the-variants.{At, Nowhere}
+
+-- `Some("<" | "^" | ">")`, of the second cluster
+unfoldable pub isAligned : ℕ → (ℕ → ℕ) → List ℕ → Bool
+isAligned edition look cs = secondIs edition look cs less || (secondIs edition look cs caret || secondIs edition look cs greater)
+
+-- `skip_bytes`: the bytes of the fill and the alignment, if they are there
+unfoldable pub skipBytes : ℕ → (ℕ → ℕ) → List ℕ → ℕ
+skipBytes edition look cs = pick (isAligned edition look cs) (firstEnd edition look 0 cs + 1) 0
+
+-- `find('}')`: the byte of the first closing brace, where the characters begin at the byte i
+unfoldable pub findBrace : ℕ → List ℕ → Brace
+findBrace i [] = Nowhere
+findBrace i (c ∷ cs) = pick (eqb c curlyClose) (At i) (findBrace (i + lenUtf8 c) cs)
+
+-- the token up to the brace, or the Error that stands still
+abbrev pub optionsToken : Lexer → Brace → Taken
+optionsToken l (At end) =
+    record { token = plainToken stringLiteral; lexer = advancedLine (end - reachOf l .byte .0) l; change = Pop }
+optionsToken l Nowhere = stuckAt l
+
+-- cs are the characters that are left
+unfoldable pub consumeFormatOptions : ℕ → (ℕ → ℕ) → List ℕ → Lexer → Taken
+consumeFormatOptions edition look cs l =
+    optionsToken l (findBrace (reachOf l .byte .0 + skipBytes edition look cs) (dropBytes (skipBytes edition look cs) cs))

@@ -1,0 +1,11 @@
+pub mod ConsumeNewline
+pub mod PlainTurn
+pub mod ConsumeComment
+pub mod ConsumeStringLiteral
+pub mod ConsumeRawString
+pub mod Delimited
+pub mod TurnLaws
+pub mod HashLaws
+pub mod SafeLaws
+pub mod DelimitedLaws
+pub mod StandsLaws
