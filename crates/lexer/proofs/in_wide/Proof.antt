@@ -1,0 +1,48 @@
+-- `lexer::in_wide` meets its contract: the character is above ASCII, so it is a name or a symbol. Assumes nothing.
+use borrow.Author.Needs.{needs}
+use mathlib.Core.Path.{sym, ap, _∙_}
+use Rattle.property.specs.Parts.{xidStart}
+use Rattle.lexer.specs.ArmLaws.{wide, wide-name, wide-symbol}
+use Rattle.lexer.proofs.in_wide.Statement.{statement}
+use Rattle.lexer.proofs.in_wide.Tie as tie
+
+char-at-requires : tie.Need-char-at-requires
+char-at-requires c κs = search needs
+
+is-id-start-requires : tie.Need-is-id-start-requires
+is-id-start-requires c κs = search needs
+
+consume-id-or-keyword-requires : tie.Need-consume-id-or-keyword-requires
+consume-id-or-keyword-requires c κs = search needs
+
+returns : tie.Need-returns
+returns c =
+    let d = c .before .before .before in
+    let start = d .before .before .before in
+    let a = d .char-at .ensures in
+    wide-name _ _ _ _ _ (a .at) (wide _ _ _ _ (start .pre .0 .0 .well) (start .pre .0 .1) (start .pre .1 .1) (a .at))
+    (ap xidStart (sym (a .properties)) ∙ sym (c .before .before .is-id-start .ensures) ∙ c .before .if1 .taken)
+    (c .consume-id-or-keyword .ensures)
+
+consume-symbol-requires : tie.Need-consume-symbol-requires
+consume-symbol-requires c κs = search needs
+
+returns-2 : tie.Need-returns-2
+returns-2 c =
+    let d = c .before .before .before in
+    let start = d .before .before .before in
+    let a = d .char-at .ensures in
+    wide-symbol _ _ _ _ _ (a .at) (wide _ _ _ _ (start .pre .0 .0 .well) (start .pre .0 .1) (start .pre .1 .1) (a .at))
+    (ap xidStart (sym (a .properties)) ∙ sym (c .before .before .is-id-start .ensures) ∙ c .before .if1 .left)
+    (c .consume-symbol .ensures)
+
+pub in-wide-spec : {M : Type 1} → statement M
+in-wide-spec =
+    tie.close
+    (tie.spec
+    char-at-requires
+    is-id-start-requires
+    consume-id-or-keyword-requires
+    returns
+    consume-symbol-requires
+    returns-2)

@@ -1,0 +1,164 @@
+-- The invariant holds at the start, and a step keeps it: `start-ok`, `step-ok`.
+-- Assumes nothing.
+use Prim.Native.Nat.{ℕ, zero, suc, _+_, _*_, _-_, _≤_, _<_}
+use native.Mathlib.Omega.{arith}
+use mathlib.Core.Path.{_≡_, refl, sym, ap, subst, _∙_}
+use mathlib.Core.Bool.{Bool, true, false}
+use mathlib.Core.List.{List}
+use lib.ListN.{length, getD, drop, set}
+use lib.Seq.{getD-set-other}
+use Rattle.base.specs.PickLaws.{by-test, by-lt, by-eq, split-lt, split-eq}
+use Rattle.base.specs.Refusal.{sourceMost}
+use Rattle.position.specs.Place as place
+use Rattle.position.specs.declared.Place.{Place}
+use Rattle.utf8.specs.Encode.{WellFormed}
+use Rattle.utf8.specs.Read.{isTail}
+use Rattle.property.specs.Table.{propertiesAt}
+use Rattle.property.specs.FitLaws.{FitTable}
+use Rattle.text.specs.Stands.{Stands, charsFrom}
+use Rattle.state.specs.Modes.{rawEnd, tagOf, delimiterOf}
+use Rattle.state.specs.Lexer.{reachOf, settled, remembered}
+use Rattle.state.specs.State.{startState, changedBy, Fits}
+use Rattle.state.specs.Stack.{top, codesOf, stackOf, Agrees}
+use Rattle.state.specs.StackLaws.{start-agrees, change-agrees}
+use Rattle.state.specs.declared.Change.{Change}
+use Rattle.state.specs.declared.Change.the-variants.{Keep, Push, Pop, Replace}
+use Rattle.state.specs.declared.Lexer.{Lexer}
+use Rattle.state.specs.declared.State.{State}
+use Rattle.state.specs.declared.Taken.{Taken}
+use Rattle.strings.specs.Delimited.{Delimited}
+use Rattle.lexer.specs.GetNextToken.{takeToken, remainingAt}
+use Rattle.lexer.specs.Step.{isFull, halfOf, half, joined, step}
+use Rattle.lexer.specs.Fine.{Fine}
+use Rattle.lexer.specs.FineLaws.{Goes, take-goes}
+use Rattle.lexer.specs.Keeps.{Keeps}
+use Rattle.lexer.specs.KeepsLaws.{take-keeps}
+use Rattle.lexer.specs.ChangeLaws.{Other, Allowed, take-changes}
+use Rattle.lexer.specs.ArmLaws.{remaining-end, remaining-inside, half-none, half-some, change-fits}
+use Rattle.lexer.specs.StepLaws.{change-same}
+use Rattle.lexer.specs.Invariant.{Ok}
+use Rattle.lexer.specs.declared.Half.{Half}
+use Rattle.lexer.specs.declared.Step.{Step}
+
+-- what is fine goes by the place alone
+fine-same : (s : List ℕ) (l m : Lexer) → l .place ≡ m .place → Fine s m → Fine s l
+fine-same s l m e f =
+    record {
+      small = f .small;
+      inside = subst (λ (p : Place). place.reachOf p .byte .0 ≤ length s) (sym e) (f .inside);
+      lines = subst (λ (p : Place). place.reachOf p .position .line ≤ place.reachOf p .byte .0) (sym e) (f .lines);
+      columns = subst (λ (p : Place). place.reachOf p .position .column .0 ≤ 3 * place.reachOf p .byte .0) (sym e) (f .columns);
+      whole = subst
+          (λ (p : Place). isTail (getD s (place.reachOf p .byte .0) 0) ≡ false → WellFormed (drop (place.reachOf p .byte .0) s))
+          (sym e) (f .whole);
+    }
+
+top-code : (codes : List ℕ) (d : ℕ) → 0 < d → top (codesOf codes d) ≡ getD codes (d - 1) 0
+unfolding top codesOf
+top-code codes zero h = absurd (omega arith)
+top-code codes (suc d) h = let e : d ≡ suc d - 1 = omega arith in ap (λ (k : ℕ). getD codes k 0) e
+
+-- no RawEnd below the top
+abbrev Below : State → Type 0
+Below st = (k : ℕ) → k + 1 < st .modes .depth → tagOf (getD (st .modes .codes) k 0) ≡ rawEnd → ⊥
+
+abbrev Marked : List ℕ → State → Type 0
+Marked s st = tagOf (st .lexer .mode) ≡ rawEnd → Delimited s (delimiterOf (st .lexer .mode)) (reachOf (st .lexer) .byte .0)
+
+-- a change of the modes that is allowed where the mode on top is that of `mid`
+module _ (s : List ℕ) (mid : State) (a : Agrees mid) (b : Below mid) where
+  -- where the top is not RawEnd, no code of the stack is
+  none-at : Other (mid .lexer .mode) → (k : ℕ) → k < mid .modes .depth → tagOf (getD (mid .modes .codes) k 0) ≡ rawEnd → ⊥
+  none-at n k h e =
+      split-lt (k + 1) (mid .modes .depth) (λ m. b k m e)
+      (λ m. let q : mid .modes .depth - 1 ≡ k = omega arith in
+      n (ap tagOf (a .mode ∙ top-code (mid .modes .codes) (mid .modes .depth) (omega arith) ∙ ap (λ (j : ℕ). getD (mid .modes .codes) j 0) q) ∙ e))
+
+  abbrev Keeps-ok : State → Type 0
+  Keeps-ok st = Marked s st × Below st
+
+  pushed-ok : (m : ℕ) → ((k : ℕ) → k < mid .modes .depth → tagOf (getD (mid .modes .codes) k 0) ≡ rawEnd → ⊥)
+      → (tagOf m ≡ rawEnd → Delimited s (delimiterOf m) (reachOf (mid .lexer) .byte .0)) → Keeps-ok (changedBy (Push m) mid)
+  pushed-ok m f g = (
+    g,
+    λ k h e. f k (omega arith)
+        (ap tagOf (sym (getD-set-other (mid .modes .codes) (mid .modes .depth) k m 0 (λ q. omega arith))) ∙ e),
+  )
+
+  changed-ok : (c : Change) → Allowed s (mid .lexer .mode) (reachOf (mid .lexer) .byte .0) c → Keeps-ok (changedBy c mid)
+  changed-ok Keep n = (λ e. absurd (n e), b)
+  changed-ok (Push m) n = pushed-ok m (none-at (n .0)) (λ e. absurd (n .1 e))
+  changed-ok Pop n =
+      by-lt Keeps-ok (mid .modes .depth) 2 (λ h. (λ e. absurd (omega arith), λ k i e. absurd (omega arith)))
+      (λ h. (λ e. absurd (b (mid .modes .depth - 2) (omega arith) e), λ k i e. b k (omega arith) e))
+  changed-ok (Replace m) n =
+      by-eq Keeps-ok (mid .modes .depth) 0 (λ h. pushed-ok m (λ k i e. absurd (omega arith)) n)
+      (λ h. (
+        n,
+        λ k i e. b k i
+            (ap tagOf (sym (getD-set-other (mid .modes .codes) (mid .modes .depth - 1) k m 0 (λ q. omega arith))) ∙ e),
+      ))
+
+-- ---- a step
+
+module _ (s : List ℕ) (table : List ℕ) (edition : ℕ) (fit : FitTable table) (st : State) (ok : Ok s st) where
+  abbrev l : Lexer
+  l = st .lexer
+
+  -- a token was taken: full, or the modes are changed
+  taken-ok : (t : Taken) → Keeps (settled l) t → Goes s (settled l) t
+      → Allowed s (l .mode) (reachOf (t .lexer) .byte .0) (t .change) → Ok s (joined st (halfOf l t) .state)
+  taken-ok t k g n =
+      by-test (λ (x : Half). Ok s (joined st x .state)) (isFull (t .change) (l .depth)) (λ _. ok)
+      (λ e.
+      let mid : State = record { lexer = remembered (t .token .kind) (t .lexer); modes = st .modes } in
+      let a : Agrees mid =
+      record {
+        size = ok .agrees .size;
+        most = ok .agrees .most;
+        depth = k .depth ∙ ok .agrees .depth;
+        mode = k .mode ∙ ok .agrees .mode;
+      } in
+      let f : Fits (t .change) mid = change-fits (t .change) mid (ok .agrees .most) (ap (isFull (t .change)) (sym (ok .agrees .depth)) ∙ e) in
+      let c = changed-ok s mid a (ok .below) (t .change) (subst (λ (m : ℕ). Allowed s m (reachOf (t .lexer) .byte .0) (t .change)) (sym (k .mode)) n) in
+      let p = change-same (t .change) mid in
+      record {
+        fine = fine-same s (changedBy (t .change) mid .lexer) (t .lexer) (p .place) (g .fine);
+        agrees = change-agrees (t .change) mid a f;
+        marked = c .0;
+        below = c .1;
+      })
+
+  none-ok : {x : Half} → half (propertiesAt table) edition s l ≡ x → joined st x .state ≡ st → Ok s (step (propertiesAt table) edition s st .state)
+  unfolding step
+  none-ok e q = subst (Ok s) (sym (ap (λ (x : Half). joined st x .state) e ∙ q)) ok
+
+  some-ok : isTail (getD s (reachOf l .byte .0) 0) ≡ false → reachOf l .byte .0 < length s
+      → Ok s (step (propertiesAt table) edition s st .state)
+  unfolding step
+  some-ok e h =
+      let w = ok .fine .whole e in
+      let o : Stands s (reachOf (settled l)) =
+      record { small = ok .fine .small; inside = ok .fine .inside; well = w; lines = ok .fine .lines; columns = ok .fine .columns } in
+      subst (λ (x : Half). Ok s (joined st x .state)) (sym (half-some (propertiesAt table) edition s l e w h))
+      (taken-ok (takeToken (propertiesAt table) edition (charsFrom s (reachOf l)) (settled l))
+      (take-keeps (settled l) (propertiesAt table) edition (charsFrom s (reachOf l)))
+      (take-goes s (settled l) o h table edition fit (ok .marked)) (take-changes s (settled l) (propertiesAt table) edition o))
+
+  tail-ok : (b : Bool) → isTail (getD s (reachOf l .byte .0) 0) ≡ b → Ok s (step (propertiesAt table) edition s st .state)
+  tail-ok true e = none-ok (half-none (propertiesAt table) edition s l (remaining-inside s (reachOf l .byte .0) e)) refl
+  tail-ok false e =
+      split-lt (reachOf l .byte .0) (length s) (λ h. some-ok e h)
+      (λ h. none-ok (half-none (propertiesAt table) edition s l (remaining-end s (reachOf l .byte .0) h)) refl)
+
+  pub step-ok : Ok s (step (propertiesAt table) edition s st .state)
+  step-ok = tail-ok (isTail (getD s (reachOf l .byte .0) 0)) refl
+
+pub start-ok : (s : List ℕ) → length s ≤ sourceMost → WellFormed s → Ok s startState
+start-ok s h w =
+    record {
+      fine = record { small = h; inside = omega arith; lines = omega arith; columns = omega arith; whole = λ _. w };
+      agrees = start-agrees;
+      marked = λ e. absurd (omega arith);
+      below = λ k i e. absurd (omega arith);
+    }

@@ -1,0 +1,16 @@
+pub mod ConsumeSymbol
+pub mod GetNextToken
+pub mod Step
+pub mod Fine
+pub mod Keeps
+pub mod NextLaws
+pub mod ArmLaws
+pub mod KeepsLaws
+pub mod Mirrors
+pub mod StepLaws
+pub mod FineLaws
+pub mod Invariant
+pub mod ChangeLaws
+pub mod InvariantLaws
+pub mod FallsLaws
+pub mod MeasureLaws

@@ -1,0 +1,359 @@
+// One read step (lexer.rs `get_next_token`): from a state, the source and the table to the next state and the token. It knows no list and
+// no records.
+//
+// The source is well formed and the table fit; a caller tests both once, in front. The lexer's half of the step takes no array: it
+// answers what becomes of the modes, and only a token that changes them touches the stack.
+ghost use mathlib.Core.Path.{_≡_};
+ghost use Prim.Native.Nat.{_≤_, _<_};
+ghost use lib.ListN.{length, getD};
+ghost use Rattle.base.specs.Refusal.{sourceMost};
+ghost use Rattle.position.specs.Position.{columnMost};
+ghost use Rattle.utf8.specs.Read.{isTail};
+ghost use Rattle.property.specs.Table.{propertiesAt};
+ghost use Rattle.property.specs.FitLaws.{FitTable};
+ghost use Rattle.text.specs.Bytes.{byteAt};
+ghost use Rattle.text.specs.Stands.{Stands, charsFrom};
+ghost use Rattle.state.specs.Lexer.{reachOf};
+ghost use Rattle.state.specs.Stack.{Agrees};
+ghost use Rattle.lexer.specs.ConsumeSymbol.{symbolChange, consumeSymbol};
+ghost use Rattle.lexer.specs.GetNextToken.{oneByte, startString, takeToken};
+ghost use Rattle.lexer.specs.Step.{isFull, stoodStill, halfOf, half, step};
+ghost use Rattle.lexer.specs.Fine.{Fine, InLiteralIs, InCodeIs, Other};
+use state::Change;
+use state::Lexer;
+use state::State;
+use state::Taken;
+use text::byte_at;
+use token::Token;
+use token::kinds;
+use token::token_of;
+
+const TAB: u32 = 9;
+
+const LF: u32 = 10;
+
+const CR: u32 = 13;
+
+const SPACE: u32 = 32;
+
+const DOUBLE_QUOTE: u32 = 34;
+
+const HASH: u32 = 35;
+
+const SINGLE_QUOTE: u32 = 39;
+
+const UNDERSCORE: u32 = 95;
+
+const CURLY_OPEN: u32 = 123;
+
+// What a read step finds.
+pub enum What {
+    // A token.
+    Token(Token),
+    // An Error that stands still.
+    Stuck,
+    // A token would push a 65th mode.
+    ModesFull,
+    // Nothing is left, or the place is inside a longer character.
+    End,
+}
+
+// The answer of the lexer's half: its next, and what becomes of the modes.
+pub struct Half {
+    pub what: What,
+    pub lexer: Lexer,
+    pub change: Change,
+}
+
+// The answer of the whole step.
+pub struct Step {
+    pub what: What,
+    pub state: State,
+}
+
+// A token of one byte, with what becomes of the modes.
+fn one_byte(lexer: Lexer, token: Token, change: Change) -> Taken
+    requires { ⌜ (reachOf lexer .byte .0 ≤ sourceMost) × (reachOf lexer .position .column .0 ≤ columnMost) ⌝ }
+    ensures { λ r. ⌜ r ≡ oneByte token change lexer ⌝ }
+{
+    Taken {
+        token,
+        lexer: lexer.advance_line(1),
+        change,
+    }
+}
+
+// The start of a normal string; the delimiter is 0 for a double quote and 1 for a single one.
+fn start_string(lexer: Lexer, delimiter: u16) -> Taken
+    requires { ⌜ (reachOf lexer .byte .0 ≤ sourceMost) × (reachOf lexer .position .column .0 ≤ columnMost) ⌝ }
+    requires { ⌜ delimiter < 512 ⌝ }
+    ensures { λ r. ⌜ r ≡ startString delimiter lexer ⌝ }
+{
+    one_byte(
+        lexer,
+        Token {
+            kind: kinds::STRING_START,
+            detail: delimiter,
+        },
+        Change::Push(state::LITERAL * 512 + delimiter),
+    )
+}
+
+// What a symbol does to the modes of a template; in map mode "{" pushes nothing.
+fn symbol_change(mode: u16, kind: u8) -> Change
+    ensures { λ r. ⌜ r ≡ symbolChange mode kind ⌝ }
+{
+    if mode == state::TEMPLATE_EXPR * 512 {
+        if kind == kinds::CURLY_OPEN {
+            return Change::Push(state::TEMPLATE_EXPR_INLINE_MAP * 512);
+        }
+        if kind == kinds::COLON {
+            return Change::Push(state::TEMPLATE_EXPR_FORMAT * 512);
+        }
+        if kind == kinds::CURLY_CLOSE {
+            return Change::Pop;
+        }
+        return Change::Keep;
+    }
+    if mode == state::TEMPLATE_EXPR_INLINE_MAP * 512 {
+        if kind == kinds::CURLY_CLOSE {
+            return Change::Pop;
+        }
+        return Change::Keep;
+    }
+    Change::Keep
+}
+
+// lexer.rs `consume_symbol`; an unknown symbol is an Error of one byte.
+fn consume_symbol(source: &[u8], lexer: Lexer) -> Taken
+    requires { ⌜ Stands (now source) (reachOf lexer) × (reachOf lexer .byte .0 < length (now source)) ⌝ }
+    ensures { λ r. ⌜ r ≡ consumeSymbol (charsFrom (now (source .entry)) (reachOf lexer)) lexer ⌝ }
+{
+    let at = lexer.place.current_byte.0;
+    match words::symbols::symbol(source, at) {
+        words::symbols::SymbolAt::Is { kind, len } => Taken {
+            token: token_of(kind),
+            lexer: lexer.advance_line(len),
+            change: symbol_change(lexer.mode, kind),
+        },
+        words::symbols::SymbolAt::Nothing => lexer.token(kinds::ERROR, 1),
+    }
+}
+
+// A character above ASCII: a name, or an unknown symbol.
+fn in_wide(source: &[u8], table: &[u32], lexer: Lexer) -> Taken
+    requires { ⌜ Stands (now source) (reachOf lexer) × (reachOf lexer .byte .0 < length (now source)) ⌝ }
+    requires { ⌜ FitTable (now table) × (128 ≤ byteAt (now source) (reachOf lexer .byte .0)) ⌝ }
+    ensures { λ r. ⌜ InCodeIs (now (source .entry)) (now (table .entry)) lexer r ⌝ }
+{
+    let at = lexer.place.current_byte.0;
+    let c = text::char_at(source, table, at);
+    if property::is_id_start(c.properties) {
+        return names::consume_id_or_keyword(source, table, lexer);
+    }
+    consume_symbol(source, lexer)
+}
+
+// What follows outside a string, where the byte b is none of those that `in_code` tests: a number, a name, or a symbol.
+fn in_rest(source: &[u8], table: &[u32], lexer: Lexer, b: u32) -> Taken
+    requires { ⌜ Stands (now source) (reachOf lexer) × (reachOf lexer .byte .0 < length (now source)) ⌝ }
+    requires { ⌜ FitTable (now table) × (byteAt (now source) (reachOf lexer .byte .0) ≡ b) × Other b × (b ≡ 95 → ⊥) ⌝ }
+    ensures { λ r. ⌜ InCodeIs (now (source .entry)) (now (table .entry)) lexer r ⌝ }
+{
+    if b < 48 {
+        return consume_symbol(source, lexer);
+    }
+    if b <= 57 {
+        return names::consume_number(source, lexer);
+    }
+    if b < 65 {
+        return consume_symbol(source, lexer);
+    }
+    if b <= 90 {
+        return names::consume_id_or_keyword(source, table, lexer);
+    }
+    if b < 97 {
+        return consume_symbol(source, lexer);
+    }
+    if b <= 122 {
+        return names::consume_id_or_keyword(source, table, lexer);
+    }
+    if b < 128 {
+        return consume_symbol(source, lexer);
+    }
+    in_wide(source, table, lexer)
+}
+
+// What follows outside a string.
+fn in_code(source: &[u8], table: &[u32], lexer: Lexer) -> Taken
+    requires { ⌜ Stands (now source) (reachOf lexer) × (reachOf lexer .byte .0 < length (now source)) ⌝ }
+    requires { ⌜ FitTable (now table) ⌝ }
+    ensures { λ r. ⌜ InCodeIs (now (source .entry)) (now (table .entry)) lexer r ⌝ }
+{
+    let at = lexer.place.current_byte.0;
+    let b = byte_at(source, at);
+    if b == SPACE {
+        return names::consume_whitespace(source, lexer);
+    }
+    if b == TAB {
+        return names::consume_whitespace(source, lexer);
+    }
+    if b == LF {
+        return strings::consume_newline(source, lexer);
+    }
+    if b == CR {
+        return strings::consume_newline(source, lexer);
+    }
+    if b == HASH {
+        return strings::consume_comment(source, table, lexer);
+    }
+    if b == DOUBLE_QUOTE {
+        return start_string(lexer, 0);
+    }
+    if b == SINGLE_QUOTE {
+        return start_string(lexer, 1);
+    }
+    if b == UNDERSCORE {
+        return names::consume_ignored(source, table, lexer);
+    }
+    in_rest(source, table, lexer, b)
+}
+
+// What follows in a literal: its end, a template, or contents.
+fn in_literal(source: &[u8], table: &[u32], lexer: Lexer, quote: u32) -> Taken
+    requires { ⌜ Stands (now source) (reachOf lexer) × (reachOf lexer .byte .0 < length (now source)) ⌝ }
+    requires { ⌜ FitTable (now table) × (quote < 128) ⌝ }
+    ensures { λ r. ⌜ InLiteralIs (now (source .entry)) (now (table .entry)) quote lexer r ⌝ }
+{
+    let at = lexer.place.current_byte.0;
+    let b = byte_at(source, at);
+    if b == quote {
+        return one_byte(lexer, token_of(kinds::STRING_END), Change::Pop);
+    }
+    if b == CURLY_OPEN {
+        return one_byte(
+            lexer,
+            token_of(kinds::CURLY_OPEN),
+            Change::Push(state::TEMPLATE_EXPR * 512),
+        );
+    }
+    strings::consume_string_literal(source, table, lexer, quote)
+}
+
+// The mode on top decides.
+fn take_token(source: &[u8], table: &[u32], edition: u32, lexer: Lexer) -> Taken
+    requires { ⌜ Stands (now source) (reachOf lexer) × (reachOf lexer .byte .0 < length (now source)) ⌝ }
+    requires { ⌜ FitTable (now table) ⌝ }
+    ensures { λ r. ⌜ r ≡ takeToken (propertiesAt (now (table .entry))) edition (charsFrom (now (source .entry)) (reachOf lexer)) lexer ⌝ }
+{
+    let tag = lexer.mode / 512;
+    let delimiter = lexer.mode % 512;
+    match tag {
+        1 => in_literal(source, table, lexer, state::quote_of(delimiter)),
+        4 => options::consume_format_options(source, table, edition, lexer),
+        5 => strings::consume_raw_string_contents(source, table, lexer, delimiter),
+        6 => strings::consume_raw_string_end(lexer, delimiter),
+        _ => in_code(source, table, lexer),
+    }
+}
+
+// The change is a push, and no mode fits at this depth.
+fn is_full(change: Change, depth: usize) -> bool
+    ensures { λ r. ⌜ r ≡ isFull change depth ⌝ }
+{
+    match change {
+        Change::Keep => false,
+        Change::Push(_) => 63 < depth,
+        Change::Pop => false,
+        Change::Replace(_) => false,
+    }
+}
+
+// An Error that advanced nothing.
+fn stood_still(before: Lexer, taken: Taken) -> bool
+    ensures { λ r. ⌜ r ≡ stoodStill before taken ⌝ }
+{
+    taken.token.kind == kinds::ERROR
+        && taken.lexer.place.current_byte.0 == before.place.current_byte.0
+}
+
+// The lexer's half of the answer, from the token that was taken.
+fn half_of(before: Lexer, taken: Taken) -> Half
+    ensures { λ r. ⌜ r ≡ halfOf before taken ⌝ }
+{
+    let token = taken.token;
+    let lexer = taken.lexer;
+    let change = taken.change;
+    if is_full(change, before.depth) {
+        return Half {
+            what: What::ModesFull,
+            lexer: before,
+            change: Change::Keep,
+        };
+    }
+    if stood_still(before, taken) {
+        return Half {
+            what: What::Stuck,
+            lexer: lexer.remember(token.kind),
+            change,
+        };
+    }
+    Half {
+        what: What::Token(token),
+        lexer: lexer.remember(token.kind),
+        change,
+    }
+}
+
+// Is the byte at `at` inside a character that began before it?
+fn is_inside(source: &[u8], at: usize) -> bool
+    requires { ⌜ at < length (now source) ⌝ }
+    ensures { λ r. ⌜ r ≡ isTail (getD (now (source .entry)) at 0) ⌝ }
+{
+    let b = source[at];
+    if b < 0x80 {
+        return false;
+    }
+    b <= 0xbf
+}
+
+// The lexer's half of the read step.
+pub fn read_half(source: &[u8], table: &[u32], edition: u32, lexer: Lexer) -> Half
+    requires { ⌜ Fine (now source) lexer × FitTable (now table) ⌝ }
+    ensures { λ r. ⌜ r ≡ half (propertiesAt (now (table .entry))) edition (now (source .entry)) lexer ⌝ }
+{
+    let at = lexer.place.current_byte.0;
+    if source.len() <= at {
+        return Half {
+            what: What::End,
+            lexer,
+            change: Change::Keep,
+        };
+    }
+    if is_inside(source, at) {
+        return Half {
+            what: What::End,
+            lexer,
+            change: Change::Keep,
+        };
+    }
+    half_of(lexer, take_token(source, table, edition, lexer.settle()))
+}
+
+// The read step: from a state to the next, and what was found.
+pub fn read_token(source: &[u8], table: &[u32], edition: u32, before: State) -> Step
+    requires { ⌜ Fine (now source) (before .lexer) × FitTable (now table) × Agrees before ⌝ }
+    ensures { λ r. ⌜ r ≡ step (propertiesAt (now (table .entry))) edition (now (source .entry)) before ⌝ }
+{
+    let lexer = before.lexer;
+    let modes = before.modes;
+    let half = read_half(source, table, edition, lexer);
+    let what = half.what;
+    let change = half.change;
+    let next = half.lexer;
+    let state = State { lexer: next, modes };
+    Step {
+        what,
+        state: state.apply(change),
+    }
+}
