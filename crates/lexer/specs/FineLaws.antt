@@ -1,15 +1,15 @@
 -- A step leaves the lexer fine: `take-goes`. Each token leads to a place of the source, and not back; an unknown symbol may cut a
 -- longer character, where the scan is over.
 -- Assumes nothing.
-use Prim.Native.Nat.{ℕ, zero, suc, _+_, _*_, _≤_, _<_}
+use Prim.Native.Nat.{ℕ, zero, suc, _+_, _*_, _/_, _≤_, _<_}
 use native.Mathlib.Omega.{arith}
 use mathlib.Core.Path.{_≡_, refl, sym, ap, subst, _∙_}
 use mathlib.Core.Bool.{Bool, true, false}
 use mathlib.Core.List.{List, _++_}
 use lib.Dec.{eqb}
-use lib.ListN.{length, getD, drop, length-drop}
+use lib.ListN.{length, getD, drop, length-drop, List·getD-eq-default}
 use lib.Seq.{getD-drop}
-use borrow.Author.Tests.{eqb-true, leb-true, lt-ltb, le-ltb, le-leb}
+use borrow.Author.Tests.{eqb-true, leb-true, lt-ltb, le-ltb, le-leb, lt-leb}
 use Rattle.base.specs.PickLaws.{by-test, by-lt, split-lt}
 use Rattle.position.specs.Place.{alongBy}
 use Rattle.position.specs.declared.Reach.{Reach}
@@ -40,23 +40,56 @@ use Rattle.names.specs.PlaceLaws.{place-of, next-place}
 use Rattle.names.specs.StandsLaws.{whitespace-goes, number-goes, id-or-keyword-goes, ignored-goes}
 use Rattle.lexer.specs.ConsumeSymbol.{symbolToken}
 use Rattle.lexer.specs.GetNextToken.{nextChar, inLiteral, inCode, takeToken}
-use Rattle.lexer.specs.Fine.{Fine}
+use Rattle.lexer.specs.Fine.{Fine, Cuts}
 use Rattle.lexer.specs.NextLaws.{next-char}
 use Rattle.lexer.specs.ArmLaws.{quote-small}
 
--- the lexer after a token is fine, and not before the one it was read from
+-- the lexer after a token is fine, and not before the one it was read from; inside a character it is only where the token cut one
 pub record Goes (s : List ℕ) (l : Lexer) (t : Taken) : Type 0 where
   pub fine : Fine s (t .lexer)
   pub on : reachOf l .byte .0 ≤ reachOf (t .lexer) .byte .0
+  pub cut : isTail (getD s (reachOf (t .lexer) .byte .0) 0) ≡ true → Cuts s (reachOf l .byte .0) (t .token .kind) (reachOf (t .lexer) .byte .0)
 
 fine-of : (s : List ℕ) (l : Lexer) → Stands s (reachOf l) → Fine s l
 fine-of s l o = record { small = o .small; inside = o .inside; lines = o .lines; columns = o .columns; whole = λ _. o .well }
 
+-- the first byte of a character's encoding is inside none
+abbrev First : List ℕ → List ℕ → Type 0
+First r l = isTail (getD (l ++ r) 0 0) ≡ false
+
+first-in : (c : ℕ) (r : List ℕ) → First r (encode c)
+unfolding encode inside
+first-in c r =
+    by-lt (First r) c 0x80 (λ h. rw (lt-ltb c 0x80 h))
+    (λ h. by-lt (First r) c 0x800 (λ i. rw (le-ltb (0xc0 + c / 0x40) 0x80 (omega arith)) (lt-leb (0xc0 + c / 0x40) 0xbf (omega arith)))
+    (λ i. by-lt (First r) c 0x10000 (λ j. rw (le-ltb (0xe0 + c / 0x1000) 0x80 (omega arith)) (lt-leb (0xe0 + c / 0x1000) 0xbf (omega arith)))
+    (λ j. rw (le-ltb (0xf0 + c / 0x40000) 0x80 (omega arith)) (lt-leb (0xf0 + c / 0x40000) 0xbf (omega arith)))))
+
+-- where whole characters are left, or nothing, the place is inside none
+no-tail : (s : List ℕ) (i : ℕ) → WellFormed (drop i s) → isTail (getD s i 0) ≡ false
+unfolding inside
+no-tail s i w =
+    split-lt i (length s)
+    (λ h. let c = here s i w h in
+    let z : i + 0 ≡ i = omega arith in
+    let e : getD s i 0 ≡ getD (encode (c .code) ++ drop (i + c .len) s) 0 0 =
+    ap (λ (k : ℕ). getD s k 0) (sym z) ∙ sym (getD-drop i s 0 0) ∙ ap (λ (l : List ℕ). getD l 0 0) (c .at .bytes) in
+    ap isTail e ∙ first-in (c .code) (drop (i + c .len) s))
+    (λ h. ap isTail (List·getD-eq-default s 0 h))
+
+stands-go : {s : List ℕ} {l : Lexer} {t : Taken} → Stands s (reachOf (t .lexer)) → reachOf l .byte .0 ≤ reachOf (t .lexer) .byte .0 → Goes s l t
+stands-go {s} {l} {t} o h =
+    record {
+      fine = fine-of s (t .lexer) o;
+      on = h;
+      cut = λ e. absurd (let n = no-tail s (reachOf (t .lexer) .byte .0) (o .well) in let z : _≡_ {A = ℕ} 0 1 = cc in omega arith);
+    }
+
 steps-go : {s : List ℕ} {l : Lexer} {t : Taken} → Steps s l t → Goes s l t
-steps-go {s} {l} {t} p = record { fine = fine-of s (t .lexer) (p .stands); on = p .on }
+steps-go p = stands-go (p .stands) (p .on)
 
 goes-go : {s : List ℕ} {l : Lexer} {t : Taken} → GoesOn s (reachOf l) (reachOf (t .lexer)) → Goes s l t
-goes-go {s} {l} {t} p = record { fine = fine-of s (t .lexer) (p .stands); on = omega (arith, p .on) }
+goes-go p = stands-go (p .stands) (omega (arith, p .on))
 
 -- ---- inside a longer character
 
@@ -111,7 +144,7 @@ module _ (s : List ℕ) (l : Lexer) (o : Stands s (reachOf l)) (h : reachOf l .b
         columns = omega (arith, o .columns);
       } in
       let b : reachOf (t .lexer) .byte .0 ≡ at + n = ap (λ (r : Reach). r .byte .0) e in
-      record { fine = fine-of s (t .lexer) (subst (Stands s) (sym e) q); on = omega arith }
+      stands-go (subst (Stands s) (sym e) q) (omega arith)
 
   one : (d : ℕ) → nextChar cs ≡ d → d < 128 → PlaceIn s (at + 1)
   one d e k = next-place (place-of o) (omega (arith, next-byte d e k))
@@ -143,6 +176,18 @@ module _ (s : List ℕ) (l : Lexer) (o : Stands s (reachOf l)) (h : reachOf l .b
               (λ k. let q : first .len ≡ 1 = omega (arith, first .at .some) in subst (λ (n : ℕ). WellFormed (drop (at + n) s)) q (first .well));
         };
         on = omega arith;
+        cut = λ e. record {
+          is-error = refl;
+          one-byte = refl;
+          code = first .code;
+          len = first .len;
+          character = first .read;
+          longer = split-lt 1 (first .len) (λ k. k)
+              (λ k. absurd
+              (let q : first .len ≡ 1 = omega (arith, first .at .some) in
+              let n = no-tail s (at + 1) (subst (λ (n : ℕ). WellFormed (drop (at + n) s)) q (first .well)) in
+              let z : _≡_ {A = ℕ} 0 1 = cc in omega arith));
+        };
       }
 
   symbol-goes : (x : SymbolAt) → symbolOf (drop at s) ≡ x → Goes s l (symbolToken x l)
@@ -202,6 +247,5 @@ module _ (s : List ℕ) (l : Lexer) (o : Stands s (reachOf l)) (h : reachOf l .b
       (λ _. by-test (Goes s l) (eqb (tagOf (l .mode)) rawEnd)
       (λ e. steps-go (end-steps s l o (delimiterOf (l .mode)) (marked (eqb-true (tagOf (l .mode)) rawEnd e))))
       (λ _. by-test (Goes s l) (eqb (tagOf (l .mode)) templateExprFormat)
-      (λ _. let r = options-stands edition (propertiesAt table) s l o in
-      record { fine = fine-of s _ (r .stands); on = r .on })
+      (λ _. let r = options-stands edition (propertiesAt table) s l o in stands-go (r .stands) (r .on))
       (λ _. in-code-goes table fit))))

@@ -1,7 +1,7 @@
--- The state's invariant between two steps, stated once: the lexer is fine, the copies agree with a stack of at most 64, the end delimiter
--- stands where RawEnd is on top, and RawEnd is never below the top. And the measure that a step falls in which does not stand still.
+-- The state's invariant between two steps, stated once: the lexer is fine, what was read last is behind it, the copies agree with a stack
+-- of at most 64, the end delimiter stands where RawEnd is on top, and RawEnd is never below the top. And the measure that a step falls in which does not stand still.
 -- Assumes nothing.
-use Prim.Native.Nat.{ℕ, _+_, _*_, _-_, _<_}
+use Prim.Native.Nat.{ℕ, _+_, _*_, _-_, _≤_, _<_}
 use mathlib.Core.Path.{_≡_}
 use mathlib.Core.List.{List}
 use lib.Dec.{eqb}
@@ -16,6 +16,7 @@ use Rattle.lexer.specs.Fine.{Fine}
 
 pub record Ok (s : List ℕ) (st : State) : Type 0 where
   pub fine : Fine s (st .lexer)
+  pub behind : st .lexer .place .«previous_byte» .0 ≤ reachOf (st .lexer) .byte .0
   pub agrees : Agrees st
   pub marked : tagOf (st .lexer .mode) ≡ rawEnd → Delimited s (delimiterOf (st .lexer .mode)) (reachOf (st .lexer) .byte .0)
   pub below : (k : ℕ) → k + 1 < st .modes .depth → tagOf (getD (st .modes .codes) k 0) ≡ rawEnd → ⊥

@@ -4,12 +4,14 @@ use Prim.Native.Nat.{ℕ, zero, suc, _+_, _*_, _-_, _≤_, _<_}
 use native.Mathlib.Omega.{arith}
 use mathlib.Core.Path.{_≡_, refl, sym, ap, subst, _∙_}
 use mathlib.Core.Bool.{Bool, true, false}
+use mathlib.Core.Logic.{_⊎_, inl, inr}
 use mathlib.Core.List.{List}
 use lib.ListN.{length, getD, drop, set}
 use lib.Seq.{getD-set-other}
 use Rattle.base.specs.PickLaws.{by-test, by-lt, by-eq, split-lt, split-eq}
 use Rattle.base.specs.Refusal.{sourceMost}
 use Rattle.position.specs.Place as place
+use Rattle.position.specs.declared.ByteOffset.{ByteOffset}
 use Rattle.position.specs.declared.Place.{Place}
 use Rattle.utf8.specs.Encode.{WellFormed}
 use Rattle.utf8.specs.Read.{isTail}
@@ -31,7 +33,7 @@ use Rattle.lexer.specs.GetNextToken.{takeToken, remainingAt}
 use Rattle.lexer.specs.Step.{isFull, halfOf, half, joined, step}
 use Rattle.lexer.specs.Fine.{Fine}
 use Rattle.lexer.specs.FineLaws.{Goes, take-goes}
-use Rattle.lexer.specs.Keeps.{Keeps}
+use Rattle.lexer.specs.Keeps.{Joins, Keeps}
 use Rattle.lexer.specs.KeepsLaws.{take-keeps}
 use Rattle.lexer.specs.ChangeLaws.{Other, Allowed, take-changes}
 use Rattle.lexer.specs.ArmLaws.{remaining-end, remaining-inside, half-none, half-some, change-fits}
@@ -105,6 +107,15 @@ module _ (s : List ℕ) (table : List ℕ) (edition : ℕ) (fit : FitTable table
   abbrev l : Lexer
   l = st .lexer
 
+  -- what was read last is behind the lexer again: it begins where that before it ended, or nothing moved
+  behind-of : (t : Taken) → Keeps (settled l) t → Goes s (settled l) t → t .lexer .place .«previous_byte» .0 ≤ reachOf (t .lexer) .byte .0
+  behind-of t k g = go (k .place)
+    where
+      go : Joins (settled l) (t .lexer) ⊎ ((t .lexer .place ≡ l .place) × (t .token .kind ≡ 0))
+          → t .lexer .place .«previous_byte» .0 ≤ reachOf (t .lexer) .byte .0
+      go (inl j) = omega (arith, ap (λ (b : ByteOffset). b .0) (j .bytes), g .on)
+      go (inr e) = subst (λ (p : Place). p .«previous_byte» .0 ≤ place.reachOf p .byte .0) (sym (e .0)) (ok .behind)
+
   -- a token was taken: full, or the modes are changed
   taken-ok : (t : Taken) → Keeps (settled l) t → Goes s (settled l) t
       → Allowed s (l .mode) (reachOf (t .lexer) .byte .0) (t .change) → Ok s (joined st (halfOf l t) .state)
@@ -124,6 +135,7 @@ module _ (s : List ℕ) (table : List ℕ) (edition : ℕ) (fit : FitTable table
       let p = change-same (t .change) mid in
       record {
         fine = fine-same s (changedBy (t .change) mid .lexer) (t .lexer) (p .place) (g .fine);
+        behind = subst (λ (p : Place). p .«previous_byte» .0 ≤ place.reachOf p .byte .0) (sym (p .place)) (behind-of t k g);
         agrees = change-agrees (t .change) mid a f;
         marked = c .0;
         below = c .1;
@@ -158,6 +170,7 @@ pub start-ok : (s : List ℕ) → length s ≤ sourceMost → WellFormed s → O
 start-ok s h w =
     record {
       fine = record { small = h; inside = omega arith; lines = omega arith; columns = omega arith; whole = λ _. w };
+      behind = omega arith;
       agrees = start-agrees;
       marked = λ e. absurd (omega arith);
       below = λ k i e. absurd (omega arith);

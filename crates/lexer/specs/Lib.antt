@@ -10,7 +10,10 @@ pub mod Mirrors
 pub mod StepLaws
 pub mod FineLaws
 pub mod Invariant
+pub mod Reads
 pub mod ChangeLaws
 pub mod InvariantLaws
 pub mod FallsLaws
+pub mod CasesLaws
+pub mod ReadsLaws
 pub mod MeasureLaws

@@ -1,14 +1,12 @@
 -- Document 01, "Records": a record is eight numbers of 32 bits, of which the first holds the kind and the detail. Records stand one after
 -- the other from the start of a list. Nothing outside this crate knows a record's numbers: it knows `Row`, and these names.
 -- Assumes nothing.
-use mathlib.Core.Bool.{Bool, _&&_}
+use mathlib.Core.Bool.{Bool}
 use mathlib.Core.List.{List, [], _∷_, _++_}
 use Prim.Native.Nat.{ℕ, zero, suc, _+_, _*_, _/_, _%_, _<_}
-use lib.Dec.{leb}
 use lib.ListN.{length, getD, take, drop}
 use Rattle.base.specs.Pick.{pick}
-use Rattle.token.specs.Kind.{kindMost}
-use Rattle.token.specs.Detail.{detailAllowed}
+use Rattle.token.specs.Detail.{fits}
 use Rattle.token.specs.declared.rows.Row.{Row}
 use Rattle.token.specs.declared.rows.RowAt.{RowAt}
 use Rattle.token.specs.declared.rows.RowAt.the-variants.{Fit, Unfit}
@@ -81,6 +79,11 @@ wordsOfAll (r ∷ rows) = wordsOf r ++ wordsOfAll rows
 unfoldable pub putRows : List ℕ → List Row → List ℕ
 putRows list rows = wordsOfAll rows ++ drop (rowWords * length rows) list
 
+-- records put from record k on, one after the other
+unfoldable pub putRowsAt : List ℕ → ℕ → List Row → List ℕ
+putRowsAt list k [] = list
+putRowsAt list k (r ∷ rows) = putRowsAt (putRow list k r) (k + 1) rows
+
 -- the first so many records of a list
 unfoldable pub rowsOf : ℕ → List ℕ → List Row
 rowsOf zero list = []
@@ -90,7 +93,7 @@ rowsOf (suc n) list = rowOf list ∷ rowsOf n (drop rowWords list)
 
 -- its kind is none over 80, and its detail is one that this kind may have (else: refusal 9)
 unfoldable pub rowFits : Row → Bool
-rowFits r = leb (r .kind) kindMost && detailAllowed (r .kind) (r .detail)
+rowFits r = fits (r .kind) (r .detail)
 
 -- record i of a list, if it may be shown
 unfoldable pub shownAt : List ℕ → ℕ → RowAt

@@ -5,6 +5,7 @@
 --     put-same, put-other               record i is then the one that was put, every other is as before
 --     rows-none, rows-next              putting one record after the others, from none on
 --     rows-length, rows-rest            what putting many leaves of the list
+--     rows-one-by-one, puts-none, puts-next    putting many one by one, from the first on
 --     rows-at                           each of many is read back
 --     rows-of-length, rows-of-at        the records of a list, one by one
 --     rows-back                         those that were put
@@ -12,7 +13,7 @@
 -- Assumes nothing.
 use mathlib.Core.Path.{_≡_, refl, sym, ap, subst, _∙_}
 use mathlib.Core.Bool.{true, and-eq-true-iff}
-use mathlib.Core.List.{List, [], _∷_, _++_, append-assoc}
+use mathlib.Core.List.{List, [], _∷_, _++_, append-assoc, append-nil}
 use Prim.Native.Nat.{ℕ, zero, suc, _+_, _*_, _-_, _/_, _%_, _≤_, _<_}
 use native.Mathlib.Nat.{add-zero}
 use native.Mathlib.Omega.{arith}
@@ -24,7 +25,7 @@ use Rattle.base.specs.PickLaws.{split-lt}
 use Rattle.token.specs.Kind.{kindMost}
 use Rattle.token.specs.Detail.{detailAllowed}
 use Rattle.token.specs.DetailLaws.{allowed-most}
-use Rattle.token.specs.Row.{rowWords, kindRoom, room, wordsOf, Packs, rowFrom, rowOf, rowAt, putRow, wordsOfAll, putRows, rowsOf, rowFits, shownAt}
+use Rattle.token.specs.Row.{rowWords, kindRoom, room, wordsOf, Packs, rowFrom, rowOf, rowAt, putRow, wordsOfAll, putRows, putRowsAt, rowsOf, rowFits, shownAt}
 use Rattle.token.specs.declared.rows.Row.{Row}
 use Rattle.token.specs.declared.rows.RowAt.the-variants.{Fit}
 
@@ -138,6 +139,27 @@ module _ (l : List ℕ) (rows : List Row) where
       sym (drop-drop rowWords n (wordsOfAll rows ++ past)) ∙ ap (drop rowWords) rows-rest ∙ drop-drop rowWords n l in
       let e : rowWords * length (rows ++ (r ∷ [])) ≡ n + rowWords = omega (arith, length-append rows (r ∷ [])) in
       simp (t, d, e, words-next, append-assoc)
+
+pub puts-none : (l : List ℕ) (k : ℕ) → putRowsAt l k [] ≡ l
+unfolding putRowsAt
+puts-none l k = refl
+
+pub puts-next : (l : List ℕ) (k : ℕ) (r : Row) (rows : List Row) → putRowsAt l k (r ∷ rows) ≡ putRowsAt (putRow l k r) (k + 1) rows
+unfolding putRowsAt
+puts-next l k r rows = refl
+
+-- after those that are put already
+rows-after : (l : List ℕ) (done rows : List Row) (k : ℕ) → length done ≡ k → putRowsAt (putRows l done) k rows ≡ putRows l (done ++ rows)
+unfolding putRowsAt
+rows-after l done [] k e = ap (putRows l) (sym (append-nil done))
+rows-after l done (r ∷ rows) k e =
+    ap (λ (i : ℕ). putRowsAt (putRow (putRows l done) i r) (k + 1) rows) (sym e)
+    ∙ ap (λ (m : List ℕ). putRowsAt m (k + 1) rows) (rows-next l done r)
+    ∙ rows-after l (done ++ (r ∷ [])) rows (k + 1) (length-append done (r ∷ []) ∙ ap (λ (i : ℕ). i + 1) e)
+    ∙ ap (putRows l) (append-assoc done (r ∷ []) rows)
+
+pub rows-one-by-one : (l : List ℕ) (rows : List Row) → putRowsAt l 0 rows ≡ putRows l rows
+rows-one-by-one l rows = ap (λ (m : List ℕ). putRowsAt m 0 rows) (sym (rows-none l)) ∙ rows-after l [] rows 0 refl
 
 drop-words : (rows : List Row) (i : ℕ) → drop (rowWords * i) (wordsOfAll rows) ≡ wordsOfAll (drop i rows)
 unfolding wordsOfAll

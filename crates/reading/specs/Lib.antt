@@ -1,0 +1,4 @@
+pub mod Reading
+pub mod Scan
+pub mod ReadingLaws
+pub mod ScanLaws

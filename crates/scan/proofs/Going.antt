@@ -1,0 +1,210 @@
+-- The loop of `read_on`, on plain values: what holds at its head, and what each way out and each turn owes. What completes the list from here
+-- completes it from the start.
+-- Assumes nothing.
+use Prim.Native.Nat.{ℕ, _+_, _/_, _≤_, _<_}
+use native.Mathlib.Omega.{arith}
+use mathlib.Core.Path.{_≡_, refl, sym, ap, subst, _∙_}
+use mathlib.Core.List.{List}
+use lib.ListN.{length}
+use Rattle.base.specs.Refusal.{sourceMost}
+use Rattle.position.specs.declared.Place.{Place}
+use Rattle.property.specs.Table.{propertiesAt}
+use Rattle.property.specs.FitLaws.{FitTable}
+use Rattle.token.specs.Kind.{error}
+use Rattle.token.specs.Row.{room, Packs, putRow, rowFits}
+use Rattle.token.specs.RowLaws.{put-length, fits-packs}
+use Rattle.token.specs.declared.Token.{Token}
+use Rattle.token.specs.declared.rows.Row.{Row}
+use Rattle.state.specs.Lexer.{reachOf, plainToken}
+use Rattle.state.specs.State.{changedBy, Fits}
+use Rattle.state.specs.declared.Change.{Change}
+use Rattle.state.specs.declared.Change.the-variants.{Keep}
+use Rattle.state.specs.declared.Lexer.{Lexer}
+use Rattle.state.specs.declared.State.{State}
+use Rattle.lexer.specs.Step.{half, step}
+use Rattle.lexer.specs.Mirrors.{Same}
+use Rattle.lexer.specs.ArmLaws.{half-fits}
+use Rattle.lexer.specs.StepLaws.{change-same}
+use Rattle.lexer.specs.Invariant.{Ok, measure}
+use Rattle.lexer.specs.InvariantLaws.{step-ok}
+use Rattle.lexer.specs.MeasureLaws.{step-falls}
+use Rattle.lexer.specs.ReadsLaws.{token-reads, stuck-stays}
+use Rattle.lexer.specs.declared.Half.{Half}
+use Rattle.lexer.specs.declared.What.{What}
+use Rattle.lexer.specs.declared.What.the-variants as what
+use Rattle.reading.specs.Reading.{rowOf, ended, stuck, deep, Reading, onto, stuckReading, stopped, afterStep, readFrom}
+use Rattle.reading.specs.Scan.{whole, Fills, ReadsOn}
+use Rattle.reading.specs.ReadingLaws.{reading-step}
+use Rattle.reading.specs.ScanLaws.{fills-none, fills-full, fills-row}
+use Rattle.reading.specs.declared.Scanned.{Scanned}
+use Rattle.reading.specs.declared.Scanned.the-variants.{End, Stuck, ListFull}
+
+-- a record is made of the place and the indent alone
+row-same : (t : Token) (l m : Lexer) → Same l m → rowOf t l ≡ rowOf t m
+row-same t l m e =
+    ap (λ (p : Place). record {
+      kind = t .kind;
+      detail = t .detail;
+      start = p .«previous_byte» .0;
+      end = p .«current_byte» .0;
+      «start_line» = p .span .start .line;
+      «start_column» = p .span .start .column .0;
+      «end_line» = p .span .end .line;
+      «end_column» = p .span .end .column .0;
+      indent = l .indent;
+    }) (e .place)
+    ∙ ap (λ (n : ℕ). record {
+      kind = t .kind;
+      detail = t .detail;
+      start = m .place .«previous_byte» .0;
+      end = m .place .«current_byte» .0;
+      «start_line» = m .place .span .start .line;
+      «start_column» = m .place .span .start .column .0;
+      «end_line» = m .place .span .end .line;
+      «end_column» = m .place .span .end .column .0;
+      indent = n;
+    }) (e .indent)
+
+-- ---- an Error that stands still
+
+pub error-packs : (after : Lexer) {t : Token} {row : Row} → t ≡ plainToken error → row ≡ rowOf t after → Packs row
+error-packs after e q =
+    subst Packs (sym (q ∙ ap (λ (u : Token). rowOf u after) e)) (record { kind-fits = omega arith; detail-fits = omega arith })
+
+module _ (l : List ℕ) (k : ℕ) (after : Lexer) where
+  pub stuck-written : k < room l → {t : Token} {row : Row} {new : List ℕ} → t ≡ plainToken error → row ≡ rowOf t after → new ≡ putRow l k row
+      → Fills l k (reachOf after .byte .0) (stuckReading after) (Stuck (k + 1) (reachOf after .byte .0)) new
+  stuck-written h {t} {row} {new} e q p =
+      let last : Row = rowOf (plainToken error) after in
+      let written : new ≡ putRow l k last = p ∙ ap (putRow l k) (q ∙ ap (λ (u : Token). rowOf u after) e) in
+      fills-row l k (reachOf after .byte .0) last (stopped stuck) (Stuck (k + 1) (reachOf after .byte .0)) new h
+      (subst (λ (m : List ℕ). Fills (putRow l k last) (k + 1) (last .end) (stopped stuck) (Stuck (k + 1) (last .end)) m) (sym written)
+      (fills-none (putRow l k last) (k + 1) (last .end) stuck (omega (arith, put-length l k last h))))
+
+-- ---- the loop
+
+-- the head of the loop: the state, the count of records and the list, and what they were at the start
+pub record Going (s table : List ℕ) (edition : ℕ) (st₀ : State) (k₀ : ℕ) (l₀ : List ℕ) (st : State) (k : ℕ) (l : List ℕ) : Type 0 where
+  pub ok : Ok s st
+  pub fit : FitTable table
+  pub within : k ≤ room l
+  pub long : length l ≡ length l₀
+  pub rest : (x : Scanned) (new : List ℕ) → ReadsOn (propertiesAt table) edition s st k l x new
+      → ReadsOn (propertiesAt table) edition s st₀ k₀ l₀ x new
+
+pub begins : (s table : List ℕ) (edition : ℕ) (st : State) (k : ℕ) (l : List ℕ) → Ok s st → FitTable table → k ≤ room l
+    → Going s table edition st k l st k l
+begins s table edition st k l o f h = record { ok = o; fit = f; within = h; long = refl; rest = λ x new r. r }
+
+module _ {s table : List ℕ} {edition : ℕ} {st₀ : State} {k₀ : ℕ} {l₀ : List ℕ} {st : State} {k : ℕ} {l : List ℕ}
+    (g : Going s table edition st₀ k₀ l₀ st k l) where
+  abbrev found : Half
+  found = half (propertiesAt table) edition s (st .lexer)
+
+  abbrev next : State
+  next = step (propertiesAt table) edition s st .state
+
+  abbrev byte : ℕ
+  byte = reachOf (st .lexer) .byte .0
+
+  -- the state after the step, and the lexer's half of it
+  pub same : Same (next .lexer) (found .lexer)
+  unfolding step
+  same = change-same (found .change) (record { lexer = found .lexer; modes = st .modes })
+
+  found-is : {w : What} → found .what ≡ w → step (propertiesAt table) edition s st .what ≡ w
+  unfolding step
+  found-is e = e
+
+  -- what is left to read, by what the step found
+  left-is : (w : What) → found .what ≡ w
+      → readFrom (propertiesAt table) edition s st ≡ afterStep (readFrom (propertiesAt table) edition s) next w
+  left-is w e =
+      reading-step s table edition (g .fit) st (g .ok) ∙ ap (afterStep (readFrom (propertiesAt table) edition s) next) (found-is e)
+
+  -- a way out
+  comes : {r : Reading} {x : Scanned} {new : List ℕ} → readFrom (propertiesAt table) edition s st ≡ r → Fills l k byte r x new
+      → ReadsOn (propertiesAt table) edition s st₀ k₀ l₀ x new
+  comes {r} {x} {new} e f = g .rest x new (subst (λ (q : Reading). Fills l k byte q x new) (sym e) f)
+
+  pub at-end : found .what ≡ what.End → ReadsOn (propertiesAt table) edition s st₀ k₀ l₀ (End k byte) l
+  at-end e = comes (left-is what.End e) (fills-none l k byte ended (g .within))
+
+  pub at-modes : found .what ≡ what.ModesFull → {n : ℕ} {x : Scanned} → n ≡ room l → x ≡ whole n k byte deep
+      → ReadsOn (propertiesAt table) edition s st₀ k₀ l₀ x l
+  at-modes e {n} {x} m q =
+      comes (left-is what.ModesFull e)
+      (subst (λ (y : Scanned). Fills l k byte (stopped deep) y l) (sym (q ∙ ap (λ (i : ℕ). whole i k byte deep) m))
+      (fills-none l k byte deep (g .within)))
+
+  pub at-full : (u : Token) → found .what ≡ what.Token u → room l ≤ k → ReadsOn (propertiesAt table) edition s st₀ k₀ l₀ (ListFull k byte) l
+  at-full u e h =
+      comes (left-is (what.Token u) e) (fills-full l k byte (rowOf u (next .lexer)) (readFrom (propertiesAt table) edition s next) (omega (arith, g .within)))
+
+  pub at-stuck : found .what ≡ what.Stuck → {after : Lexer} {x : Scanned} {new : List ℕ} → after ≡ found .lexer
+      → Fills l k (reachOf after .byte .0) (stuckReading after) x new → ReadsOn (propertiesAt table) edition s st₀ k₀ l₀ x new
+  at-stuck e {after} {x} {new} q f =
+      let b : reachOf (found .lexer) .byte .0 ≡ byte =
+      ap (λ (p : Place). p .«current_byte» .0) (sym (same .place) ∙ stuck-stays s table edition (g .fit) st (g .ok) (found-is e)) in
+      let r : stuckReading (found .lexer) ≡ stuckReading (next .lexer) =
+      ap (λ (row : Row). onto row (stopped stuck)) (sym (row-same (plainToken error) (next .lexer) (found .lexer) same)) in
+      comes (left-is what.Stuck e)
+      (subst (λ (i : ℕ). Fills l k i (stuckReading (next .lexer)) x new) b
+      (subst (λ (q : Reading). Fills l k (reachOf (found .lexer) .byte .0) q x new) r
+      (subst (λ (m : Lexer). Fills l k (reachOf m .byte .0) (stuckReading m) x new) q f)))
+
+  -- the code's two ways to the state after the step
+  pub keeps-is : {h : Half} → h ≡ found → h .change ≡ Keep → record { lexer = h .lexer; modes = st .modes } ≡ next
+  unfolding step
+  keeps-is {h} e q =
+      ap (λ (x : Half). changedBy Keep (record { lexer = x .lexer; modes = st .modes })) e
+      ∙ ap (λ (c : Change). changedBy c (record { lexer = found .lexer; modes = st .modes })) (sym q ∙ ap (λ (x : Half). x .change) e)
+
+  pub changes-is : {h : Half} {x : State} → h ≡ found → x ≡ changedBy (h .change) (record { lexer = h .lexer; modes = st .modes }) → x ≡ next
+  unfolding step
+  changes-is e q = q ∙ ap (λ (x : Half). changedBy (x .change) (record { lexer = x .lexer; modes = st .modes })) e
+
+  -- there is room for the change
+  pub fits : {h : Half} → h ≡ found → Fits (h .change) (record { lexer = h .lexer; modes = st .modes })
+  fits {h} e =
+      subst (λ (x : Half). Fits (x .change) (record { lexer = x .lexer; modes = st .modes })) (sym e)
+      (half-fits (propertiesAt table) edition s (st .lexer) (record { lexer = found .lexer; modes = st .modes }) (g .ok .agrees .most)
+      (g .ok .agrees .depth))
+
+  -- the bytes of a record have 32 bits
+  pub bounds : (found .lexer .place .«previous_byte» .0 ≤ sourceMost) × (found .lexer .place .«current_byte» .0 ≤ sourceMost)
+  bounds =
+      subst (λ (p : Place). (p .«previous_byte» .0 ≤ sourceMost) × (p .«current_byte» .0 ≤ sourceMost)) (same .place)
+      (let o = step-ok s table edition (g .fit) st (g .ok) in
+      (omega (arith, o .behind, o .fine .inside, o .fine .small), omega (arith, o .fine .inside, o .fine .small)))
+
+  module _ (u : Token) (e : found .what ≡ what.Token u) where
+    pub packs : {row : Row} → row ≡ rowOf u (found .lexer) → Packs row
+    unfolding rowFits
+    packs {row} q =
+        subst Packs (sym q) (fits-packs (rowOf u (found .lexer)) (token-reads s table edition (g .fit) st (g .ok) u (found-is e) .shown))
+
+    pub falls : {x : State} → x ≡ next → measure s x < measure s st
+    falls q = subst (λ (x : State). measure s x < measure s st) (sym q) (step-falls s table edition (g .fit) st (g .ok) u (found-is e))
+
+    -- the record is written
+    again-next : k < room l → {l′ : List ℕ} {row : Row} → row ≡ rowOf u (found .lexer) → l′ ≡ putRow l k row
+        → Going s table edition st₀ k₀ l₀ next (k + 1) l′
+    again-next h {l′} {row} q p =
+        let written : l′ ≡ putRow l k (rowOf u (next .lexer)) =
+        p ∙ ap (putRow l k) (q ∙ sym (row-same u (next .lexer) (found .lexer) same)) in
+        let long : length l′ ≡ length l = ap length p ∙ put-length l k row h in
+        record {
+          ok = step-ok s table edition (g .fit) st (g .ok);
+          fit = g .fit;
+          within = omega arith;
+          long = long ∙ g .long;
+          rest = λ x new f. comes (left-is (what.Token u) e)
+              (fills-row l k byte (rowOf u (next .lexer)) (readFrom (propertiesAt table) edition s next) x new h
+              (subst (λ (m : List ℕ). ReadsOn (propertiesAt table) edition s next (k + 1) m x new) written f));
+        }
+
+    -- once more, from the state as the code has it
+    pub again : k < room l → {l′ : List ℕ} {row : Row} {x : State} → row ≡ rowOf u (found .lexer) → l′ ≡ putRow l k row → x ≡ next
+        → Going s table edition st₀ k₀ l₀ x (k + 1) l′
+    again h {l′} {row} q p y = subst (λ (x : State). Going s table edition st₀ k₀ l₀ x (k + 1) l′) (sym y) (again-next h q p)
