@@ -1,5 +1,5 @@
--- What a program's loop over the lines asks of `Fields`.
---     past-less    past a mark less of the text is left, so the loop ends
+-- Laws of `Fields`.
+--     past-less    past a mark less of the text is left
 -- Assumes nothing.
 use Prim.Native.Nat.{ℕ, suc, _+_, _-_, _<_, _≤_}
 use mathlib.Core.Path.{_≡_}

@@ -1,3 +1,4 @@
 pub mod Fields
 pub mod FieldsLaws
 pub mod Tallies
+pub mod TalliesLaws

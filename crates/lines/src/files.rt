@@ -1,11 +1,13 @@
 // A data file, whole. No contract can say what stands in a file.
 use libc::STDOUT_FILENO;
 ghost use mathlib.Core.Path.{_≡_};
-ghost use lib.ListN.{length};
+ghost use Prim.Native.Nat.{_<_};
+ghost use lib.ListN.{length, replicate};
 ghost use Rattle.io.specs.Counts.{Counts};
 
-// Zeros, of which there are more than any data file has bytes.
+// Zeros, of which there are more than any data file has bytes. The length, which follows, is what lending them as a slice asks.
 pub fn text_buffer() -> [u8; 524288]
+    ensures { λ r. ⌜ r ≡ replicate 524288 0 ⌝ }
     ensures { λ r. ⌜ 524288 ≡ length r ⌝ }
 {
     [0; 524288]
@@ -15,6 +17,8 @@ pub fn text_buffer() -> [u8; 524288]
 // free, which is said.
 pub fn read_file(name: &[u8], text: &mut [u8]) -> usize
     ensures { λ r. ⌜ Counts r (now (text .exit)) ⌝ }
+    ensures { λ r. ⌜ (0 < r → r < length (now (text .entry))) ⌝ }
+    ensures { λ _. ⌜ length (now (text .exit)) ≡ length (now (text .entry)) ⌝ }
 {
     let file = os::open_read(name);
     if file < 0 {

@@ -1,10 +1,12 @@
 // What a replay program says of a file: each of the first ten cases that differ, by its line, and how many cases there were and agreed.
+use crate::fields::past;
 use libc::STDOUT_FILENO;
 ghost use mathlib.Core.Path.{_≡_};
 ghost use Rattle.lines.specs.Tallies.{noCases, counted, casesOf};
 
-// The cases of a file so far, one a line.
+// The cases of a file so far, one a line, and where the line of the next case begins.
 pub struct Tally {
+    pub at: usize,
     pub agreed: u64,
     pub differ: u64,
 }
@@ -14,6 +16,7 @@ impl Tally {
         ensures { λ r. ⌜ r ≡ noCases ⌝ }
     {
         Tally {
+            at: 0,
             agreed: 0,
             differ: 0,
         }
@@ -37,18 +40,21 @@ impl Tally {
         io::write_all(STDOUT_FILENO, b" differs\n");
     }
 
-    // Counts the next case, and says its line where it differs.
-    pub fn count(self, name: &[u8], agrees: bool) -> Tally
-        ensures { λ r. ⌜ r ≡ counted self agrees ⌝ }
+    // Counts the next case of the text, and says its line where it differs.
+    pub fn count(self, name: &[u8], text: &[u8], agrees: bool) -> Tally
+        ensures { λ r. ⌜ r ≡ counted (now (text .entry)) self agrees ⌝ }
     {
+        let next = past(text, self.at, b'\n');
         if agrees {
             return Tally {
+                at: next,
                 agreed: std::num::wrapping_add_u64(self.agreed, 1),
                 differ: self.differ,
             };
         }
         self.print_line(name);
         Tally {
+            at: next,
             agreed: self.agreed,
             differ: std::num::wrapping_add_u64(self.differ, 1),
         }

@@ -1,10 +1,7 @@
 // Replays the read step over recorded answers of the Rust (data/steps.txt; tools/README.md says how it was made), with the full table: kind,
 // detail, range, span and indent of every token, and how the reading ends. Then a file with one wrong line, so that a difference is seen
-// to be reported. What the step requires is tested before each step.
+// to be reported. The table is fit, since it was read; what else the step requires is tested before each step.
 use lexer::What;
-use libc::STDOUT_FILENO;
-use property::TableCheck;
-use property::TableFile;
 use state::State;
 use utf8::Utf8Check;
 ghost use mathlib.Core.Path.{_≡_};
@@ -160,50 +157,45 @@ fn steps_agree(text: &[u8], status_at: usize, source: &[u8], table: &[u32]) -> b
 }
 
 // Whether the line `HEX STATUS COUNT BYTE RECORDS..` at a place of the text is what the steps say.
-fn agrees(text: &[u8], at: usize, table: &[u32]) -> bool {
+fn agrees(text: &[u8], at: usize, table: &[u32]) -> bool
+    requires { ⌜ FitTable (now table) ⌝ }
+{
     let mut bytes = io::buffer();
     let n = lines::hex(text, at, &mut bytes);
     let status_at = lines::past(text, at, b' ');
-    match property::check_table(table) {
-        TableCheck::Fit => steps_agree(text, status_at, &bytes[..n], table),
-        TableCheck::BadTable(_) => false,
-    }
+    steps_agree(text, status_at, &bytes[..n], table)
 }
 
-fn replay_lines(name: &[u8], text: &[u8], table: &[u32]) {
+fn replay_lines(name: &[u8], text: &[u8], table: &[u32])
+    requires { ⌜ FitTable (now table) ⌝ }
+{
     let mut tally = lines::Tally::new();
-    let mut at = 0;
-    while at < text.len() {
-        tally = tally.count(name, agrees(text, at, table));
-        at = lines::past(text, at, b'\n');
+    while tally.at < text.len() {
+        tally = tally.count(name, text, agrees(text, tally.at, table));
     }
     tally.print(name);
 }
 
-fn replay(name: &[u8], table: &[u32]) {
+fn replay(name: &[u8], table: &[u32])
+    requires { ⌜ FitTable (now table) ⌝ }
+{
     let mut text = lines::text_buffer();
     let n = lines::read_file(name, &mut text);
     replay_lines(name, &text[..n], table);
 }
 
-fn row_buffer() -> [u32; 8000]
-    ensures { λ r. ⌜ 8000 ≡ length r ⌝ }
+fn replay_both(table: &[u32])
+    requires { ⌜ FitTable (now table) ⌝ }
 {
-    [0; 8000]
+    replay(b"steps.txt", table);
+    replay(b"wrong.txt", table);
 }
 
 fn main() {
-    let mut file = io::large_buffer();
-    let n = lines::read_file(b"full.kpt", &mut file);
-    let mut row = row_buffer();
-    let TableFile::Read(count) = property::read_table(&file[..n], &mut row) else {
-        io::write_all(STDOUT_FILENO, b"full.kpt: refused\n");
+    let mut row = tables::row_buffer();
+    let n = tables::full_table(b"full.kpt", &mut row);
+    if n == 0 {
         return;
-    };
-    let n = lines::within(count, &row);
-    io::write_all(STDOUT_FILENO, b"full.kpt: ");
-    io::print_decimal(STDOUT_FILENO, n as u64);
-    io::write_all(STDOUT_FILENO, b" runs\n");
-    replay(b"steps.txt", &row[..n]);
-    replay(b"wrong.txt", &row[..n]);
+    }
+    replay_both(&row[..n]);
 }
