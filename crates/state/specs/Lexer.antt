@@ -23,9 +23,13 @@ startLexer = record { place = place.startPlace; indent = 0; «previous_token» =
 abbrev pub atPlace : Place → Lexer → Lexer
 atPlace p l = record { place = p; indent = l .indent; «previous_token» = l .«previous_token»; depth = l .depth; mode = l .mode }
 
--- `advance_line`
+-- `advance_line_utf8`
+abbrev pub advancedLineUtf8 : ℕ → ℕ → Lexer → Lexer
+advancedLineUtf8 bytes columns l = atPlace (place.advancedLineUtf8 bytes columns (l .place)) l
+
+-- `advance_line`: ASCII, so the columns are the bytes
 abbrev pub advancedLine : ℕ → Lexer → Lexer
-advancedLine bytes l = atPlace (place.advancedLine bytes (l .place)) l
+advancedLine bytes l = advancedLineUtf8 bytes bytes l
 
 -- `advance_to_position`
 abbrev pub advancedTo : Reach → Lexer → Lexer

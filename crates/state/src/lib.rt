@@ -6,7 +6,7 @@ ghost use Prim.Native.Nat.{_≤_, _<_};
 ghost use Rattle.base.specs.Refusal.{sourceMost};
 ghost use Rattle.position.specs.Position.{columnMost};
 ghost use Rattle.state.specs.Modes.{quoteOf, hashCountOf};
-ghost use Rattle.state.specs.Lexer.{startLexer, atPlace, advancedLine, advancedTo, reachOf, settled, indented, remembered, tokenTo, tokenOf, stuckAt};
+ghost use Rattle.state.specs.Lexer.{startLexer, atPlace, advancedLine, advancedLineUtf8, advancedTo, reachOf, settled, indented, remembered, tokenTo, tokenOf, stuckAt};
 ghost use Rattle.state.specs.State.{startState, pushed, popped, replaced, changedBy, Fits};
 use position::Place;
 use position::Reach;
@@ -114,13 +114,23 @@ impl Lexer {
         place.reach()
     }
 
+    // Along the line by ASCII characters, whose bytes are their columns.
     pub fn advance_line(self, char_bytes: usize) -> Lexer
         requires { ⌜ (reachOf self .byte .0 ≤ sourceMost) × («char_bytes» ≤ sourceMost) ⌝ }
         requires { ⌜ reachOf self .position .column .0 ≤ columnMost ⌝ }
         ensures { λ r. ⌜ r ≡ advancedLine «char_bytes» self ⌝ }
     {
+        self.advance_line_utf8(char_bytes, char_bytes as u32)
+    }
+
+    // Along the line by characters of so many bytes and so many columns.
+    pub fn advance_line_utf8(self, char_bytes: usize, char_count: u32) -> Lexer
+        requires { ⌜ (reachOf self .byte .0 ≤ sourceMost) × («char_bytes» ≤ sourceMost) ⌝ }
+        requires { ⌜ (reachOf self .position .column .0 ≤ columnMost) × («char_count» ≤ columnMost) ⌝ }
+        ensures { λ r. ⌜ r ≡ advancedLineUtf8 «char_bytes» «char_count» self ⌝ }
+    {
         let place = self.place;
-        self.at_place(place.advance_line(char_bytes))
+        self.at_place(place.advance_line_utf8(char_bytes, char_count))
     }
 
     pub fn advance_to_position(self, end: Reach) -> Lexer
