@@ -1,6 +1,6 @@
 -- The invariant holds at the start, and a step keeps it: `start-ok`, `step-ok`.
 -- Assumes nothing.
-use Prim.Native.Nat.{ℕ, zero, suc, _+_, _*_, _-_, _≤_, _<_}
+use Prim.Native.Nat.{ℕ, _+_, _*_, _-_, _≤_, _<_}
 use native.Mathlib.Omega.{arith}
 use mathlib.Core.Path.{_≡_, refl, sym, ap, subst, _∙_}
 use mathlib.Core.Bool.{Bool, true, false}
@@ -21,8 +21,8 @@ use Rattle.text.specs.Stands.{Stands, charsFrom}
 use Rattle.state.specs.Modes.{rawEnd, tagOf, delimiterOf}
 use Rattle.state.specs.Lexer.{reachOf, settled, remembered}
 use Rattle.state.specs.State.{startState, changedBy, Fits}
-use Rattle.state.specs.Stack.{top, codesOf, stackOf, Agrees}
-use Rattle.state.specs.StackLaws.{start-agrees, change-agrees}
+use Rattle.state.specs.Stack.{Agrees}
+use Rattle.state.specs.StackLaws.{top-codes, start-agrees, change-agrees}
 use Rattle.state.specs.declared.Change.{Change}
 use Rattle.state.specs.declared.Change.the-variants.{Keep, Push, Pop, Replace}
 use Rattle.state.specs.declared.Lexer.{Lexer}
@@ -55,11 +55,6 @@ fine-same s l m e f =
           (sym e) (f .whole);
     }
 
-top-code : (codes : List ℕ) (d : ℕ) → 0 < d → top (codesOf codes d) ≡ getD codes (d - 1) 0
-unfolding top codesOf
-top-code codes zero h = absurd (omega arith)
-top-code codes (suc d) h = let e : d ≡ suc d - 1 = omega arith in ap (λ (k : ℕ). getD codes k 0) e
-
 -- no RawEnd below the top
 abbrev Below : State → Type 0
 Below st = (k : ℕ) → k + 1 < st .modes .depth → tagOf (getD (st .modes .codes) k 0) ≡ rawEnd → ⊥
@@ -74,7 +69,7 @@ module _ (s : List ℕ) (mid : State) (a : Agrees mid) (b : Below mid) where
   none-at n k h e =
       split-lt (k + 1) (mid .modes .depth) (λ m. b k m e)
       (λ m. let q : mid .modes .depth - 1 ≡ k = omega arith in
-      n (ap tagOf (a .mode ∙ top-code (mid .modes .codes) (mid .modes .depth) (omega arith) ∙ ap (λ (j : ℕ). getD (mid .modes .codes) j 0) q) ∙ e))
+      n (ap tagOf (a .mode ∙ top-codes (mid .modes .codes) (mid .modes .depth) (omega arith) ∙ ap (λ (j : ℕ). getD (mid .modes .codes) j 0) q) ∙ e))
 
   abbrev Keeps-ok : State → Type 0
   Keeps-ok st = Marked s st × Below st

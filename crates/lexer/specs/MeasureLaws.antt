@@ -1,7 +1,7 @@
 -- A step that does not stand still falls in the measure: `step-falls`. It goes on by a byte, which outweighs a mode that is pushed; or it
 -- pops a mode; or it turns RawStart into RawEnd.
 -- Assumes nothing.
-use Prim.Native.Nat.{ℕ, zero, suc, _+_, _*_, _-_, _≤_, _<_}
+use Prim.Native.Nat.{ℕ, _+_, _*_, _-_, _≤_, _<_}
 use native.Mathlib.Omega.{arith}
 use mathlib.Core.Path.{_≡_, refl, sym, ap, subst, _∙_}
 use mathlib.Core.Bool.{Bool, true, false}
@@ -22,7 +22,7 @@ use Rattle.text.specs.FollowLaws.{here}
 use Rattle.state.specs.Modes.{rawStart, rawEnd, tagOf}
 use Rattle.state.specs.Lexer.{reachOf, settled, remembered}
 use Rattle.state.specs.State.{changedBy}
-use Rattle.state.specs.Stack.{top, codesOf, Agrees}
+use Rattle.state.specs.StackLaws.{deep}
 use Rattle.state.specs.declared.Change.{Change}
 use Rattle.state.specs.declared.Change.the-variants.{Keep, Push, Pop, Replace}
 use Rattle.state.specs.declared.Lexer.{Lexer}
@@ -86,17 +86,6 @@ module _ (s : List ℕ) (st mid : State) (d : mid .modes .depth ≡ st .modes .d
     turn-less code e f =
         by-eq Less (mid .modes .depth) 0 (λ z. absurd (omega arith))
         (λ _. omega (arith, rank-other code (λ q. omega arith), rank-start (st .lexer .mode) f))
-
-top-none : (codes : List ℕ) (d : ℕ) → d ≡ 0 → top (codesOf codes d) ≡ 0
-unfolding top codesOf
-top-none codes zero e = refl
-top-none codes (suc d) e = absurd (omega arith)
-
--- a mode on top means a depth above 0
-deep : (st : State) → Agrees st → (st .lexer .mode ≡ 0 → ⊥) → 0 < st .modes .depth
-deep st a n =
-    split-lt 0 (st .modes .depth) (λ h. h)
-    (λ h. absurd (n (a .mode ∙ top-none (st .modes .codes) (st .modes .depth) (omega arith))))
 
 is-token : (b : Bool) (t u : Token) → pick b what.Stuck (what.Token t) ≡ what.Token u → b ≡ false
 is-token true t u e = absurd (let z : _≡_ {A = ℕ} 0 1 = cc in omega arith)

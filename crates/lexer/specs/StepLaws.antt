@@ -17,8 +17,8 @@ use Rattle.base.specs.PickLaws.{by-test, by-lt, by-eq}
 use Rattle.position.specs.declared.Place.{Place}
 use Rattle.state.specs.Lexer.{settled, remembered}
 use Rattle.state.specs.State.{withMode, changedBy, Fits}
-use Rattle.state.specs.Stack.{top, rest, changed, codesOf, stackOf, Agrees}
-use Rattle.state.specs.StackLaws.{change-is, change-agrees}
+use Rattle.state.specs.Stack.{rest, changed, codesOf, stackOf, Agrees}
+use Rattle.state.specs.StackLaws.{top-none, change-is, change-agrees}
 use Rattle.state.specs.declared.Change.{Change}
 use Rattle.state.specs.declared.Change.the-variants.{Keep, Push, Pop, Replace}
 use Rattle.state.specs.declared.Lexer.{Lexer}
@@ -179,11 +179,6 @@ half-joins look edition s l = at-moved look edition (remainingAt s (l .place .«
 -- the lexer whose last token had this place, indent and kind
 abbrev pub lexerAfter : Place → ℕ → ℕ → Lexer
 lexerAfter place indent kind = record { place = place; indent = indent; «previous_token» = kind; depth = 0; mode = 0 }
-
-top-none : (codes : List ℕ) (d : ℕ) → d ≡ 0 → top (codesOf codes d) ≡ 0
-unfolding top codesOf
-top-none codes zero e = refl
-top-none codes (suc d) e = absurd (omega arith)
 
 pub lexer-of : (st : State) → Agrees st → st .modes .depth ≡ 0
     → st .lexer ≡ lexerAfter (st .lexer .place) (st .lexer .indent) (st .lexer .«previous_token»)

@@ -3,15 +3,15 @@
 --     tail-is                      a byte from 80 to BF is inside a character
 --     never                        a test that is false promises nothing
 -- Assumes nothing.
-use Prim.Native.Nat.{ℕ, zero, suc, _-_, _≤_, _<_}
+use Prim.Native.Nat.{ℕ, _-_, _≤_, _<_}
 use native.Mathlib.Omega.{arith}
-use mathlib.Core.Path.{_≡_, refl, sym, ap, _∙_}
+use mathlib.Core.Path.{_≡_, sym, _∙_}
 use mathlib.Core.Bool.{true, false}
-use mathlib.Core.List.{List}
 use lib.ListN.{length, getD}
 use borrow.Author.Tests.{le-ltb, le-leb}
 use Rattle.utf8.specs.Read.{inside, isTail}
-use Rattle.state.specs.Stack.{top, codesOf, Agrees}
+use Rattle.state.specs.Stack.{Agrees}
+use Rattle.state.specs.StackLaws.{top-none, top-codes}
 use Rattle.state.specs.declared.State.{State}
 
 pub never : {G : Type 0} → false ≡ true → G
@@ -21,19 +21,9 @@ pub tail-is : (b : ℕ) → 0x80 ≤ b → b ≤ 0xbf → isTail b ≡ true
 unfolding inside
 tail-is b h k = rw (le-ltb b 0x80 h, le-leb b 0xbf k)
 
-top-none : (codes : List ℕ) (d : ℕ) → d ≡ 0 → top (codesOf codes d) ≡ 0
-unfolding top codesOf
-top-none codes zero e = refl
-top-none codes (suc d) e = absurd (omega arith)
-
-top-some : (codes : List ℕ) (d : ℕ) → 0 < d → top (codesOf codes d) ≡ getD codes (d - 1) 0
-unfolding top codesOf
-top-some codes zero h = absurd (omega arith)
-top-some codes (suc d) h = let e : d ≡ suc d - 1 = omega arith in ap (λ (k : ℕ). getD codes k 0) e
-
 module _ (st : State) (size : length (st .modes .codes) ≡ 64) (most : st .modes .depth ≤ 64) (depth : st .lexer .depth ≡ st .modes .depth) where
   pub agreed-none : st .modes .depth ≡ 0 → st .lexer .mode ≡ 0 → Agrees st
   agreed-none e m = record { size = size; most = most; depth = depth; mode = m ∙ sym (top-none (st .modes .codes) (st .modes .depth) e) }
 
   pub agreed-some : 0 < st .modes .depth → st .lexer .mode ≡ getD (st .modes .codes) (st .modes .depth - 1) 0 → Agrees st
-  agreed-some h m = record { size = size; most = most; depth = depth; mode = m ∙ sym (top-some (st .modes .codes) (st .modes .depth) h) }
+  agreed-some h m = record { size = size; most = most; depth = depth; mode = m ∙ sym (top-codes (st .modes .codes) (st .modes .depth) h) }

@@ -2,6 +2,8 @@
 --     start-agrees      at the start
 --     change-is         what `changedBy` does to the two halves is what `changed` does to the stack
 --     change-agrees     and the copies agree again
+--     top-none, top-codes     the code on top: none at depth 0, or else the last below the depth
+--     deep              a mode on top means a depth above 0
 -- Assumes nothing.
 use Prim.Native.Nat.{ℕ, zero, suc, _+_, _-_, _≤_, _<_}
 use native.Mathlib.Omega.{arith}
@@ -11,7 +13,7 @@ use mathlib.Core.List.{List, [], _∷_}
 use lib.ListN.{length, getD, set, length-set, length-replicate}
 use lib.Seq.{getD-set-same, getD-set-other}
 use borrow.Author.Tests.{lt-ltb, le-ltb, eq-eqb, ne-eqb}
-use Rattle.base.specs.PickLaws.{by-lt, by-eq}
+use Rattle.base.specs.PickLaws.{by-lt, by-eq, split-lt}
 use Rattle.state.specs.State.{startState, pushed, popped, replaced, changedBy, Fits}
 use Rattle.state.specs.Stack.{top, rest, changed, codesOf, stackOf, Agrees}
 use Rattle.state.specs.declared.Change.{Change}
@@ -39,18 +41,29 @@ unfolding rest codesOf
 rest-codes codes zero = refl
 rest-codes codes (suc d) = let e : d ≡ suc d - 1 = omega arith in ap (codesOf codes) e
 
-top-codes : (codes : List ℕ) (d : ℕ) → 0 < d → top (codesOf codes d) ≡ getD codes (d - 1) 0
+-- the top is the last code below the depth
+pub top-codes : (codes : List ℕ) (d : ℕ) → 0 < d → top (codesOf codes d) ≡ getD codes (d - 1) 0
 unfolding top codesOf
 top-codes codes zero h = absurd (omega arith)
 top-codes codes (suc d) h = let e : d ≡ suc d - 1 = omega arith in ap (λ (k : ℕ). getD codes k 0) e
 
-no-codes : (codes : List ℕ) → (codesOf codes 0 ≡ []) × (top (codesOf codes 0) ≡ 0)
+-- at depth 0 there is no top
+pub top-none : (codes : List ℕ) (d : ℕ) → d ≡ 0 → top (codesOf codes d) ≡ 0
 unfolding top codesOf
-no-codes codes = (refl, refl)
+top-none codes zero e = refl
+top-none codes (suc d) e = absurd (omega arith)
+
+no-codes : (codes : List ℕ) → codesOf codes 0 ≡ []
+unfolding codesOf
+no-codes codes = refl
 
 top-cons : (m : ℕ) (ms : List ℕ) → top (m ∷ ms) ≡ m
 unfolding top
 top-cons m ms = refl
+
+pub deep : (s : State) → Agrees s → (s .lexer .mode ≡ 0 → ⊥) → 0 < s .modes .depth
+deep s a n =
+    split-lt 0 (s .modes .depth) (λ h. h) (λ h. absurd (n (a .mode ∙ top-none (s .modes .codes) (s .modes .depth) (omega arith))))
 
 -- what a change comes to, from the codes and the depth that are stored
 record Comes (c : Change) (s t : State) : Type 0 where
@@ -79,12 +92,12 @@ module _ (s : State) (a : Agrees s) where
       (λ h.
       let e : s .modes .depth - 1 ≡ 0 = omega arith in
       record {
-        stack = no-codes (s .modes .codes) .0
+        stack = no-codes (s .modes .codes)
             ∙ sym
             (rest-codes (s .modes .codes) (s .modes .depth)
             ∙ ap (codesOf (s .modes .codes)) e
-            ∙ no-codes (s .modes .codes) .0);
-        agrees = record { size = a .size; most = omega arith; depth = refl; mode = sym (no-codes (s .modes .codes) .1) };
+            ∙ no-codes (s .modes .codes));
+        agrees = record { size = a .size; most = omega arith; depth = refl; mode = sym (top-none (s .modes .codes) 0 refl) };
       })
       (λ h.
       let e : s .modes .depth - 2 ≡ s .modes .depth - 1 - 1 = omega arith in
@@ -140,4 +153,4 @@ pub change-agrees : (c : Change) (s : State) → Agrees s → Fits c s → Agree
 change-agrees c s a f = comes c s a f .agrees
 
 pub start-agrees : Agrees startState
-start-agrees = record { size = refl; most = omega arith; depth = refl; mode = sym (no-codes _ .1) }
+start-agrees = record { size = refl; most = omega arith; depth = refl; mode = sym (top-none _ 0 refl) }

@@ -1,23 +1,21 @@
 -- Where the contents of a raw string end, their end delimiter stands.
---     follow-by          what holds wherever a loop over turns can come to, holds of what it comes to
 --     raw-delimited      the loop over the contents closes before the delimiter
 --     contents-end       the same of `consume_raw_string_contents`, whose change then replaces RawStart by RawEnd
 -- Assumes nothing.
-use Prim.Native.Nat.{ℕ, zero, suc, _+_, _-_, _≤_, _<_}
+use Prim.Native.Nat.{ℕ, _+_, _<_}
 use native.Mathlib.Omega.{arith}
 use mathlib.Core.Path.{_≡_, refl, sym, subst}
 use mathlib.Core.List.{List}
 use lib.ListN.{length, drop}
-use Rattle.base.specs.PickLaws.{by-eq, split-lt}
-use Rattle.position.specs.Place.{alongBy, lineBy}
+use Rattle.base.specs.PickLaws.{by-eq}
 use Rattle.position.specs.declared.Reach.{Reach}
 use Rattle.utf8.specs.Encode.{WellFormed}
 use Rattle.utf8.specs.Chars.{chars}
 use Rattle.text.specs.Bytes.{byteAt}
 use Rattle.text.specs.Tests.{cr, lf}
 use Rattle.text.specs.Follow.{Followed, Closed, Open, Stopped, follow, turnAt}
-use Rattle.text.specs.Stands.{Stands, Safe, Going, charsFrom}
-use Rattle.text.specs.FollowLaws.{here, one-ascii, begins, ends, passes, pass-falls, lines, line-falls, closes, stuck}
+use Rattle.text.specs.Stands.{Stands, charsFrom}
+use Rattle.text.specs.FollowLaws.{here, one-ascii, follow-by}
 use Rattle.text.specs.declared.Turn.{Turn}
 use Rattle.text.specs.declared.Turn.the-variants.{Pass, Line, Close, Stuck}
 use Rattle.state.specs.Modes.{rawEnd, modeCode, quoteOf, hashCountOf}
@@ -31,32 +29,6 @@ use Rattle.strings.specs.Delimited.{Hashes, Delimited}
 use Rattle.strings.specs.TurnLaws.{quote-ascii, plain-at, raw-at}
 use Rattle.strings.specs.HashLaws.{counted}
 use Rattle.strings.specs.SafeLaws.{raw-safe}
-
--- ---- any loop over turns
-
-module _ (turn : ℕ → List ℕ → Turn) (s : List ℕ) (safe : Safe turn s) (start : Reach) (P : Followed → Type 0)
-    (open-end : (r : Reach) → Going turn s start r (r .byte .0) → P (Open r))
-    (close-end : (r : Reach) (b w : ℕ) → Going turn s start r (r .byte .0) → r .byte .0 < length s
-    → Close b w ≡ turnAt turn (charsFrom s r) → P (Closed (alongBy b w r)))
-    (stopped : P Stopped) where
-  abbrev Found : Type 0
-  Found = P (follow turn start (charsFrom s start))
-
-  one-turn : (r : Reach) → Going turn s start r (r .byte .0) → r .byte .0 < length s → (t : Turn) → t ≡ turnAt turn (charsFrom s r)
-      → ((q : Reach) → length s - q .byte .0 < length s - r .byte .0 → Going turn s start q (q .byte .0) → Found) → Found
-  one-turn r g h (Pass b w) e on = on (alongBy b w r) (pass-falls safe g h e refl refl) (passes safe g h e refl refl)
-  one-turn r g h (Line b) e on = on (lineBy b r) (line-falls safe g h e refl refl) (lines safe g h e refl refl)
-  one-turn r g h (Close b w) e on = subst P (sym (closes safe g h e {q = alongBy b w r} refl refl .0)) (close-end r b w g h e)
-  one-turn r g h Stuck e on = subst P (sym (stuck safe g h e refl)) stopped
-
-  all-turns : (fuel : ℕ) (r : Reach) → length s - r .byte .0 ≤ fuel → Going turn s start r (r .byte .0) → Found
-  all-turns zero r f g = subst P (sym (ends g (omega arith))) (open-end r g)
-  all-turns (suc fuel) r f g =
-      split-lt (r .byte .0) (length s) (λ h. one-turn r g h _ refl (λ q l k. all-turns fuel q (omega arith) k))
-      (λ h. subst P (sym (ends g h)) (open-end r g))
-
-  pub follow-by : Stands s start → Found
-  follow-by o = all-turns (length s - start .byte .0) start (omega arith) (begins o)
 
 -- ---- the contents of a raw string
 

@@ -4,6 +4,7 @@
 --     one-char, one-more      bytes that are whole characters: one character; and an ASCII byte after such bytes
 --     begins, ends            the invariant `Going` where a loop begins, and what is found where it ends
 --     passes, lines, closes, stuck, and their -fits and -falls      what each kind of turn does to it
+--     follow-by               what holds wherever a loop over turns can come to, holds of what it comes to
 --     follow-lands            where the loop comes to stands in the source
 -- Assumes nothing.
 use Prim.Native.Nat.{ℕ, zero, suc, _+_, _*_, _-_, _≤_, _<_}
@@ -29,7 +30,7 @@ use Rattle.utf8.specs.declared.Read.the-variants.{Char, Bad, Cut}
 use Rattle.text.specs.Bytes.{byteAt}
 use Rattle.text.specs.Count.{lenUtf8, bytesOf}
 use Rattle.text.specs.Follow.{nextIs, Followed, Closed, Open, Stopped, dropBytes, followIn, follow, turnAt}
-use Rattle.text.specs.Stands.{Stands, Passes, Lands, Within, Safe, Going}
+use Rattle.text.specs.Stands.{Stands, Passes, Lands, Within, Safe, Going, charsFrom}
 use Rattle.text.specs.declared.Turn.{Turn}
 use Rattle.text.specs.declared.Turn.the-variants.{Pass, Line, Close, Stuck}
 
@@ -332,31 +333,38 @@ module _ {turn : ℕ → List ℕ → Turn} {s : List ℕ} {start r : Reach} {i 
 
 -- ---- where the definition's loop comes to, without any code
 
+-- what holds wherever the loop can come to holds of what it comes to
+module _ (turn : ℕ → List ℕ → Turn) (s : List ℕ) (safe : Safe turn s) (start : Reach) (P : Followed → Type 0)
+    (open-end : (r : Reach) → Going turn s start r (r .byte .0) → P (Open r))
+    (close-end : (r : Reach) (b w : ℕ) → Going turn s start r (r .byte .0) → r .byte .0 < length s
+    → Close b w ≡ turnAt turn (charsFrom s r) → P (Closed (alongBy b w r)))
+    (stopped : P Stopped) where
+  abbrev Found : Type 0
+  Found = P (follow turn start (charsFrom s start))
+
+  one-turn : (r : Reach) → Going turn s start r (r .byte .0) → r .byte .0 < length s → (t : Turn) → t ≡ turnAt turn (charsFrom s r)
+      → ((q : Reach) → length s - q .byte .0 < length s - r .byte .0 → Going turn s start q (q .byte .0) → Found) → Found
+  one-turn r g h (Pass b w) e on = on (alongBy b w r) (pass-falls safe g h e refl refl) (passes safe g h e refl refl)
+  one-turn r g h (Line b) e on = on (lineBy b r) (line-falls safe g h e refl refl) (lines safe g h e refl refl)
+  one-turn r g h (Close b w) e on = subst P (sym (closes safe g h e {q = alongBy b w r} refl refl .0)) (close-end r b w g h e)
+  one-turn r g h Stuck e on = subst P (sym (stuck safe g h e refl)) stopped
+
+  all-turns : (fuel : ℕ) (r : Reach) → length s - r .byte .0 ≤ fuel → Going turn s start r (r .byte .0) → Found
+  all-turns zero r f g = subst P (sym (ends g (omega arith))) (open-end r g)
+  all-turns (suc fuel) r f g =
+      split-lt (r .byte .0) (length s) (λ h. one-turn r g h _ refl (λ q l k. all-turns fuel q (omega arith) k))
+      (λ h. subst P (sym (ends g h)) (open-end r g))
+
+  pub follow-by : Stands s start → Found
+  follow-by o = all-turns (length s - start .byte .0) start (omega arith) (begins o)
+
 -- a place that was reached stands in s, and not before the start
 abbrev pub Landed : List ℕ → Reach → Followed → Type 0
 Landed s r (Closed q) = Stands s q × (r .byte .0 ≤ q .byte .0)
 Landed s r (Open q) = Stands s q × (r .byte .0 ≤ q .byte .0)
 Landed s r Stopped = Unit {0}
 
-module _ (turn : ℕ → List ℕ → Turn) (s : List ℕ) (safe : Safe turn s) (start : Reach) where
-  abbrev Found : Type 0
-  Found = Landed s start (follow turn start (chars (drop (start .byte .0) s)))
-
-  -- the loop stands at r, with a turn to take: what holds further on holds here
-  turned : (r : Reach) → Going turn s start r (r .byte .0) → r .byte .0 < length s → (t : Turn) → t ≡ turnAt turn (chars (drop (r .byte .0) s))
-      → ((q : Reach) → length s - q .byte .0 < length s - r .byte .0 → Going turn s start q (q .byte .0) → Found) → Found
-  turned r g h (Pass b w) e on = on (alongBy b w r) (pass-falls safe g h e refl refl) (passes safe g h e refl refl)
-  turned r g h (Line b) e on = on (lineBy b r) (line-falls safe g h e refl refl) (lines safe g h e refl refl)
-  turned r g h (Close b w) e on =
-      let p = closes safe g h e {q = alongBy b w r} refl refl in
-      subst (Landed s start) (sym (p .0)) (p .1)
-  turned r g h Stuck e on = subst (Landed s start) (sym (stuck safe g h e refl)) tt
-
-  landed : (fuel : ℕ) (r : Reach) → length s - r .byte .0 ≤ fuel → Going turn s start r (r .byte .0) → Found
-  landed zero r f g = subst (Landed s start) (sym (ends g (omega arith))) (g .stands, g .on)
-  landed (suc fuel) r f g =
-      split-lt (r .byte .0) (length s) (λ h. turned r g h _ refl (λ q l k. landed fuel q (omega arith) k))
-      (λ h. subst (Landed s start) (sym (ends g h)) (g .stands, g .on))
-
-  pub follow-lands : Stands s start → Found
-  follow-lands o = landed (length s - start .byte .0) start (omega arith) (begins o)
+pub follow-lands : (turn : ℕ → List ℕ → Turn) (s : List ℕ) → Safe turn s → (start : Reach) → Stands s start
+    → Landed s start (follow turn start (charsFrom s start))
+follow-lands turn s safe start =
+    follow-by turn s safe start (Landed s start) (λ r g. (g .stands, g .on)) (λ r b w g h e. closes safe g h e {q = alongBy b w r} refl refl .1) tt
