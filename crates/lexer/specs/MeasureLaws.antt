@@ -91,7 +91,7 @@ is-token : (b : Bool) (t u : Token) → pick b what.Stuck (what.Token t) ≡ wha
 is-token true t u e = absurd (let z : _≡_ {A = ℕ} 0 1 = cc in omega arith)
 is-token false t u e = refl
 
-still-is : (l : Lexer) (t : Taken) → t .lexer .place ≡ l .place → t .token .kind ≡ error → stoodStill l t ≡ true
+pub still-is : (l : Lexer) (t : Taken) → t .lexer .place ≡ l .place → t .token .kind ≡ error → stoodStill l t ≡ true
 unfolding stoodStill
 still-is l t p k =
     rw (eq-eqb (t .token .kind) error k, eq-eqb (t .lexer .place .«current_byte» .0) (l .place .«current_byte» .0) (ap (λ (x : Place). x .«current_byte» .0) p))
