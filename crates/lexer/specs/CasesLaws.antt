@@ -38,7 +38,6 @@ use Rattle.lexer.specs.ArmLaws.{remaining-end, remaining-inside, half-no
 use Rattle.lexer.specs.Invariant.{Ok}
 use Rattle.lexer.specs.Reads.{AtEnd}
 use Rattle.lexer.specs.declared.Half.{Half}
-use Rattle.lexer.specs.declared.What.{What}
 use Rattle.lexer.specs.declared.What.the-variants as what
 
 -- ---- what was found

@@ -1,7 +1,7 @@
--- A step leaves the lexer fine: `take-goes`. Each token leads to a place of the source, and not back; an unknown symbol may cut a
+-- A step leaves the lexer fine: `take-goes`. No place before whole characters is inside one: `no-tail`. Each token leads to a place of the source, and not back; an unknown symbol may cut a
 -- longer character, where the scan is over.
 -- Assumes nothing.
-use Prim.Native.Nat.{ℕ, zero, suc, _+_, _*_, _/_, _≤_, _<_}
+use Prim.Native.Nat.{ℕ, zero, suc, _+_, _/_, _≤_, _<_}
 use native.Mathlib.Omega.{arith}
 use mathlib.Core.Path.{_≡_, refl, sym, ap, subst, _∙_}
 use mathlib.Core.Bool.{Bool, true, false}
@@ -20,7 +20,7 @@ use Rattle.property.specs.Parts.{xidStart}
 use Rattle.property.specs.Table.{propertiesAt}
 use Rattle.property.specs.FitLaws.{FitTable}
 use Rattle.words.specs.Words.{symbolOf}
-use Rattle.words.specs.WordsLaws.{SymbolIs, symbol-is}
+use Rattle.words.specs.WordsLaws.{symbol-is}
 use Rattle.words.specs.declared.symbols.SymbolAt.{SymbolAt}
 use Rattle.words.specs.declared.symbols.SymbolAt.the-variants.{Is, Nothing}
 use Rattle.text.specs.Bytes.{byteAt}
@@ -34,7 +34,7 @@ use Rattle.state.specs.declared.Lexer.{Lexer}
 use Rattle.state.specs.declared.Taken.{Taken}
 use Rattle.strings.specs.Delimited.{Delimited}
 use Rattle.strings.specs.StandsLaws.{Steps, newline-steps, comment-steps, literal-steps, contents-steps, end-steps}
-use Rattle.options.specs.StandsLaws.{Reaches, options-stands}
+use Rattle.options.specs.StandsLaws.{options-stands}
 use Rattle.names.specs.Places.{PlaceIn, GoesOn}
 use Rattle.names.specs.PlaceLaws.{place-of, next-place}
 use Rattle.names.specs.StandsLaws.{whitespace-goes, number-goes, id-or-keyword-goes, ignored-goes}
@@ -66,7 +66,7 @@ first-in c r =
     (λ j. rw (le-ltb (0xf0 + c / 0x40000) 0x80 (omega arith)) (lt-leb (0xf0 + c / 0x40000) 0xbf (omega arith)))))
 
 -- where whole characters are left, or nothing, the place is inside none
-no-tail : (s : List ℕ) (i : ℕ) → WellFormed (drop i s) → isTail (getD s i 0) ≡ false
+pub no-tail : (s : List ℕ) (i : ℕ) → WellFormed (drop i s) → isTail (getD s i 0) ≡ false
 unfolding inside
 no-tail s i w =
     split-lt i (length s)

@@ -2,13 +2,13 @@
 -- Assumes nothing.
 use Prim.Native.Nat.{ℕ, _+_, _*_, _-_, _≤_, _<_}
 use native.Mathlib.Omega.{arith}
-use mathlib.Core.Path.{_≡_, refl, sym, ap, subst, _∙_}
-use mathlib.Core.Bool.{Bool, true, false}
+use mathlib.Core.Path.{_≡_, sym, ap, subst, _∙_}
+use mathlib.Core.Bool.{false}
 use mathlib.Core.Logic.{_⊎_, inl, inr}
 use mathlib.Core.List.{List}
-use lib.ListN.{length, getD, drop, set}
+use lib.ListN.{length, getD, drop}
 use lib.Seq.{getD-set-other}
-use Rattle.base.specs.PickLaws.{by-test, by-lt, by-eq, split-lt, split-eq}
+use Rattle.base.specs.PickLaws.{by-test, by-lt, by-eq, split-lt}
 use Rattle.base.specs.Refusal.{sourceMost}
 use Rattle.position.specs.Place as place
 use Rattle.position.specs.declared.ByteOffset.{ByteOffset}
@@ -17,7 +17,6 @@ use Rattle.utf8.specs.Encode.{WellFormed}
 use Rattle.utf8.specs.Read.{isTail}
 use Rattle.property.specs.Table.{propertiesAt}
 use Rattle.property.specs.FitLaws.{FitTable}
-use Rattle.text.specs.Stands.{Stands, charsFrom}
 use Rattle.state.specs.Modes.{rawEnd, tagOf, delimiterOf}
 use Rattle.state.specs.Lexer.{reachOf, settled, remembered}
 use Rattle.state.specs.State.{startState, changedBy, Fits}
@@ -29,18 +28,16 @@ use Rattle.state.specs.declared.Lexer.{Lexer}
 use Rattle.state.specs.declared.State.{State}
 use Rattle.state.specs.declared.Taken.{Taken}
 use Rattle.strings.specs.Delimited.{Delimited}
-use Rattle.lexer.specs.GetNextToken.{takeToken, remainingAt}
-use Rattle.lexer.specs.Step.{isFull, halfOf, half, joined, step}
+use Rattle.lexer.specs.Step.{isFull, halfOf, joined, step}
 use Rattle.lexer.specs.Fine.{Fine}
-use Rattle.lexer.specs.FineLaws.{Goes, take-goes}
+use Rattle.lexer.specs.FineLaws.{Goes}
 use Rattle.lexer.specs.Keeps.{Joins, Keeps}
-use Rattle.lexer.specs.KeepsLaws.{take-keeps}
 use Rattle.lexer.specs.ChangeLaws.{Other, Allowed, take-changes}
-use Rattle.lexer.specs.ArmLaws.{remaining-end, remaining-inside, half-none, half-some, change-fits}
+use Rattle.lexer.specs.ArmLaws.{change-fits}
 use Rattle.lexer.specs.StepLaws.{change-same}
 use Rattle.lexer.specs.Invariant.{Ok}
+use Rattle.lexer.specs.CasesLaws.{by-half}
 use Rattle.lexer.specs.declared.Half.{Half}
-use Rattle.lexer.specs.declared.Step.{Step}
 
 -- what is fine goes by the place alone
 fine-same : (s : List ℕ) (l m : Lexer) → l .place ≡ m .place → Fine s m → Fine s l
@@ -136,30 +133,11 @@ module _ (s : List ℕ) (table : List ℕ) (edition : ℕ) (fit : FitTable table
         below = c .1;
       })
 
-  none-ok : {x : Half} → half (propertiesAt table) edition s l ≡ x → joined st x .state ≡ st → Ok s (step (propertiesAt table) edition s st .state)
-  unfolding step
-  none-ok e q = subst (Ok s) (sym (ap (λ (x : Half). joined st x .state) e ∙ q)) ok
-
-  some-ok : isTail (getD s (reachOf l .byte .0) 0) ≡ false → reachOf l .byte .0 < length s
-      → Ok s (step (propertiesAt table) edition s st .state)
-  unfolding step
-  some-ok e h =
-      let w = ok .fine .whole e in
-      let o : Stands s (reachOf (settled l)) =
-      record { small = ok .fine .small; inside = ok .fine .inside; well = w; lines = ok .fine .lines; columns = ok .fine .columns } in
-      subst (λ (x : Half). Ok s (joined st x .state)) (sym (half-some (propertiesAt table) edition s l e w h))
-      (taken-ok (takeToken (propertiesAt table) edition (charsFrom s (reachOf l)) (settled l))
-      (take-keeps (settled l) (propertiesAt table) edition (charsFrom s (reachOf l)))
-      (take-goes s (settled l) o h table edition fit (ok .marked)) (take-changes s (settled l) (propertiesAt table) edition o))
-
-  tail-ok : (b : Bool) → isTail (getD s (reachOf l .byte .0) 0) ≡ b → Ok s (step (propertiesAt table) edition s st .state)
-  tail-ok true e = none-ok (half-none (propertiesAt table) edition s l (remaining-inside s (reachOf l .byte .0) e)) refl
-  tail-ok false e =
-      split-lt (reachOf l .byte .0) (length s) (λ h. some-ok e h)
-      (λ h. none-ok (half-none (propertiesAt table) edition s l (remaining-end s (reachOf l .byte .0) h)) refl)
-
   pub step-ok : Ok s (step (propertiesAt table) edition s st .state)
-  step-ok = tail-ok (isTail (getD s (reachOf l .byte .0) 0)) refl
+  unfolding step
+  step-ok =
+      by-half s table edition fit st ok (λ (x : Half). Ok s (joined st x .state)) (λ _. ok)
+      (λ o _ k g _. taken-ok _ k g (take-changes s (settled l) (propertiesAt table) edition o))
 
 pub start-ok : (s : List ℕ) → length s ≤ sourceMost → WellFormed s → Ok s startState
 start-ok s h w =

@@ -1,24 +1,21 @@
 -- A step that does not stand still falls in the measure: `step-falls`. It goes on by a byte, which outweighs a mode that is pushed; or it
 -- pops a mode; or it turns RawStart into RawEnd.
 -- Assumes nothing.
-use Prim.Native.Nat.{ℕ, _+_, _*_, _-_, _≤_, _<_}
+use Prim.Native.Nat.{ℕ, _+_, _-_, _≤_, _<_}
 use native.Mathlib.Omega.{arith}
-use mathlib.Core.Path.{_≡_, refl, sym, ap, subst, _∙_}
-use mathlib.Core.Bool.{Bool, true, false}
-use mathlib.Core.List.{List, [], _∷_}
+use mathlib.Core.Path.{_≡_, refl, sym, ap, subst}
+use mathlib.Core.Bool.{false}
+use mathlib.Core.List.{List}
 use lib.Dec.{eqb}
 use lib.ListN.{length, getD}
 use borrow.Author.Tests.{eq-eqb, ne-eqb}
 use Rattle.base.specs.Pick.{pick}
-use Rattle.base.specs.PickLaws.{by-test, by-lt, by-eq, split-lt}
+use Rattle.base.specs.PickLaws.{by-test, by-lt, by-eq}
 use Rattle.position.specs.declared.Place.{Place}
-use Rattle.utf8.specs.Read.{isTail}
 use Rattle.property.specs.Table.{propertiesAt}
 use Rattle.property.specs.FitLaws.{FitTable}
-use Rattle.token.specs.Kind.{error}
 use Rattle.token.specs.declared.Token.{Token}
-use Rattle.text.specs.Stands.{Stands, charsFrom}
-use Rattle.text.specs.FollowLaws.{here}
+use Rattle.text.specs.Stands.{Stands}
 use Rattle.state.specs.Modes.{rawStart, rawEnd, tagOf}
 use Rattle.state.specs.Lexer.{reachOf, settled, remembered}
 use Rattle.state.specs.State.{changedBy}
@@ -28,19 +25,14 @@ use Rattle.state.specs.declared.Change.the-variants.{Keep, Push, Pop, Replace}
 use Rattle.state.specs.declared.Lexer.{Lexer}
 use Rattle.state.specs.declared.State.{State}
 use Rattle.state.specs.declared.Taken.{Taken}
-use Rattle.lexer.specs.GetNextToken.{takeToken}
-use Rattle.lexer.specs.Step.{isFull, stoodStill, halfOf, half, joined, step}
-use Rattle.lexer.specs.Keeps.{Keeps}
-use Rattle.lexer.specs.KeepsLaws.{take-keeps}
-use Rattle.lexer.specs.FineLaws.{Goes, take-goes}
+use Rattle.lexer.specs.Step.{isFull, stoodStill, halfOf, joined, step}
+use Rattle.lexer.specs.FineLaws.{Goes}
 use Rattle.lexer.specs.FallsLaws as falls
-use Rattle.lexer.specs.FallsLaws.{Falls, take-falls}
+use Rattle.lexer.specs.FallsLaws.{Falls}
 use Rattle.lexer.specs.StepLaws.{change-same}
-use Rattle.lexer.specs.ArmLaws.{remaining-end, remaining-inside, half-none, half-some}
 use Rattle.lexer.specs.Invariant.{Ok, measure}
-use Rattle.lexer.specs.InvariantLaws.{step-ok}
+use Rattle.lexer.specs.CasesLaws.{is-token, still-is, by-half}
 use Rattle.lexer.specs.declared.Half.{Half}
-use Rattle.lexer.specs.declared.What.{What}
 use Rattle.lexer.specs.declared.What.the-variants as what
 
 -- 1 where RawStart is on top
@@ -87,15 +79,6 @@ module _ (s : List ℕ) (st mid : State) (d : mid .modes .depth ≡ st .modes .d
         by-eq Less (mid .modes .depth) 0 (λ z. absurd (omega arith))
         (λ _. omega (arith, rank-other code (λ q. omega arith), rank-start (st .lexer .mode) f))
 
-is-token : (b : Bool) (t u : Token) → pick b what.Stuck (what.Token t) ≡ what.Token u → b ≡ false
-is-token true t u e = absurd (let z : _≡_ {A = ℕ} 0 1 = cc in omega arith)
-is-token false t u e = refl
-
-pub still-is : (l : Lexer) (t : Taken) → t .lexer .place ≡ l .place → t .token .kind ≡ error → stoodStill l t ≡ true
-unfolding stoodStill
-still-is l t p k =
-    rw (eq-eqb (t .token .kind) error k, eq-eqb (t .lexer .place .«current_byte» .0) (l .place .«current_byte» .0) (ap (λ (x : Place). x .«current_byte» .0) p))
-
 module _ (s table : List ℕ) (edition : ℕ) (fit : FitTable table) (st : State) (ok : Ok s st) (u : Token) where
   abbrev l : Lexer
   l = st .lexer
@@ -119,29 +102,9 @@ module _ (s table : List ℕ) (edition : ℕ) (fit : FitTable table) (st : State
   taken-falls : (t : Taken) → Goes s (settled l) t → Falls (settled l) t → Goal (halfOf l t)
   taken-falls t g f =
       by-test Goal (isFull (t .change) (l .depth)) (λ _ e. absurd (let z : _≡_ {A = ℕ} 0 1 = cc in omega arith))
-      (λ _ e. fell t g f (is-token (stoodStill l t) (t .token) u e))
-
-  some-falls : isTail (getD s (reachOf l .byte .0) 0) ≡ false → reachOf l .byte .0 < length s → Goal (half (propertiesAt table) edition s l)
-  some-falls e h =
-      let w = ok .fine .whole e in
-      let o : Stands s (reachOf (settled l)) =
-      record { small = ok .fine .small; inside = ok .fine .inside; well = w; lines = ok .fine .lines; columns = ok .fine .columns } in
-      let c = here s (reachOf l .byte .0) w h in
-      subst Goal (sym (half-some (propertiesAt table) edition s l e w h))
-      (taken-falls (takeToken (propertiesAt table) edition (charsFrom s (reachOf l)) (settled l))
-      (take-goes s (settled l) o h table edition fit (ok .marked))
-      (subst (λ (cs : List ℕ). Falls (settled l) (takeToken (propertiesAt table) edition cs (settled l))) (sym (c .at .step))
-      (take-falls (settled l) (propertiesAt table) edition (c .code) _)))
-
-  none-falls : half (propertiesAt table) edition s l ≡ record { what = what.End; lexer = l; change = Keep } → Goal (half (propertiesAt table) edition s l)
-  none-falls q = subst Goal (sym q) (λ e. absurd (let z : _≡_ {A = ℕ} 0 1 = cc in omega arith))
-
-  half-falls : (b : Bool) → isTail (getD s (reachOf l .byte .0) 0) ≡ b → Goal (half (propertiesAt table) edition s l)
-  half-falls true e = none-falls (half-none (propertiesAt table) edition s l (remaining-inside s (reachOf l .byte .0) e))
-  half-falls false e =
-      split-lt (reachOf l .byte .0) (length s) (λ h. some-falls e h)
-      (λ h. none-falls (half-none (propertiesAt table) edition s l (remaining-end s (reachOf l .byte .0) h)))
+      (λ _ e. fell t g f (is-token (stoodStill l t) (t .token) u e .0))
 
   pub step-falls : step (propertiesAt table) edition s st .what ≡ what.Token u → measure s (step (propertiesAt table) edition s st .state) < measure s st
   unfolding step
-  step-falls = half-falls (isTail (getD s (reachOf l .byte .0) 0)) refl
+  step-falls =
+      by-half s table edition fit st ok Goal (λ _ e. absurd (let z : _≡_ {A = ℕ} 0 1 = cc in omega arith)) (λ _ _ _ g f. taken-falls _ g f)

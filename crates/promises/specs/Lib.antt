@@ -5,3 +5,5 @@ pub mod Property
 pub mod PropertyLaws
 pub mod Cluster
 pub mod ClusterLaws
+pub mod Demand3
+pub mod Demand3Laws

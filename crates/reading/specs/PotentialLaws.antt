@@ -6,21 +6,19 @@
 -- Assumes nothing.
 use Prim.Native.Nat.{ℕ, _+_, _*_, _≤_, _<_}
 use native.Mathlib.Omega.{arith}
-use mathlib.Core.Path.{_≡_, refl, sym, ap, subst, _∙_}
-use mathlib.Core.Bool.{Bool, true, false, false≢true}
+use mathlib.Core.Path.{_≡_, sym, ap, subst, _∙_}
+use mathlib.Core.Bool.{true, false, false≢true}
 use mathlib.Core.Logic.{_⊎_, inl, inr}
 use mathlib.Core.List.{List}
-use lib.ListN.{length, getD}
-use Rattle.base.specs.PickLaws.{by-test, split-lt}
+use lib.ListN.{length}
+use Rattle.base.specs.PickLaws.{by-test}
 use Rattle.position.specs.Place as place
 use Rattle.position.specs.declared.Place.{Place}
-use Rattle.utf8.specs.Read.{isTail}
 use Rattle.property.specs.Table.{propertiesAt}
 use Rattle.property.specs.FitLaws.{FitTable}
 use Rattle.token.specs.Kind.{curlyClose}
 use Rattle.token.specs.declared.Token.{Token}
-use Rattle.text.specs.Stands.{Stands, charsFrom}
-use Rattle.text.specs.FollowLaws.{here}
+use Rattle.text.specs.Stands.{Stands}
 use Rattle.state.specs.Lexer.{reachOf, plainToken, settled}
 use Rattle.state.specs.State.{startState}
 use Rattle.state.specs.Stack.{top, changed, codesOf, stackOf}
@@ -28,14 +26,13 @@ use Rattle.state.specs.declared.Change.the-variants.{Keep, Pop}
 use Rattle.state.specs.declared.Lexer.{Lexer}
 use Rattle.state.specs.declared.State.{State}
 use Rattle.state.specs.declared.Taken.{Taken}
-use Rattle.lexer.specs.GetNextToken.{oneByte, takeToken}
+use Rattle.lexer.specs.GetNextToken.{oneByte}
 use Rattle.lexer.specs.Step.{isFull, stoodStill, whatOf, halfOf, half, step}
-use Rattle.lexer.specs.ArmLaws.{remaining-end, remaining-inside, half-none, half-some}
 use Rattle.lexer.specs.StepLaws.{step-stack, change-same}
-use Rattle.lexer.specs.FineLaws.{Goes, take-goes}
+use Rattle.lexer.specs.FineLaws.{Goes}
 use Rattle.lexer.specs.FallsLaws as falls
-use Rattle.lexer.specs.FallsLaws.{Falls, take-falls}
-use Rattle.lexer.specs.MeasureLaws.{still-is}
+use Rattle.lexer.specs.FallsLaws.{Falls}
+use Rattle.lexer.specs.CasesLaws.{still-is, by-half}
 use Rattle.lexer.specs.Invariant.{Ok}
 use Rattle.lexer.specs.declared.Half.{Half}
 use Rattle.lexer.specs.declared.Step.{Step}
@@ -122,30 +119,11 @@ module _ (s table : List ℕ) (edition : ℕ) (fit : FitTable table) (st : State
         by-test Fair (isFull (t .change) (l .depth)) (λ e. record { due = stops (fits e); nested = nest })
         (λ _. record { due = taken-due; nested = change-nested s i j ms (t .change) asks nest })
 
-  some-fair : isTail (getD s i 0) ≡ false → i < length s → Fair halved
-  some-fair e h =
-      let w = ok .fine .whole e in
-      let o : Stands s (reachOf (settled l)) =
-      record { small = ok .fine .small; inside = ok .fine .inside; well = w; lines = ok .fine .lines; columns = ok .fine .columns } in
-      let c = here s i w h in
-      subst Fair (sym (half-some (propertiesAt table) edition s l e w h))
-      (taken-fair (takeToken (propertiesAt table) edition (charsFrom s (reachOf l)) (settled l)) h
-      (take-goes s (settled l) o h table edition fit (ok .marked)) (take-paid s (settled l) (propertiesAt table) edition o)
-      (subst (λ (cs : List ℕ). Falls (settled l) (takeToken (propertiesAt table) edition cs (settled l))) (sym (c .at .step))
-      (take-falls (settled l) (propertiesAt table) edition (c .code) _))
-      (λ z. let b = closes-is s i (top ms) z in take-closes s (settled l) table edition fit (ok .agrees .mode ∙ b .0) (b .1)))
-
-  none-fair : halved ≡ record { what = what.End; lexer = l; change = Keep } → Fair halved
-  none-fair q = subst Fair (sym q) (record { due = tt; nested = nest })
-
-  half-fair : (b : Bool) → isTail (getD s i 0) ≡ b → Fair halved
-  half-fair true e = none-fair (half-none (propertiesAt table) edition s l (remaining-inside s i e))
-  half-fair false e =
-      split-lt i (length s) (λ h. some-fair e h)
-      (λ h. none-fair (half-none (propertiesAt table) edition s l (remaining-end s i h)))
-
   fair : Fair halved
-  fair = half-fair (isTail (getD s i 0)) refl
+  fair =
+      by-half s table edition fit st ok Fair (λ _. record { due = tt; nested = nest })
+      (λ o h _ g f. taken-fair _ h g (take-paid s (settled l) (propertiesAt table) edition o) f
+      (λ z. let b = closes-is s i (top ms) z in take-closes s (settled l) table edition fit (ok .agrees .mode ∙ b .0) (b .1)))
 
   stack-is : stackOf (stepped .state .modes) ≡ changed (halved .change) ms
   stack-is = step-stack (propertiesAt table) edition s st (ok .agrees)

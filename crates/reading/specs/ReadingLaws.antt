@@ -2,7 +2,7 @@
 --     same-steps      any number of steps that is large enough gives the same
 --     reading-step    the reading from a state is its step, and the reading from the state after it
 -- Assumes nothing.
-use Prim.Native.Nat.{ℕ, zero, suc, _+_, _<_}
+use Prim.Native.Nat.{ℕ, zero, suc, _<_}
 use native.Mathlib.Omega.{arith}
 use mathlib.Core.Path.{_≡_, refl, ap}
 use mathlib.Core.List.{List}

@@ -1,7 +1,7 @@
 -- The loop of `read_on`, on plain values: what holds at its head, and what each way out and each turn owes. What completes the list from here
 -- completes it from the start.
 -- Assumes nothing.
-use Prim.Native.Nat.{ℕ, _+_, _/_, _≤_, _<_}
+use Prim.Native.Nat.{ℕ, _+_, _≤_, _<_}
 use native.Mathlib.Omega.{arith}
 use mathlib.Core.Path.{_≡_, refl, sym, ap, subst, _∙_}
 use mathlib.Core.List.{List}
