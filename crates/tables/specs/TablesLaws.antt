@@ -1,14 +1,14 @@
 -- Laws of `Tables`.
 --     in-row    what `read_table` ensures, told by the count alone
 -- Assumes nothing.
-use Prim.Native.Nat.{ℕ, _<_, _≤_}
+use Prim.Native.Nat.{ℕ, _≤_}
 use native.Mathlib.Omega.{arith}
-use mathlib.Core.Path.{_≡_, refl, sym, ap, subst, _∙_}
+use mathlib.Core.Path.{_≡_, refl, sym, ap, _∙_}
 use mathlib.Core.List.{List, _++_}
 use lib.ListN.{length, take, drop, length-take}
 use lib.Seq.{take-append-seam, drop-append-seam}
 use Rattle.io.specs.Counts.{Counts}
-use Rattle.property.specs.FitLaws.{FitTable, fit-of}
+use Rattle.property.specs.FitLaws.{fit-of}
 use Rattle.property.specs.File.{numbersOf, rowAfter, readTable, ReadTableIs}
 use Rattle.property.specs.FileLaws.{Bytes, FileRead, file-of-read}
 use Rattle.property.specs.declared.file.TableFile.{TableFile}
@@ -28,8 +28,10 @@ module _ (file old new : List ℕ) (small : Bytes file) where
   filled : (n : ℕ) → readTable file (length old) ≡ Read n → new ≡ numbersOf file ++ drop n old → Told old new n
   filled n e is =
       let f : FileRead file (length old) n = file-of-read file small (length old) n e in
-      let ended : (after : List ℕ) → take n (numbersOf file ++ after) ≡ numbersOf file = λ after. rw (f .count) (take-append-seam (numbersOf file) after) in
-      let begun : (after : List ℕ) → drop n (numbersOf file ++ after) ≡ after = λ after. rw (f .count) (drop-append-seam (numbersOf file) after) in
+      let ended : (after : List ℕ) → take n (numbersOf file ++ after) ≡ numbersOf file =
+      λ after. rw (f .count) (take-append-seam (numbersOf file) after) in
+      let begun : (after : List ℕ) → drop n (numbersOf file ++ after) ≡ after =
+      λ after. rw (f .count) (drop-append-seam (numbersOf file) after) in
       let front : take n new ≡ numbersOf file = rw is (ended (drop n old)) in
       let counts : n ≡ length (take n new) = f .count ∙ sym (ap length front) in
       let within : n ≤ length new = omega (arith, counts, length-take n new) in

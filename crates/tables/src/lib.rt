@@ -14,6 +14,7 @@ pub fn row_buffer() -> [u32; 8000]
     [0; 8000]
 }
 
+// How many numbers an answer of `read_table` says that were read.
 fn count_in(said: TableFile) -> usize
     ensures { λ r. ⌜ r ≡ countIn said ⌝ }
 {
@@ -33,6 +34,7 @@ fn table_in(file: &[u8], row: &mut [u32]) -> usize
     count_in(property::read_table(file, row))
 }
 
+// Says how many runs the table of that name has, or that it was refused.
 fn print(name: &[u8], count: usize) {
     io::write_all(STDOUT_FILENO, name);
     if count == 0 {
