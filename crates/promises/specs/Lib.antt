@@ -7,3 +7,5 @@ pub mod Cluster
 pub mod ClusterLaws
 pub mod Demand3
 pub mod Demand3Laws
+pub mod Cases
+pub mod CasesLaws

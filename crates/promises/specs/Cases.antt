@@ -1,0 +1,90 @@
+-- The cases that document 01 marks P in "Scripts and format strings to try", as one table: each is a call with its bytes, and what that gives.
+-- `CasesLaws.all-cases` proves all of them, over the definitions that the contracts cite. Bytes are decoded and looked up in the small table.
+-- A call of another kind is one more constructor of `Call` and of `Gives`, and one more line of `run`.
+-- Assumes nothing.
+use Prim.Native.Nat.{ℕ}
+use mathlib.Core.List.{List, [], _∷_}
+use Rattle.property.specs.Small.{smallTable}
+use Rattle.token.specs.Kind.{error, commentMulti, id, stringStart, stringEnd, stringLiteral, dot, else, elseIf}
+use Rattle.token.specs.declared.rows.Row.{Row}
+use Rattle.words.specs.Words.{bytes}
+use Rattle.reading.specs.Scan.{scanned, written}
+use Rattle.reading.specs.declared.Scanned.{Scanned}
+use Rattle.reading.specs.declared.Scanned.the-variants.{End, Stuck}
+
+-- ---- what a case is
+
+-- a call and its bytes
+pub data Call : Type 0 where
+  -- a scan with the small table, into a list that has the list program's room
+  scan : List ℕ → Call
+
+-- what a call gives
+pub data Gives : Type 0 where
+  -- a scan's answer, and the records that it writes
+  records : Scanned → List Row → Gives
+
+pub record Case : Type 0 where
+  pub call : Call
+  pub gives : Gives
+
+-- how many records the list program has room for
+abbrev pub listRoom : ℕ
+listRoom = 1365
+
+-- what the definitions give for a call
+abbrev pub run : Call → Gives
+run (scan source) = records (scanned source smallTable listRoom) (written source smallTable listRoom)
+
+-- what the definitions give for a case, and what the case says
+abbrev pub ran : Case → Gives
+ran c = run (c .call)
+
+abbrev pub want : Case → Gives
+want c = c .gives
+
+-- ---- how a case is written
+
+-- a scan of these bytes, its answer and its records
+abbrev scans : List ℕ → Scanned → List Row → Case
+scans source answer rows = record { call = scan source; gives = records answer rows }
+
+-- a record by its nine numbers, in the order in which the list program prints them: kind, detail, byte start, byte end, start line, start
+-- column, end line, end column, indent
+abbrev row : ℕ → ℕ → ℕ → ℕ → ℕ → ℕ → ℕ → ℕ → ℕ → Row
+row kind detail start end startLine startColumn endLine endColumn indent =
+    record {
+      kind = kind;
+      detail = detail;
+      start = start;
+      end = end;
+      «start_line» = startLine;
+      «start_column» = startColumn;
+      «end_line» = endLine;
+      «end_column» = endColumn;
+      indent = indent;
+    }
+
+-- ---- the table
+
+-- document 01 names statuses, kinds and byte ranges; the numbers that it leaves out are those that koto's lexer gave, asked by
+-- `oracle tokens --table small.kpt`
+abbrev pub cases : List Case
+cases =
+    -- the empty source
+    scans [] (End 0 0) []
+    -- "\r": an Error that stands still
+    ∷ scans (13 ∷ []) (Stuck 1 0) (row error 0 0 0 0 0 0 0 0 ∷ [])
+    ∷ scans (bytes "#-#") (End 1 3) (row commentMulti 0 0 3 0 0 0 3 0 ∷ [])
+    -- a raw string with no hashes has detail 2
+    ∷ scans (bytes "r\"\"") (End 3 3)
+    (row stringStart 2 0 2 0 0 0 2 0 ∷ row stringLiteral 0 2 2 0 2 0 2 0 ∷ row stringEnd 0 2 3 0 2 0 3 0 ∷ [])
+    ∷ scans (bytes "else iffy") (End 2 9) (row elseIf 0 0 7 0 0 0 7 0 ∷ row id 0 7 9 0 7 0 9 0 ∷ [])
+    -- behind a dot "if" is a name, and "else" is not
+    ∷ scans (bytes "x.if") (End 3 4) (row id 0 0 1 0 0 0 1 0 ∷ row dot 0 1 2 0 1 0 2 0 ∷ row id 0 2 4 0 2 0 4 0 ∷ [])
+    ∷ scans (bytes "x.else") (End 3 6) (row id 0 0 1 0 0 0 1 0 ∷ row dot 0 1 2 0 1 0 2 0 ∷ row else 0 2 6 0 2 0 6 0 ∷ [])
+    -- U+6F22 U+5B57: the first letter of a name counts one column, whatever its width
+    ∷ scans (0xe6 ∷ 0xbc ∷ 0xa2 ∷ 0xe5 ∷ 0xad ∷ 0x97 ∷ []) (End 1 6) (row id 0 0 6 0 0 0 3 0 ∷ [])
+    -- U+20AC: an unknown symbol advances one byte, and inside a character nothing is left to read
+    ∷ scans (0xe2 ∷ 0x82 ∷ 0xac ∷ []) (End 1 1) (row error 0 0 1 0 0 0 1 0 ∷ [])
+    ∷ []
