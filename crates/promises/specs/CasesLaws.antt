@@ -10,7 +10,8 @@ use Rattle.property.specs.Fit.{startOk, propertiesOk, runOk, tableCheck}
 use Rattle.property.specs.Small.{smallTable}
 use Rattle.property.specs.Table.{lastFrom}
 use Rattle.cluster.specs.First.{goOn}
-use Rattle.cluster.specs.Uax29.{isControl, gb3, gb6, gb7, gb8, gb9, pairRule, endsPict, endsPictZwj, endsOdd, endsConsonant, endsLinked, gb9c, gb11, gb12}
+use Rattle.cluster.specs.Uax29.{isControl, gb3, gb6, gb7, gb8, gb9, gb9c, gb11, gb12}
+use Rattle.cluster.specs.Uax29.{pairRule, endsPict, endsPictZwj, endsOdd, endsConsonant, endsLinked}
 use Rattle.words.specs.Words.{isWord, startsWith, firstIn, keywordOf, symbolIn, symbolOf}
 use Rattle.text.specs.Ascii.{asciiProperties}
 use Rattle.text.specs.Count.{bytesOf, countWhile, runUtf8}
@@ -33,7 +34,14 @@ use Rattle.reading.specs.Scan.{endOf, scanned, written}
 use Rattle.promises.specs.Cases.{ran, want, cases}
 
 unfoldable pub reads-computed : Unit {0}
-unfolding computes firstBad startOk propertiesOk runOk tableCheck smallTable lastFrom goOn isControl gb3 gb6 gb7 gb8 gb9 pairRule endsPict endsPictZwj endsOdd endsConsonant endsLinked gb9c gb11 gb12 isWord startsWith firstIn keywordOf symbolIn symbolOf asciiProperties bytesOf countWhile runUtf8 nextIs dropBytes followIn turnAt inRange isWhitespace isBinaryDigit isOctalDigit isDecimalDigit isHexDigit isLineEnd testOf testUtf8 top rest codesOf commentTurn consumeCommentMulti consumeComment lineFeed consumeNewline hashes quoteTurn rawTurn consumeRawStringContents escapeTurn literalTurn consumeStringLiteral plainTurn isAligned skipBytes findBrace consumeFormatOptions nameEnd parseRawStringStart keywordOrId rawOrName nameToken nextPasses exponentBytes isFraction fractionBytes tailBytes zeroBytes numberBytes symbolChange inLiteral inCode takeToken remainingAt stoodStill half step readIn readFrom endOf scanned written
+unfolding computes firstBad startOk propertiesOk runOk tableCheck smallTable lastFrom goOn isControl gb3 gb6 gb7 gb8 gb9 pairRule endsPict
+    endsPictZwj endsOdd endsConsonant endsLinked gb9c gb11 gb12 isWord startsWith firstIn keywordOf symbolIn symbolOf
+    asciiProperties bytesOf countWhile runUtf8 nextIs dropBytes followIn turnAt inRange isWhitespace isBinaryDigit isOctalDigit
+    isDecimalDigit isHexDigit isLineEnd testOf testUtf8 top rest codesOf commentTurn consumeCommentMulti consumeComment lineFeed
+    consumeNewline hashes quoteTurn rawTurn consumeRawStringContents escapeTurn literalTurn consumeStringLiteral plainTurn isAligned
+    skipBytes findBrace consumeFormatOptions nameEnd parseRawStringStart keywordOrId rawOrName nameToken nextPasses exponentBytes
+    isFraction fractionBytes tailBytes zeroBytes numberBytes symbolChange inLiteral inCode takeToken remainingAt stoodStill half
+    step readIn readFrom endOf scanned written
 reads-computed = tt
 
 pub all-cases : map ran cases ≡ map want cases

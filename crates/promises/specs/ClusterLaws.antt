@@ -6,15 +6,13 @@ use native.Mathlib.Omega.{arith}
 use mathlib.Core.Path.{_≡_, refl, sym, ap, _∙_}
 use mathlib.Core.List.{List, [], _∷_}
 use lib.ListN.{length, take}
-use lib.Seq.{take-length}
 use borrow.Author.Tests.{lt-ltb, le-ltb}
 use Rattle.base.specs.Refusal.{sourceMost}
 use Rattle.utf8.specs.Encode.{encodeAll, WellFormed}
 use Rattle.utf8.specs.Chars.{chars, checkFrom}
-use Rattle.utf8.specs.Meaning.{Longest, CheckIs}
+use Rattle.utf8.specs.Meaning.{Longest}
 use Rattle.utf8.specs.MeaningLaws.{check-is}
 use Rattle.utf8.specs.declared.Utf8Check.{Utf8Check}
-use Rattle.utf8.specs.declared.Utf8Check.the-variants.{Fine, BadAt, CutAt}
 use Rattle.property.specs.Table.{propertiesAt}
 use Rattle.property.specs.Fit.{tableCheck}
 use Rattle.property.specs.declared.table.TableCheck.the-variants.{Fit, BadTable}
@@ -25,7 +23,7 @@ use Rattle.cluster.specs.CallLaws.{unrefused, no-bytes}
 use Rattle.cluster.specs.declared.Cluster.{Cluster}
 use Rattle.cluster.specs.declared.Cluster.the-variants as answer
 use Rattle.promises.specs.Said.{Said, says}
-use Rattle.promises.specs.Utf8Laws.{one-longest}
+use Rattle.promises.specs.Utf8Laws.{ill-formed}
 use Rattle.promises.specs.Cluster.{FirstClusterEnsures, clusterSays, FirstClusterPromise}
 
 module _ (source table : List ℕ) where
@@ -38,16 +36,14 @@ module _ (source table : List ℕ) where
   unfit h i e = rw (le-ltb sourceMost (length source) h, e)
 
   -- wrong bytes and cut ones alike
-  by-check : (r : Utf8Check) (a : Cluster) (n : ℕ) → Longest source n → CheckIs source r → onUtf8 r a ≡ answer.BadUtf8 n
-  by-check Fine a n l w = absurd (l .none-longer (length source) (l .short) (omega arith) (rw (take-length source) w))
-  by-check (BadAt m) a n l w = ap answer.BadUtf8 (one-longest source m n (w .0) l)
-  by-check (CutAt m) a n l w = ap answer.BadUtf8 (one-longest source m n (w .0) l)
+  by-check : (a : Cluster) (n : ℕ) → Longest source n → onUtf8 (checkFrom 0 source) a ≡ answer.BadUtf8 n
+  by-check a n l =
+      ill-formed source n (λ (r : Utf8Check). onUtf8 r a ≡ answer.BadUtf8 n) (checkFrom 0 source) l
+      (check-is source (checkFrom 0 source) refl) refl refl
 
   ill : length source ≤ sourceMost → tableCheck table ≡ Fit → (n : ℕ) → Longest source n → firstCluster source table ≡ answer.BadUtf8 n
   unfolding firstCluster
-  ill h e n l =
-      rw (le-ltb sourceMost (length source) h, e)
-      (by-check (checkFrom 0 source) _ n l (check-is source (checkFrom 0 source) refl))
+  ill h e n l = rw (le-ltb sourceMost (length source) h, e) (by-check _ n l)
 
   -- the one shortest beginning is the one that is computed
   sized : (cs : List ℕ) (n : ℕ) → Shortest baseEdition (propertiesAt table) cs n → firstSize baseEdition (propertiesAt table) cs ≡ n

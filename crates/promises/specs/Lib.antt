@@ -9,3 +9,7 @@ pub mod Demand3
 pub mod Demand3Laws
 pub mod Cases
 pub mod CasesLaws
+pub mod Scan
+pub mod ScanLaws
+pub mod WrongScans
+pub mod WrongScansLaws

@@ -2,10 +2,11 @@
 --     read-char-promise, read-char-has-one-answer
 --     check-utf8-promise, check-utf8-has-one-answer
 --     one-longest      there is one longest well-formed beginning
+--     ill-formed       ill-formed bytes, for a caller to whom wrong ones and cut ones are one refusal
 -- Assumes nothing.
 use Prim.Native.Nat.{ℕ, _<_, _≤_}
 use native.Mathlib.Omega.{arith}
-use mathlib.Core.Path.{_≡_, refl, sym, ap, _∙_}
+use mathlib.Core.Path.{_≡_, refl, sym, ap, subst, _∙_}
 use mathlib.Core.List.{List}
 use lib.ListN.{length}
 use lib.Seq.{take-length}
@@ -35,11 +36,15 @@ not-longer s m n l k = split-lt m n (λ h. absurd (l .none-longer n h (omega (ar
 pub one-longest : (s : List ℕ) (m n : ℕ) → Longest s m → Longest s n → m ≡ n
 one-longest s m n l k = omega (arith, not-longer s m n l k, not-longer s n m k l)
 
+-- what holds of both refusals at the end of that beginning holds of the answer
+pub ill-formed : (s : List ℕ) (n : ℕ) (P : Utf8Check → Type 0) (r : Utf8Check) → Longest s n → CheckIs s r → P (BadAt n) → P (CutAt n) → P r
+ill-formed s n P Fine l w bad cut = absurd (l .none-longer (length s) (l .short) (omega arith) (rw (take-length s) w))
+ill-formed s n P (BadAt m) l w bad cut = subst (λ (i : ℕ). P (BadAt i)) (one-longest s n m l (w .0)) bad
+ill-formed s n P (CutAt m) l w bad cut = subst (λ (i : ℕ). P (CutAt i)) (one-longest s n m l (w .0)) cut
+
 -- what an answer says, by what it means
 refused-at : (s : List ℕ) (n : ℕ) (r : Utf8Check) → Longest s n → CheckIs s r → checkSays r ≡ says badUtf8 n
-refused-at s n Fine l w = absurd (l .none-longer (length s) (l .short) (omega arith) (rw (take-length s) w))
-refused-at s n (BadAt m) l w = ap (says badUtf8) (one-longest s m n (w .0) l)
-refused-at s n (CutAt m) l w = ap (says badUtf8) (one-longest s m n (w .0) l)
+refused-at s n r l w = ill-formed s n (λ (x : Utf8Check). checkSays x ≡ says badUtf8 n) r l w refl refl
 
 fine-at : (s : List ℕ) (r : Utf8Check) → WellFormed s → CheckIs s r → checkSays r ≡ says none 0
 fine-at s r w m = ap checkSays (one-check s r Fine m w)

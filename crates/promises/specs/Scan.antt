@@ -1,0 +1,94 @@
+-- The promise of `scan::scan`, case by case in document 01's order: 1, 2, 3, then the records of the source's reading, as many as have room,
+-- with a status, or refusal 4 or 5. What it ensures is `Scans`.
+-- Assumes nothing.
+use Prim.Native.Nat.{ℕ, _<_, _≤_}
+use mathlib.Core.Path.{_≡_}
+use mathlib.Core.List.{List}
+use lib.ListN.{length, take}
+use Rattle.base.specs.Refusal.{none, tooLong, badTable, badUtf8, listFull, modesFull, sourceMost}
+use Rattle.utf8.specs.Encode.{WellFormed}
+use Rattle.utf8.specs.Meaning.{Longest}
+use Rattle.property.specs.Fit.{tableCheck}
+use Rattle.property.specs.declared.table.TableCheck.the-variants.{Fit, BadTable}
+use Rattle.token.specs.Row.{room, putRows}
+use Rattle.token.specs.declared.rows.Row.{Row}
+use Rattle.reading.specs.Reading as reading
+use Rattle.reading.specs.Scan.{endOf, readingOf, numberOf, placeOf, countOf}
+use Rattle.reading.specs.declared.Scanned.{Scanned}
+use Rattle.reading.specs.declared.Scanned.the-variants as answer
+use Rattle.promises.specs.Said.{Said, says}
+
+-- ---- what a scan says
+
+-- how it ended; a refusal has no status
+pub data Status : Type 0 where
+  end : Status
+  stuck : Status
+  refused : Status
+
+abbrev pub statusOf : Scanned → Status
+statusOf (answer.End n b) = end
+statusOf (answer.Stuck n b) = stuck
+statusOf answer.TooLong = refused
+statusOf (answer.BadTable i) = refused
+statusOf (answer.BadUtf8 i) = refused
+statusOf (answer.ListFull n b) = refused
+statusOf (answer.ModesFull n b) = refused
+
+-- the status, the count of records written, and the number and its place; the place is the current byte where there is no refusal
+pub record ScanSaid : Type 0 where
+  pub status : Status
+  pub count : ℕ
+  pub said : Said
+
+abbrev pub scanSays : Scanned → ScanSaid
+scanSays r = record { status = statusOf r; count = countOf r; said = says (numberOf r) (placeOf r) }
+
+-- no refusal: a status, a count and the current byte
+abbrev pub ends : Status → ℕ → ℕ → ScanSaid
+ends status count byte = record { status = status; count = count; said = says none byte }
+
+-- a refusal: its number and place, and a count
+abbrev pub refuses : ℕ → ℕ → ℕ → ScanSaid
+refuses number place count = record { status = refused; count = count; said = says number place }
+
+-- ---- the promise
+
+-- refusals 1, 2 and 3 are not given
+pub record Readable (source table : List ℕ) : Type 0 where
+  pub short : length source ≤ sourceMost
+  pub fit : tableCheck table ≡ Fit
+  pub well : WellFormed source
+
+-- the records of the source's reading, and why it stops
+abbrev pub rows : List ℕ → List ℕ → List Row
+rows source table = readingOf source table .rows
+
+abbrev pub stop : List ℕ → List ℕ → reading.Stop
+stop source table = readingOf source table .stop
+
+-- the cases shut each other out, and leave nothing out. The current byte is where the last record that was written ends (0 where there is none)
+pub record ScanPromise (source table old : List ℕ) (r : Scanned) (new : List ℕ) : Type 0 where
+  -- 1, 2, 3: no record, and the list stays
+  pub too-long : sourceMost < length source → (scanSays r ≡ refuses tooLong 0 0) × (new ≡ old)
+  pub bad-table : length source ≤ sourceMost → (i : ℕ) → tableCheck table ≡ BadTable i
+      → (scanSays r ≡ refuses badTable i 0) × (new ≡ old)
+  pub bad-utf8 : length source ≤ sourceMost → tableCheck table ≡ Fit → (n : ℕ) → Longest source n
+      → (scanSays r ≡ refuses badUtf8 n 0) × (new ≡ old)
+  -- all records have room, and the Rust would answer None
+  pub ended : Readable source table → stop source table ≡ reading.ended → length (rows source table) ≤ room old
+      → scanSays r ≡ ends end (length (rows source table)) (endOf 0 (rows source table))
+  -- all records have room, and the last is an Error that advanced nothing
+  pub is-stuck : Readable source table → stop source table ≡ reading.stuck → length (rows source table) ≤ room old
+      → scanSays r ≡ ends stuck (length (rows source table)) (endOf 0 (rows source table))
+  -- 4: a token is left to read, and its record has no room
+  pub list-full : Readable source table → room old < length (rows source table)
+      → scanSays r ≡ refuses listFull (endOf 0 (take (room old) (rows source table))) (room old)
+  -- 4 comes before 5, where the token that is left would push a 65th mode
+  pub full-before-deep : Readable source table → stop source table ≡ reading.deep → length (rows source table) ≡ room old
+      → scanSays r ≡ refuses listFull (endOf 0 (rows source table)) (room old)
+  -- 5: that token's record has room
+  pub modes-full : Readable source table → stop source table ≡ reading.deep → length (rows source table) < room old
+      → scanSays r ≡ refuses modesFull (endOf 0 (rows source table)) (length (rows source table))
+  -- every word: the records that have room, and then what was there before
+  pub words : Readable source table → new ≡ putRows old (take (room old) (rows source table))

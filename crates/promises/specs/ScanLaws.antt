@@ -1,0 +1,205 @@
+-- The promise of `Scan`, proved, and that no second answer and no second list fits.
+--     scan-promise, scan-has-one-answer
+--     scan-same-in-more-room    a list with more room gets the same records and the same answer, unless there was too little
+--     count-is-written          the count is that of the records written
+-- Assumes nothing.
+use Prim.Native.Nat.{ℕ, _+_, _-_, _<_, _≤_}
+use native.Mathlib.Omega.{arith}
+use mathlib.Core.Path.{_≡_, refl, sym, ap, subst, _∙_}
+use mathlib.Core.Bool.{Bool, true, false}
+use mathlib.Core.List.{List, []}
+use lib.Dec.{ltb}
+use lib.ListN.{length, take}
+use lib.Seq.{take-all, length-take-le}
+use borrow.Author.Tests.{lt-ltb, le-ltb}
+use Rattle.base.specs.Pick.{pick}
+use Rattle.base.specs.PickLaws.{by-test, by-lt, split-lt}
+use Rattle.base.specs.Refusal.{listFull, sourceMost}
+use Rattle.utf8.specs.Chars.{checkFrom}
+use Rattle.utf8.specs.CharsLaws.{fine-of-well}
+use Rattle.utf8.specs.Meaning.{Longest}
+use Rattle.utf8.specs.MeaningLaws.{check-is}
+use Rattle.utf8.specs.declared.Utf8Check.{Utf8Check}
+use Rattle.utf8.specs.declared.Utf8Check.the-variants as utf8
+use Rattle.property.specs.Fit.{tableCheck}
+use Rattle.property.specs.declared.table.TableCheck.{TableCheck}
+use Rattle.property.specs.declared.table.TableCheck.the-variants.{Fit, BadTable}
+use Rattle.token.specs.Row.{room, putRows, putRowsAt}
+use Rattle.token.specs.RowLaws.{rows-one-by-one}
+use Rattle.token.specs.declared.rows.Row.{Row}
+use Rattle.reading.specs.Reading as reading
+use Rattle.reading.specs.Scan.{endOf, whole, byRoom, onTable, onUtf8, readingOf, scanned, writtenBy, written, Scans, numberOf, countOf}
+use Rattle.reading.specs.ScanLaws.{scans-long, scans-bad-table, scans-bad, scans-cut, scans-fine, one-answer}
+use Rattle.reading.specs.declared.Scanned.{Scanned}
+use Rattle.reading.specs.declared.Scanned.the-variants as answer
+use Rattle.promises.specs.Utf8Laws.{ill-formed}
+use Rattle.promises.specs.Scan.{scanSays, Readable, rows, stop, ScanPromise}
+
+-- ---- by the room
+
+-- no record comes before the reading's
+none-before : (k : ℕ) → 0 + k ≡ k
+none-before k = omega arith
+
+module _ (n : ℕ) (q : reading.Reading) where
+  all-fit : length (q .rows) ≤ n → byRoom n 0 0 q ≡ whole n (length (q .rows)) (endOf 0 (q .rows)) (q .stop)
+  all-fit h = rw (none-before (length (q .rows)), le-ltb n (length (q .rows)) h)
+
+  not-all-fit : n < length (q .rows) → byRoom n 0 0 q ≡ answer.ListFull n (endOf 0 (take n (q .rows)))
+  not-all-fit h = let z : n - 0 ≡ n = omega arith in rw (none-before (length (q .rows)), lt-ltb n (length (q .rows)) h, z)
+
+-- a token is left that would push a 65th mode: 4 where its record has no room, and else 5
+module _ (n k b : ℕ) where
+  no-room : k ≡ n → whole n k b reading.deep ≡ answer.ListFull n b
+  no-room e = rw (le-ltb k n (omega arith), e)
+
+  has-room : k < n → whole n k b reading.deep ≡ answer.ModesFull k b
+  has-room h = rw (lt-ltb k n h)
+
+-- ---- the promise
+
+module _ (source table old : List ℕ) where
+  abbrev n : ℕ
+  n = room old
+
+  -- wrong bytes and cut ones alike
+  ill : length source ≤ sourceMost → tableCheck table ≡ Fit → (i : ℕ) → Longest source i → Scans source table old (answer.BadUtf8 i) old
+  ill h f i l =
+      ill-formed source i (λ (c : Utf8Check). checkFrom 0 source ≡ c → Scans source table old (answer.BadUtf8 i) old) (checkFrom 0 source) l
+      (check-is source (checkFrom 0 source) refl) (λ e. scans-bad h f e) (λ e. scans-cut h f e) refl
+
+  -- where no refusal of 1 to 3 is given
+  read : Readable source table
+      → Scans source table old (byRoom n 0 0 (readingOf source table)) (putRowsAt old 0 (take (n - 0) (rows source table)))
+  read g = scans-fine (g .short) (g .fit) (fine-of-well 0 source (g .well)) refl (record { answer = refl; words = refl })
+
+  module _ (r : Scanned) (new : List ℕ) (p : Scans source table old r new) where
+    -- a refusal that writes nothing
+    kept : {x : Scanned} → Scans source table old x old → (scanSays r ≡ scanSays x) × (new ≡ old)
+    kept {x} q = let both = one-answer source table old r x new old p q in (ap scanSays (both .0), both .1)
+
+    by-reading : Readable source table → r ≡ byRoom n 0 0 (readingOf source table)
+    by-reading g = one-answer source table old r _ new _ p (read g) .0
+
+    -- all records have room
+    by-stop : Readable source table → {why : reading.Stop} → stop source table ≡ why → length (rows source table) ≤ n
+        → r ≡ whole n (length (rows source table)) (endOf 0 (rows source table)) why
+    by-stop g e h =
+        by-reading g ∙ all-fit n (readingOf source table) h ∙ ap (whole n (length (rows source table)) (endOf 0 (rows source table))) e
+
+    pub scan-promise : ScanPromise source table old r new
+    scan-promise =
+        let k : ℕ = length (rows source table) in
+        let z : n - 0 ≡ n = omega arith in
+        record {
+          too-long = λ h. kept (scans-long h);
+          bad-table = λ h i e. kept (scans-bad-table h e);
+          bad-utf8 = λ h f i l. kept (ill h f i l);
+          ended = λ g e h. ap scanSays (by-stop g e h);
+          is-stuck = λ g e h. ap scanSays (by-stop g e h);
+          list-full = λ g h. ap scanSays (by-reading g ∙ not-all-fit n (readingOf source table) h);
+          full-before-deep = λ g e h. ap scanSays (by-stop g e (omega arith) ∙ no-room n k (endOf 0 (rows source table)) h);
+          modes-full = λ g e h. ap scanSays (by-stop g e (omega arith) ∙ has-room n k (endOf 0 (rows source table)) h);
+          words = λ g. one-answer source table old r _ new _ p (read g) .1 ∙ ap (λ (i : ℕ). putRowsAt old 0 (take i (rows source table))) z
+              ∙ rows-one-by-one old (take n (rows source table));
+        }
+
+pub scan-has-one-answer : (source table old : List ℕ) (r q : Scanned) (new other : List ℕ) → Scans source table old r new
+    → Scans source table old q other → (r ≡ q) × (new ≡ other)
+scan-has-one-answer source table old r q new other a b = one-answer source table old r q new other a b
+
+-- ---- any answer, by its cases
+
+-- what refusals 1 to 3 make of an answer
+abbrev refusing : List ℕ → List ℕ → Scanned → Scanned
+refusing source table r = pick (ltb sourceMost (length source)) answer.TooLong (onTable (tableCheck table) (onUtf8 (checkFrom 0 source) r))
+
+-- they give one answer to all, or leave each as it is
+by-refusals : (P : (Scanned → Scanned) → Type 0) (source table : List ℕ)
+    → ((x : Scanned) → ((rows : List Row) → writtenBy x rows ≡ []) → countOf x ≡ 0 → P (λ _. x)) → P (λ r. r) → P (refusing source table)
+by-refusals P source table f g = by-length (ltb sourceMost (length source))
+  where
+    by-bytes : (c : Utf8Check) → P (λ r. onUtf8 c r)
+    by-bytes utf8.Fine = g
+    by-bytes (utf8.BadAt i) = f (answer.BadUtf8 i) (λ _. refl) refl
+    by-bytes (utf8.CutAt i) = f (answer.BadUtf8 i) (λ _. refl) refl
+
+    by-table : (t : TableCheck) (c : Utf8Check) → P (λ r. onTable t (onUtf8 c r))
+    by-table Fit c = by-bytes c
+    by-table (BadTable i) c = f (answer.BadTable i) (λ _. refl) refl
+
+    by-length : (b : Bool) → P (λ r. pick b answer.TooLong (onTable (tableCheck table) (onUtf8 (checkFrom 0 source) r)))
+    by-length true = f answer.TooLong (λ _. refl) refl
+    by-length false = by-table (tableCheck table) (checkFrom 0 source)
+
+-- ---- the count
+
+module _ (n : ℕ) (q : reading.Reading) where
+  -- x counts the records that it leaves
+  abbrev Counts : Scanned → Type 0
+  Counts x = countOf x ≡ length (writtenBy x (take n (q .rows)))
+
+  room-counts : Counts (byRoom n 0 0 q)
+  room-counts =
+      split-lt n (length (q .rows))
+      (λ h. subst Counts (sym (not-all-fit n q h)) (sym (length-take-le n (q .rows) (omega arith))))
+      (λ h. subst Counts (sym (all-fit n q h)) (stops (q .stop) (ap length (sym (take-all n (q .rows) h)))))
+    where
+      stops : (why : reading.Stop) → length (q .rows) ≡ length (take n (q .rows)) → Counts (whole n (length (q .rows)) (endOf 0 (q .rows)) why)
+      stops reading.ended e = e
+      stops reading.stuck e = e
+      stops reading.deep e = by-test Counts (ltb (length (q .rows)) n) (λ _. e) (λ _. e)
+
+counted : (source table : List ℕ) (n : ℕ) → countOf (scanned source table n) ≡ length (written source table n)
+unfolding scanned written
+counted source table n =
+    let q : reading.Reading = readingOf source table in
+    by-refusals (λ (g : Scanned → Scanned). Counts n q (g (byRoom n 0 0 q))) source table
+    (λ x w c. c ∙ ap length (sym (w (take n (q .rows))))) (room-counts n q)
+
+pub count-is-written : (source table old : List ℕ) (r : Scanned) (new : List ℕ) → Scans source table old r new
+    → countOf r ≡ length (written source table (room old))
+count-is-written source table old r new p = ap countOf (p .answer) ∙ counted source table (room old)
+
+-- ---- more room
+
+module _ (m n : ℕ) (le : m ≤ n) (q : reading.Reading) where
+  -- y, in the room n, is x in the room m, if x is not refusal 4
+  abbrev Agree : Scanned → Scanned → Type 0
+  Agree x y = (numberOf x ≡ listFull → ⊥) → (y ≡ x) × (writtenBy y (take n (q .rows)) ≡ writtenBy x (take m (q .rows)))
+
+  room-agrees : Agree (byRoom m 0 0 q) (byRoom n 0 0 q)
+  room-agrees =
+      split-lt m (length (q .rows)) (λ h full. absurd (full (ap numberOf (not-all-fit m q h))))
+      (λ h. let i : length (q .rows) ≤ n = omega arith in
+      subst (λ (x : Scanned). Agree x (byRoom n 0 0 q)) (sym (all-fit m q h))
+      (subst (Agree (whole m (length (q .rows)) (endOf 0 (q .rows)) (q .stop))) (sym (all-fit n q i))
+      (stops (length (q .rows)) (endOf 0 (q .rows)) (q .stop) (take-all n (q .rows) i ∙ sym (take-all m (q .rows) h)))))
+    where
+      stops : (k b : ℕ) (why : reading.Stop) → take n (q .rows) ≡ take m (q .rows) → Agree (whole m k b why) (whole n k b why)
+      stops k b reading.ended e = λ _. (refl, e)
+      stops k b reading.stuck e = λ _. (refl, e)
+      stops k b reading.deep e =
+          by-lt (λ (x : Scanned). Agree x (whole n k b reading.deep)) k m
+          (λ h. subst (Agree (answer.ModesFull k b)) (sym (has-room n k b (omega arith))) (λ _. (refl, e))) (λ _ full. absurd (full refl))
+
+module _ (source table : List ℕ) (m n : ℕ) (le : m ≤ n) where
+  agree : Agree m n le (readingOf source table) (scanned source table m) (scanned source table n)
+  unfolding scanned
+  agree =
+      let q : reading.Reading = readingOf source table in
+      by-refusals (λ (g : Scanned → Scanned). Agree m n le q (g (byRoom m 0 0 q)) (g (byRoom n 0 0 q))) source table
+      (λ x w _ _. (refl, w (take n (q .rows)) ∙ sym (w (take m (q .rows))))) (room-agrees m n le q)
+
+  same-rows : (numberOf (scanned source table m) ≡ listFull → ⊥) → written source table n ≡ written source table m
+  unfolding written
+  same-rows h = agree h .1
+
+pub scan-same-in-more-room : (source table old more : List ℕ) (r q : Scanned) (new other : List ℕ) → Scans source table old r new
+    → Scans source table more q other → room old ≤ room more → (numberOf r ≡ listFull → ⊥)
+    → (q ≡ r) × (other ≡ putRows more (written source table (room old)))
+scan-same-in-more-room source table old more r q new other a b le h =
+    let fits : numberOf (scanned source table (room old)) ≡ listFull → ⊥ = λ e. h (ap numberOf (a .answer) ∙ e) in (
+      b .answer ∙ agree source table (room old) (room more) le fits .0 ∙ sym (a .answer),
+      b .words ∙ ap (putRows more) (same-rows source table (room old) (room more) le fits),
+    )
