@@ -1,5 +1,5 @@
--- Document 01, "One answer to each call": the wrong scans that a contract must shut out. Each is a property that a scan may have, whatever else it
--- does; `WrongScansLaws` proves that none that meets the contract has it.
+-- Document 01, "One answer to each call": the wrong scans that the contract must shut out. Each is a property that a scan may have, whatever
+-- else it does; `WrongScansLaws` proves that none which meets the contract has it.
 -- Assumes nothing.
 use Prim.Native.Nat.{ℕ, _<_}
 use mathlib.Core.Path.{_≡_}
@@ -24,8 +24,8 @@ abbrev pub RefusesEverything : Scan → Type 0
 RefusesEverything f = (source table old : List ℕ) → numberOf (f source table old .0) ≡ none → ⊥
 
 -- or gives one fixed list: what it leaves does not depend on the source
-abbrev pub GivesOneFixedList : Scan → Type 0
-GivesOneFixedList f = (source other table old : List ℕ) → f source table old .1 ≡ f other table old .1
+abbrev pub OneFixedList : Scan → Type 0
+OneFixedList f = (source other table old : List ℕ) → f source table old .1 ≡ f other table old .1
 
 -- or writes nothing
 abbrev pub WritesNothing : Scan → Type 0

@@ -1,5 +1,5 @@
 -- The wrong scans of `WrongScans` do not meet the contract. The first four fail at cases that document 01 marks P, the last at any.
---     refuses-everything, gives-one-fixed-list, writes-nothing, first-token-then-stuck, counts-records-not-written
+--     refuses-everything, one-fixed-list, writes-nothing, first-token-then-stuck, counts-records-not-written
 -- Assumes nothing.
 use Prim.Native.Nat.{ℕ}
 use native.Mathlib.Omega.{arith}
@@ -12,7 +12,7 @@ use Rattle.words.specs.Words.{bytes}
 use Rattle.reading.specs.Scan.{written, numberOf}
 use Rattle.promises.specs.CasesLaws.{reads-computed}
 use Rattle.promises.specs.ScanLaws.{count-is-written}
-use Rattle.promises.specs.WrongScans.{Scan, Meets, RefusesEverything, GivesOneFixedList, WritesNothing}
+use Rattle.promises.specs.WrongScans.{Scan, Meets, RefusesEverything, OneFixedList, WritesNothing}
 use Rattle.promises.specs.WrongScans.{FirstTokenThenStuck, CountsRecordsNotWritten}
 
 -- a list of zeros with room for three records
@@ -39,9 +39,10 @@ module _ (f : Scan) (meets : Meets f) where
   unfolding reads-computed wordsOfAll putRows
   lone-return = ap (λ (l : List ℕ). getD l 0 0) (meets (13 ∷ []) smallTable zeros .words)
 
-  pub gives-one-fixed-list : GivesOneFixedList f → ⊥
-  gives-one-fixed-list wrong =
-      let same : firstWord (bytes "#-#") ≡ firstWord (13 ∷ []) = ap (λ (l : List ℕ). getD l 0 0) (wrong (bytes "#-#") (13 ∷ []) smallTable zeros) in
+  pub one-fixed-list : OneFixedList f → ⊥
+  one-fixed-list wrong =
+      let same : firstWord (bytes "#-#") ≡ firstWord (13 ∷ []) =
+      ap (λ (l : List ℕ). getD l 0 0) (wrong (bytes "#-#") (13 ∷ []) smallTable zeros) in
       omega (arith, comment, lone-return)
 
   pub writes-nothing : WritesNothing f → ⊥
