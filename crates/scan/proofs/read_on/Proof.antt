@@ -102,7 +102,8 @@ enum-told-2 c = search needs
 stuck-requires : tie.Need-stuck-requires Inv-loop μ-loop
 stuck-requires c κs =
     let at-half = c .before .before .before .before in
-    (rw (at-half .read-half .ensures) (bounds (at-half .before .loop .inv)), at-half .before .loop .inv .within)
+    let b = bounds (at-half .before .loop .inv) in
+    (rw (at-half .read-half .ensures) (omega (arith, b .0, b .1), omega (arith, b .1)), at-half .before .loop .inv .within)
 
 same-length-2 : tie.Need-same-length-2 Inv-loop μ-loop
 same-length-2 c = c .before .before .stuck .kept .0 ∙ c .before .before .before .before .before .before .before .before .loop .inv .long
