@@ -35,6 +35,10 @@ unfoldable pub numberFrom : ℕ → List ℕ → ℕ
 numberFrom v [] = v
 numberFrom v (b ∷ rest) = pick (ltb (digitOf b) 10) (pick (ltb v more) (numberFrom (10 * v + digitOf b) rest) v) v
 
+-- the place of the next field, where the number at a place is v; 0 where it is another, or where the place is 0
+unfoldable pub sameAt : List ℕ → ℕ → ℕ → ℕ
+sameAt s at v = pick (eqb at 0) 0 (pick (eqb (numberFrom 0 (drop at s)) v) (pastFrom 32 at (drop at s)) 0)
+
 -- the byte that the two hex digits at a place say; 256 where there are no two
 unfoldable pub pairAt : List ℕ → ℕ → ℕ
 pairAt s at = pick (ltb (digitAt s at) 16) (pick (ltb (digitAt s (at + 1)) 16) (16 * digitAt s at + digitAt s (at + 1)) 256) 256

@@ -3,7 +3,7 @@ ghost use mathlib.Core.Path.{_≡_};
 ghost use Prim.Native.Nat.{_+_, _<_};
 ghost use lib.ListN.{length, drop};
 ghost use Rattle.io.specs.Counts.{Counts};
-ghost use Rattle.lines.specs.Fields.{pastFrom, digitOf, DigitIs, numberFrom, pairAt, HexIs};
+ghost use Rattle.lines.specs.Fields.{pastFrom, digitOf, DigitIs, numberFrom, sameAt, pairAt, HexIs};
 
 // The place after the first `mark` from `at` on: with a space the next field, with a newline the next line. Where there is none it is the end
 // of the text, or `at` where that is past the end.
@@ -68,6 +68,20 @@ pub fn number(text: &[u8], at: usize) -> usize
         i += 1;
     }
     value
+}
+
+// The place of the next field, where the number at a place is this value; 0 where it is another, or where the place is 0. So fields are
+// compared one after the other, and a difference stays.
+pub fn same(text: &[u8], at: usize, value: usize) -> usize
+    ensures { λ r. ⌜ r ≡ sameAt (now (text .entry)) at value ⌝ }
+{
+    if at == 0 {
+        return 0;
+    }
+    if number(text, at) != value {
+        return 0;
+    }
+    past(text, at, b' ')
 }
 
 // The byte that the two hex digits at a place say; 256 where there are no two.

@@ -8,6 +8,7 @@ mod rows;
 pub use fields::hex;
 pub use fields::number;
 pub use fields::past;
+pub use fields::same;
 pub use files::read_file;
 pub use files::text_buffer;
 pub use report::Tally;

@@ -81,37 +81,26 @@ fn is_fine(source: &[u8], state: State) -> bool
     is_whole(source, at)
 }
 
-// Where in a line its records are compared: the place of the next field, or 0 where one differed.
-fn same(text: &[u8], at: usize, value: usize) -> usize {
-    if at == 0 {
-        return 0;
-    }
-    if lines::number(text, at) != value {
-        return 0;
-    }
-    lines::past(text, at, b' ')
-}
-
 // The nine numbers of a record; answers the place after them, or 0 where one differs.
 fn same_record(text: &[u8], at: usize, token: token::Token, state: State) -> usize {
     let place = state.lexer.place;
     let span = place.span;
-    let at = same(text, at, token.kind as usize);
-    let at = same(text, at, token.detail as usize);
-    let at = same(text, at, place.previous_byte.0);
-    let at = same(text, at, place.current_byte.0);
-    let at = same(text, at, span.start.line as usize);
-    let at = same(text, at, span.start.column.0 as usize);
-    let at = same(text, at, span.end.line as usize);
-    let at = same(text, at, span.end.column.0 as usize);
-    same(text, at, state.lexer.indent as usize)
+    let at = lines::same(text, at, token.kind as usize);
+    let at = lines::same(text, at, token.detail as usize);
+    let at = lines::same(text, at, place.previous_byte.0);
+    let at = lines::same(text, at, place.current_byte.0);
+    let at = lines::same(text, at, span.start.line as usize);
+    let at = lines::same(text, at, span.start.column.0 as usize);
+    let at = lines::same(text, at, span.end.line as usize);
+    let at = lines::same(text, at, span.end.column.0 as usize);
+    lines::same(text, at, state.lexer.indent as usize)
 }
 
 // How a reading ended: the line's status (0 end, 1 stuck, 105 no room for a mode) after so many records at this byte.
 fn same_end(text: &[u8], at: usize, status: usize, count: usize, state: State) -> bool {
-    let at = same(text, at, status);
-    let at = same(text, at, count);
-    same(text, at, state.lexer.place.current_byte.0) != 0
+    let at = lines::same(text, at, status);
+    let at = lines::same(text, at, count);
+    lines::same(text, at, state.lexer.place.current_byte.0) != 0
 }
 
 // Whether the steps over a source find what a line has from its status on: `STATUS COUNT BYTE RECORDS..`.
