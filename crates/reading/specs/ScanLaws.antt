@@ -2,6 +2,7 @@
 --     fills-none, fills-full, fills-row    a reading with no record; one that has a record and no room; one more record
 --     scans-long, scans-bad-table, scans-bad, scans-cut    a scan that one of refusals 1 to 3 meets
 --     scans-fine                           a scan that none of them meets
+--     count-room                           a scan counts no more records than the list has room for
 --     one-answer                           no second answer and no second list fits a scan
 -- Assumes nothing.
 use Prim.Native.Nat.{ℕ, zero, suc, _+_, _-_, _/_, _≤_, _<_}
@@ -12,12 +13,14 @@ use mathlib.Core.List.{List, [], _∷_}
 use lib.Dec.{ltb}
 use lib.ListN.{length, take}
 use borrow.Author.Tests.{lt-ltb, le-ltb}
-use Rattle.base.specs.PickLaws.{by-test}
+use Rattle.base.specs.PickLaws.{by-test, by-lt}
 use Rattle.base.specs.Refusal.{sourceMost}
 use Rattle.utf8.specs.Chars.{checkFrom}
+use Rattle.utf8.specs.declared.Utf8Check.{Utf8Check}
 use Rattle.utf8.specs.declared.Utf8Check.the-variants as utf8
 use Rattle.property.specs.Table.{propertiesAt}
 use Rattle.property.specs.Fit.{tableCheck}
+use Rattle.property.specs.declared.table.TableCheck.{TableCheck}
 use Rattle.property.specs.declared.table.TableCheck.the-variants as property
 use Rattle.cluster.specs.Call.{baseEdition}
 use Rattle.token.specs.Row.{room, putRow, putRows, putRowsAt}
@@ -26,7 +29,7 @@ use Rattle.token.specs.declared.rows.Row.{Row}
 use Rattle.state.specs.State.{startState}
 use Rattle.state.specs.declared.State.{State}
 use Rattle.reading.specs.Reading.{Stop, ended, stuck, deep, Reading, onto, stopped}
-use Rattle.reading.specs.Scan.{endOf, whole, byRoom, Fills, ReadsOn, readingOf, scanned, writtenBy, written, Scans}
+use Rattle.reading.specs.Scan.{endOf, whole, byRoom, Fills, ReadsOn, onTable, onUtf8, readingOf, scanned, writtenBy, written, Scans, countOf}
 use Rattle.reading.specs.declared.Scanned.{Scanned}
 use Rattle.reading.specs.declared.Scanned.the-variants.{TooLong, BadTable, BadUtf8, ListFull}
 
@@ -129,6 +132,36 @@ module _ {source table old : List ℕ} where
                 ∙ rows-one-by-one old rows
                 ∙ sym (ap (λ (x : Scanned). putRows old (writtenBy x rows)) e ∙ ap (putRows old) (room-writes (room old) 0 0 (readingOf source table) rows));
           }
+
+-- ---- how many records a scan counts
+
+module _ (n : ℕ) where
+  -- an answer that counts no more than n records
+  abbrev Within : Scanned → Type 0
+  Within r = countOf r ≤ n
+
+  room-counts : (k b : ℕ) (r : Reading) → Within (byRoom n k b r)
+  room-counts k b r = by-lt Within n (k + length (r .rows)) (λ _. omega arith) (λ h. stops (r .stop) h)
+    where
+      stops : (why : Stop) → k + length (r .rows) ≤ n → Within (whole n (k + length (r .rows)) (endOf b (r .rows)) why)
+      stops ended h = h
+      stops stuck h = h
+      stops deep h = by-test Within (ltb (k + length (r .rows)) n) (λ _. h) (λ _. h)
+
+  table-counts : (t : TableCheck) (r : Scanned) → Within r → Within (onTable t r)
+  table-counts property.Fit r h = h
+  table-counts (property.BadTable i) r h = omega arith
+
+  utf8-counts : (u : Utf8Check) (r : Scanned) → Within r → Within (onUtf8 u r)
+  utf8-counts utf8.Fine r h = h
+  utf8-counts (utf8.BadAt i) r h = omega arith
+  utf8-counts (utf8.CutAt i) r h = omega arith
+
+  pub count-room : (source table : List ℕ) → countOf (scanned source table n) ≤ n
+  unfolding scanned
+  count-room source table =
+      by-test Within (ltb sourceMost (length source)) (λ _. omega arith)
+      (λ _. table-counts (tableCheck table) _ (utf8-counts (checkFrom 0 source) _ (room-counts 0 0 (readingOf source table))))
 
 -- no second answer and no second list fits
 pub one-answer : (source table old : List ℕ) (r q : Scanned) (new other : List ℕ) → Scans source table old r new → Scans source table old q other

@@ -2,6 +2,8 @@
 //
 // It reads a token with the crate `lexer`, which knows no list, and stores its record with the crate `token`, which knows no source. What it
 // must answer and write stands in the crate `reading`.
+pub mod answer;
+
 ghost use mathlib.Core.Path.{_≡_};
 ghost use mathlib.Core.List.{[]};
 ghost use Prim.Native.Nat.{_≤_};

@@ -1,0 +1,51 @@
+-- Laws of `Listing`.
+--     lists-long, lists-scan    a source that is too long; one that is not, and is scanned with the small table
+--     lists-within              no more records are counted than the list has room for
+--     one-listing               no second answer and no second list fits
+-- Assumes nothing.
+use Prim.Native.Nat.{ℕ, _/_, _≤_, _<_}
+use native.Mathlib.Omega.{arith}
+use mathlib.Core.Path.{_≡_, refl, sym, ap, subst, _∙_}
+use mathlib.Core.List.{List}
+use lib.Dec.{ltb}
+use lib.ListN.{length}
+use borrow.Author.Tests.{lt-ltb, le-ltb}
+use Rattle.base.specs.PickLaws.{by-test}
+use Rattle.property.specs.Small.{smallTable}
+use Rattle.token.specs.Row.{room, putRows}
+use Rattle.token.specs.RowLaws.{rows-none}
+use Rattle.reading.specs.Scan.{Scans, countOf}
+use Rattle.reading.specs.ScanLaws.{count-room}
+use Rattle.reading.specs.declared.Scanned.{Scanned}
+use Rattle.reading.specs.declared.Scanned.the-variants.{TooLong}
+use Rattle.listing.specs.Listing.{listMost, listed, listedRows, Lists}
+
+module _ {source old : List ℕ} where
+  pub lists-long : listMost < length source → Lists source old TooLong old
+  unfolding listed listedRows
+  lists-long h =
+      record { answer = rw (lt-ltb listMost (length source) h); words = rw (lt-ltb listMost (length source) h) (sym (rows-none old)) }
+
+  pub lists-scan : {table : List ℕ} {r : Scanned} {new : List ℕ} → length source ≤ listMost → table ≡ smallTable → Scans source table old r new
+      → Lists source old r new
+  unfolding listed listedRows
+  lists-scan {table} {r} {new} h e s =
+      let small : Scans source smallTable old r new = subst (λ (t : List ℕ). Scans source t old r new) e s in
+      record {
+        answer = rw (le-ltb listMost (length source) h) (small .answer);
+        words = rw (le-ltb listMost (length source) h) (small .words);
+      }
+
+listed-count : (source : List ℕ) (n : ℕ) → countOf (listed source n) ≤ n
+unfolding listed
+listed-count source n =
+    by-test (λ (r : Scanned). countOf r ≤ n) (ltb listMost (length source)) (λ _. omega arith) (λ _. count-room n source smallTable)
+
+pub lists-within : {source old new : List ℕ} {r : Scanned} → Lists source old r new → length new ≡ length old → countOf r ≤ room new
+lists-within {source} {old} {new} {r} f long =
+    let same : room old ≡ room new = ap (λ (n : ℕ). n / 8) (sym long) in
+    subst (λ (n : ℕ). countOf r ≤ n) same (subst (λ (x : Scanned). countOf x ≤ room old) (sym (f .answer)) (listed-count source (room old)))
+
+pub one-listing : (source old : List ℕ) (r q : Scanned) (new other : List ℕ) → Lists source old r new → Lists source old q other
+    → (r ≡ q) × (new ≡ other)
+one-listing source old r q new other a b = (a .answer ∙ sym (b .answer), a .words ∙ sym (b .words))

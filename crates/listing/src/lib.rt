@@ -1,0 +1,30 @@
+// What the list program does with the bytes that it has read (document 01, "The list program"). It is a library, so that the program which
+// lists many sources lists each as the list program does.
+use reading::Scanned;
+ghost use Prim.Native.Nat.{_≤_};
+ghost use Rattle.token.specs.Row.{room};
+ghost use Rattle.reading.specs.Scan.{countOf};
+ghost use Rattle.listing.specs.Listing.{Lists};
+
+// Sources over this many bytes are refused.
+const LIST_MOST: usize = 1024;
+
+// Writes the records of a source at the start of the list, by the small table. A source that is too long is refused first, and then the
+// list stays as it is.
+pub fn scan_small(source: &[u8], list: &mut [u32]) -> Scanned
+    ensures { λ r. ⌜ Lists (now (source .entry)) (now (list .entry)) r (now (list .exit)) ⌝ }
+    ensures { λ r. ⌜ countOf r ≤ room (now (list .exit)) ⌝ }
+{
+    if LIST_MOST < source.len() {
+        return Scanned::TooLong;
+    }
+    let table = property::small_table();
+    scan::scan(source, &table, list)
+}
+
+// Prints the records of a source and how its scan ended. There is room for 1,365 records: one for each of 1,024 bytes, and a third more.
+pub fn print_source(source: &[u8]) {
+    let mut list = [0u32; 10920];
+    let scanned = scan_small(source, &mut list);
+    printing::print_scan(&list, scanned);
+}

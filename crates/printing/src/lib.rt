@@ -1,0 +1,74 @@
+// How records and the end of a scan are printed (document 01, "The list program"): a record or an end a line, numbers in decimal with one
+// space between two of them. This crate knows no source and no table.
+use libc::STDOUT_FILENO;
+use reading::Scanned;
+use scan::answer;
+use token::rows;
+use token::rows::Row;
+use token::rows::RowAt;
+ghost use Prim.Native.Nat.{_<_, _≤_};
+ghost use Rattle.token.specs.Row.{room};
+ghost use Rattle.reading.specs.Scan.{countOf};
+
+// A number, and what stands after it.
+fn print_number(x: u64, after: &[u8]) {
+    io::print_decimal(STDOUT_FILENO, x);
+    io::write_all(STDOUT_FILENO, after);
+}
+
+// Prints a record: its kind and its detail, then its other seven numbers.
+pub fn print_row(row: Row) {
+    print_number(row.kind as u64, b" ");
+    print_number(row.detail as u64, b" ");
+    print_number(row.start as u64, b" ");
+    print_number(row.end as u64, b" ");
+    print_number(row.start_line as u64, b" ");
+    print_number(row.start_column as u64, b" ");
+    print_number(row.end_line as u64, b" ");
+    print_number(row.end_column as u64, b" ");
+    print_number(row.indent as u64, b"\n");
+}
+
+// Prints record i of a list, if it may be shown: every record that a scan wrote may.
+fn print_row_at(list: &[u32], i: usize)
+    requires { ⌜ i < room (now list) ⌝ }
+{
+    match rows::row_at(list, i) {
+        RowAt::Fit(row) => print_row(row),
+        RowAt::Unfit => {}
+    }
+}
+
+// Prints the first records of a list.
+pub fn print_rows(list: &[u32], count: usize)
+    requires { ⌜ count ≤ room (now list) ⌝ }
+{
+    for i in 0..count {
+        print_row_at(list, i);
+    }
+}
+
+// A word with a space after it, and two numbers.
+fn print_last(word: &[u8], first: u64, second: usize) {
+    io::write_all(STDOUT_FILENO, word);
+    print_number(first, b" ");
+    print_number(second as u64, b"\n");
+}
+
+// Prints how a scan ended: its status with the count of records and the current byte, or the number and the place of its refusal.
+pub fn print_end(scanned: Scanned) {
+    let place = answer::place_of(scanned);
+    match scanned {
+        Scanned::End { count, byte: _ } => print_last(b"end ", count as u64, place),
+        Scanned::Stuck { count, byte: _ } => print_last(b"stuck ", count as u64, place),
+        _ => print_last(b"refused ", answer::number_of(scanned) as u64, place),
+    }
+}
+
+// Prints what a scan left: each record written, and then how it ended.
+pub fn print_scan(list: &[u32], scanned: Scanned)
+    requires { ⌜ countOf scanned ≤ room (now list) ⌝ }
+{
+    print_rows(list, answer::count_of(scanned));
+    print_end(scanned);
+}

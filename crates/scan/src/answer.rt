@@ -1,0 +1,49 @@
+// Document 01's numbers of a scan's answer, for whoever prints it or hands it on.
+ghost use mathlib.Core.Path.{_≡_};
+ghost use Rattle.reading.specs.Scan.{numberOf, placeOf, countOf};
+use reading::Scanned;
+
+// The refusal's number; 0 where there is no refusal.
+pub fn number_of(scanned: Scanned) -> u32
+    ensures { λ r. ⌜ r ≡ numberOf scanned ⌝ }
+{
+    match scanned {
+        Scanned::End { count: _, byte: _ } => 0,
+        Scanned::Stuck { count: _, byte: _ } => 0,
+        Scanned::TooLong => 1,
+        Scanned::BadTable(_) => 2,
+        Scanned::BadUtf8(_) => 3,
+        Scanned::ListFull { count: _, byte: _ } => 4,
+        Scanned::ModesFull { count: _, byte: _ } => 5,
+    }
+}
+
+// The refusal's place; the current byte where there is no refusal.
+pub fn place_of(scanned: Scanned) -> usize
+    ensures { λ r. ⌜ r ≡ placeOf scanned ⌝ }
+{
+    match scanned {
+        Scanned::End { count: _, byte } => byte,
+        Scanned::Stuck { count: _, byte } => byte,
+        Scanned::TooLong => 0,
+        Scanned::BadTable(i) => i,
+        Scanned::BadUtf8(i) => i,
+        Scanned::ListFull { count: _, byte } => byte,
+        Scanned::ModesFull { count: _, byte } => byte,
+    }
+}
+
+// How many records were written.
+pub fn count_of(scanned: Scanned) -> usize
+    ensures { λ r. ⌜ r ≡ countOf scanned ⌝ }
+{
+    match scanned {
+        Scanned::End { count, byte: _ } => count,
+        Scanned::Stuck { count, byte: _ } => count,
+        Scanned::TooLong => 0,
+        Scanned::BadTable(_) => 0,
+        Scanned::BadUtf8(_) => 0,
+        Scanned::ListFull { count, byte: _ } => count,
+        Scanned::ModesFull { count, byte: _ } => count,
+    }
+}
