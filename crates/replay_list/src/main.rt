@@ -3,45 +3,39 @@
 // file with one wrong line, so that a difference is seen to be reported.
 use reading::Scanned;
 
-// Scripts over this many bytes are refused.
-const SCRIPT_MOST: usize = 1024;
-
 // The numbers of 1,365 records.
 const LIST_WORDS: usize = 10_920;
 
-fn scan_script(script: &[u8], table: &[u32], list: &mut [u32]) -> Scanned {
-    if SCRIPT_MOST < script.len() {
-        return Scanned::TooLong;
-    }
+// The list program's scan, into the start of a list.
+fn scan_script(script: &[u8], list: &mut [u32]) -> Scanned {
     let n = lines::within(LIST_WORDS, list);
-    scan::scan(script, table, &mut list[..n])
+    listing::scan_small(script, &mut list[..n])
 }
 
-// Whether the line `HEX STATUS COUNT BYTE RECORDS..` at a place of the text is what the scan says and writes.
-fn agrees(text: &[u8], at: usize, table: &[u32]) -> bool {
+// Whether the line `HEX STATUS COUNT BYTE RECORDS..` at a place of the text is what the list program's scan says and writes.
+fn agrees(text: &[u8], at: usize) -> bool {
     let mut bytes = io::buffer();
     let n = lines::hex(text, at, &mut bytes);
     let mut list = replay_rows::list_buffer();
-    let said = scan_script(&bytes[..n], table, &mut list);
+    let said = scan_script(&bytes[..n], &mut list);
     replay_rows::agrees(text, lines::past(text, at, b' '), said, &list)
 }
 
-fn replay_lines(name: &[u8], text: &[u8], table: &[u32]) {
+fn replay_lines(name: &[u8], text: &[u8]) {
     let mut tally = lines::Tally::new();
     while tally.at < text.len() {
-        tally = tally.count(name, text, agrees(text, tally.at, table));
+        tally = tally.count(name, text, agrees(text, tally.at));
     }
     tally.print(name);
 }
 
-fn replay(name: &[u8], table: &[u32]) {
+fn replay(name: &[u8]) {
     let mut text = lines::text_buffer();
     let n = lines::read_file(name, &mut text);
-    replay_lines(name, &text[..n], table);
+    replay_lines(name, &text[..n]);
 }
 
 fn main() {
-    let table = property::small_table();
-    replay(b"lists.txt", &table);
-    replay(b"wrong.txt", &table);
+    replay(b"lists.txt");
+    replay(b"wrong.txt");
 }

@@ -6,10 +6,10 @@ use Rattle.replay_list.proofs.replay_lines.Statement.{statement}
 use Rattle.replay_list.proofs.replay_lines.Tie as tie
 
 abbrev Inv-loop : tie.InvT-loop
-Inv-loop name text table tally₀ tally = Unit {0}
+Inv-loop name text tally₀ tally = Unit {0}
 
 abbrev μ-loop : tie.MeasureT-loop
-μ-loop name text table tally₀ tally = left text tally
+μ-loop name text tally₀ tally = left text tally
 
 loop-less : tie.Need-loop-less Inv-loop μ-loop
 loop-less c = count-less _ _ _ _ (c .count .ensures) (c .before .before .if1 .taken)
