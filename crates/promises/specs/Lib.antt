@@ -13,3 +13,5 @@ pub mod Scan
 pub mod ScanLaws
 pub mod WrongScans
 pub mod WrongScansLaws
+pub mod Pool
+pub mod PoolLaws

@@ -1,0 +1,4 @@
+pub mod Pool
+pub mod StringsLaws
+pub mod FitLaws
+pub mod PoolLaws
