@@ -1,0 +1,141 @@
+-- Sequences of `next` and `peek`, here and in the Rust, and when a cursor stands for the Rust's lexer.
+-- Assumes nothing.
+use Prim.Native.Nat.{ℕ, zero, suc, _+_, _<_}
+use mathlib.Core.Path.{_≡_}
+use mathlib.Core.Bool.{true}
+use mathlib.Core.List.{List, [], _∷_}
+use mathlib.Core.Option.{Option, some}
+use mathlib.Core.Option as option
+use Rattle.base.specs.Refusal.{none}
+use Rattle.token.specs.Row.{room, rowAt, rowsOf, rowFits}
+use Rattle.token.specs.declared.rows.Row.{Row}
+use Rattle.lookahead.specs.Cursor.{isFit, recordAt, ahead}
+use Rattle.lookahead.specs.Next as forth
+use Rattle.lookahead.specs.Next.{nextOf}
+use Rattle.lookahead.specs.Peek as aside
+use Rattle.lookahead.specs.Peek.{peekOf}
+use Rattle.lookahead.specs.Queue.{KotoLexer, Answered, rustNext, rustPeek}
+use Rattle.lookahead.specs.declared.Status.{Status}
+use Rattle.lookahead.specs.declared.Cursor.{Cursor}
+use Rattle.lookahead.specs.declared.Given.{Given}
+use Rattle.lookahead.specs.declared.Given.the-variants as given
+use Rattle.lookahead.specs.declared.Peeked.{Peeked}
+use Rattle.lookahead.specs.declared.Peeked.the-variants as peeked
+
+-- one of the two calls
+pub data Call : Type 0 where
+  next : Call
+  peek : ℕ → Call
+
+-- ---- here
+
+-- what a call comes to: its number, the token that it hands out or shows, and the cursor after it
+pub record Outcome : Type 0 where
+  pub number : ℕ
+  pub token : Option Row
+  pub cursor : Cursor
+
+-- the token that `next` hands out, and the cursor after it
+abbrev pub givenToken : Given → Option Row
+givenToken (given.Token row after) = some row
+givenToken given.Nothing = option.none
+givenToken given.BadState = option.none
+givenToken (given.BadRecord i) = option.none
+
+abbrev pub givenCursor : Cursor → Given → Cursor
+givenCursor c (given.Token row after) = after
+givenCursor c given.Nothing = c
+givenCursor c given.BadState = c
+givenCursor c (given.BadRecord i) = c
+
+-- the token that `peek` shows, and the cursor after it
+abbrev pub peekedToken : Peeked → Option Row
+peekedToken (peeked.Token row after) = some row
+peekedToken (peeked.Nothing after) = option.none
+peekedToken peeked.BadState = option.none
+peekedToken peeked.PeekTooFar = option.none
+peekedToken peeked.QueueFull = option.none
+peekedToken (peeked.BadRecord i) = option.none
+
+abbrev pub peekedCursor : Cursor → Peeked → Cursor
+peekedCursor c (peeked.Token row after) = after
+peekedCursor c (peeked.Nothing after) = after
+peekedCursor c peeked.BadState = c
+peekedCursor c peeked.PeekTooFar = c
+peekedCursor c peeked.QueueFull = c
+peekedCursor c (peeked.BadRecord i) = c
+
+abbrev pub ofGiven : Cursor → Given → Outcome
+ofGiven c r = record { number = forth.numberOf r; token = givenToken r; cursor = givenCursor c r }
+
+abbrev pub ofPeeked : Cursor → Peeked → Outcome
+ofPeeked c r = record { number = aside.numberOf r; token = peekedToken r; cursor = peekedCursor c r }
+
+abbrev pub call : List ℕ → Cursor → Call → Outcome
+call list c next = ofGiven c (nextOf list c)
+call list c (peek n) = ofPeeked c (peekOf list c n)
+
+-- the cursor after some calls
+unfoldable pub afterCalls : List ℕ → Cursor → List Call → Cursor
+afterCalls list c [] = c
+afterCalls list c (x ∷ calls) = afterCalls list (call list c x .cursor) calls
+
+-- their tokens, one for each call
+unfoldable pub tokensOf : List ℕ → Cursor → List Call → List (Option Row)
+tokensOf list c [] = []
+tokensOf list c (x ∷ calls) = call list c x .token ∷ tokensOf list (call list c x .cursor) calls
+
+-- none of them is refused
+unfoldable pub Unrefused : List ℕ → Cursor → List Call → Type 0
+Unrefused list c [] = Unit {0}
+Unrefused list c (x ∷ calls) = (call list c x .number ≡ none) × Unrefused list (call list c x .cursor) calls
+
+-- how many of them are `next`
+abbrev pub isNext : Call → ℕ
+isNext next = 1
+isNext (peek n) = 0
+
+unfoldable pub nexts : List Call → ℕ
+nexts [] = 0
+nexts (x ∷ calls) = isNext x + nexts calls
+
+-- every one of the first so many records may be shown
+abbrev pub Shows : List ℕ → ℕ → Type 0
+Shows list count = (i : ℕ) → i < count → rowFits (rowAt list i) ≡ true
+
+-- where a cursor stands after `next` was called i times
+pub record Stands (list : List ℕ) (count : ℕ) (status : Status) (i : ℕ) (c : Cursor) : Type 0 where
+  pub fit : isFit (room list) c ≡ true
+  pub counted : c .count ≡ count
+  pub ends : c .status ≡ status
+  pub place : c .taken ≡ recordAt count status i
+
+-- ---- in the Rust
+
+abbrev pub rustCall : List Row → Status → KotoLexer → Call → Answered
+rustCall rows status k next = rustNext rows status k
+rustCall rows status k (peek n) = rustPeek rows status k n
+
+unfoldable pub rustTokens : List Row → Status → KotoLexer → List Call → List (Option Row)
+rustTokens rows status k [] = []
+rustTokens rows status k (x ∷ calls) = rustCall rows status k x .token ∷ rustTokens rows status (rustCall rows status k x .after) calls
+
+-- ---- the cursor and the Rust's lexer
+
+-- the records of n places, from a place on
+unfoldable pub upcoming : List ℕ → ℕ → Status → ℕ → ℕ → List Row
+upcoming list count status place zero = []
+upcoming list count status place (suc n) = rowAt list (recordAt count status place) ∷ upcoming list count status (place + 1) n
+
+-- the cursor stands for the lexer. At Stuck the lexer counts on where the cursor stays, so the two agree only on the record that comes next
+pub record Mirrors (list : List ℕ) (rows : List Row) (status : Status) (c : Cursor) (k : KotoLexer) : Type 0 where
+  pub records : rowsOf (c .count) list ≡ rows
+  pub ends : c .status ≡ status
+  pub fit : isFit (room list) c ≡ true
+  pub queue : k .«token_queue» ≡ upcoming list (c .count) (c .status) (c .taken) (c .queued)
+  pub position : recordAt (c .count) (c .status) (k .lexer) ≡ ahead c (c .queued)
+
+-- a call says the same on both sides, and leads to a cursor that stands for the lexer after it
+pub record Agrees (list : List ℕ) (rows : List Row) (status : Status) (o : Outcome) (a : Answered) : Type 0 where
+  pub token : a .token ≡ o .token
+  pub mirrors : Mirrors list rows status (o .cursor) (a .after)

@@ -1,0 +1,41 @@
+-- Document 01, "Look-ahead": `next`. It checks 8, 9; a refusal leaves the cursor.
+-- Assumes nothing.
+use Prim.Native.Nat.{ℕ, _-_}
+use mathlib.Core.List.{List}
+use Rattle.base.specs.Pick.{pick}
+use Rattle.base.specs.Refusal.{none, badState, badRecord}
+use Rattle.token.specs.Row.{room}
+use Rattle.lookahead.specs.Cursor.{isFit, ahead, seenAt}
+use Rattle.lookahead.specs.declared.Cursor.{Cursor}
+use Rattle.lookahead.specs.declared.Seen.{Seen}
+use Rattle.lookahead.specs.declared.Seen.the-variants as seen
+use Rattle.lookahead.specs.declared.Given.{Given}
+use Rattle.lookahead.specs.declared.Given.the-variants.{Token, Nothing, BadState, BadRecord}
+
+-- the cursor after a token was handed out: one more is taken, but never past the last place, and one less is queued, if one was
+unfoldable pub movedOn : Cursor → Cursor
+movedOn c = record { taken = ahead c 1; queued = c .queued - 1; count = c .count; status = c .status }
+
+-- what is seen there is handed out
+abbrev pub givenBy : Cursor → Seen → Given
+givenBy c (seen.Token row) = Token row (movedOn c)
+givenBy c seen.Nothing = Nothing
+givenBy c (seen.BadRecord i) = BadRecord i
+
+-- the answer
+unfoldable pub nextOf : List ℕ → Cursor → Given
+nextOf list c = pick (isFit (room list) c) (givenBy c (seenAt list c 0)) BadState
+
+-- document 01's number of an answer
+abbrev pub numberOf : Given → ℕ
+numberOf (Token row after) = none
+numberOf Nothing = none
+numberOf BadState = badState
+numberOf (BadRecord i) = badRecord
+
+-- and its place
+abbrev pub placeOf : Given → ℕ
+placeOf (Token row after) = 0
+placeOf Nothing = 0
+placeOf BadState = 0
+placeOf (BadRecord i) = i

@@ -1,0 +1,65 @@
+-- Document 01, "Look-ahead": `peek`. It checks 8, 6, 7, 9; a refusal leaves the cursor.
+-- Assumes nothing.
+use Prim.Native.Nat.{ℕ, _+_}
+use mathlib.Core.Bool.{Bool, _&&_}
+use mathlib.Core.List.{List}
+use lib.Dec.{eqb, leb, ltb}
+use Rattle.base.specs.Pick.{pick}
+use Rattle.base.specs.Refusal.{none, peekTooFar, queueFull, badState, badRecord}
+use Rattle.token.specs.Row.{room}
+use Rattle.lookahead.specs.Cursor.{queueMost, isFit, ahead, seenAt}
+use Rattle.lookahead.specs.declared.Cursor.{Cursor}
+use Rattle.lookahead.specs.declared.Seen.{Seen}
+use Rattle.lookahead.specs.declared.Seen.the-variants as seen
+use Rattle.lookahead.specs.declared.Peeked.{Peeked}
+use Rattle.lookahead.specs.declared.Peeked.the-variants.{Token, Nothing, BadState, PeekTooFar, QueueFull, BadRecord}
+
+-- there is a token past the queued ones
+abbrev pub hasMore : Cursor → Bool
+hasMore c = ltb (ahead c (c .queued)) (c .count)
+
+-- a token must be queued: n is at most what is queued, and there is one more
+unfoldable pub mustQueue : Cursor → ℕ → Bool
+mustQueue c n = leb n (c .queued) && hasMore c
+
+-- the cursor that has queued one more token
+unfoldable pub queuedOne : Cursor → Cursor
+queuedOne c = record { taken = c .taken; queued = c .queued + 1; count = c .count; status = c .status }
+
+-- what is seen there is shown
+abbrev pub shownBy : Cursor → Seen → Peeked
+shownBy c (seen.Token row) = Token row c
+shownBy c seen.Nothing = Nothing c
+shownBy c (seen.BadRecord i) = BadRecord i
+
+-- queued token n, or nothing where not so many are queued
+unfoldable pub queuedAt : List ℕ → Cursor → ℕ → Peeked
+queuedAt list c n = pick (ltb n (c .queued)) (shownBy c (seenAt list c n)) (Nothing c)
+
+-- the answer
+unfoldable pub peekOf : List ℕ → Cursor → ℕ → Peeked
+peekOf list c n =
+    pick (isFit (room list) c)
+    (pick (ltb (c .queued + 1) n) PeekTooFar
+    (pick (mustQueue c n)
+    (pick (eqb (c .queued) queueMost) QueueFull (queuedAt list (queuedOne c) n))
+    (queuedAt list c n)))
+    BadState
+
+-- document 01's number of an answer
+abbrev pub numberOf : Peeked → ℕ
+numberOf (Token row after) = none
+numberOf (Nothing after) = none
+numberOf BadState = badState
+numberOf PeekTooFar = peekTooFar
+numberOf QueueFull = queueFull
+numberOf (BadRecord i) = badRecord
+
+-- and its place
+abbrev pub placeOf : Peeked → ℕ
+placeOf (Token row after) = 0
+placeOf (Nothing after) = 0
+placeOf BadState = 0
+placeOf PeekTooFar = 0
+placeOf QueueFull = 0
+placeOf (BadRecord i) = i

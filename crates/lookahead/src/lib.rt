@@ -1,0 +1,230 @@
+// A scan's tokens one by one, and looking ahead: `next` and `peek` of lexer.rs's `KotoLexer`, over the list that a scan has written.
+//
+// The Rust keeps the tokens that it has looked at in a `VecDeque`. Here the list has all of them, so the queue is two numbers over it: the
+// queued tokens are those from `taken` on. This crate shows records through the crate `token`, and knows neither a record's words nor what
+// was scanned. Left out is `KotoLexer::source`: the caller has the source.
+ghost use mathlib.Core.Path.{_≡_};
+ghost use Prim.Native.Nat.{_-_, _≤_};
+ghost use Rattle.token.specs.Row.{room};
+ghost use Rattle.lookahead.specs.Cursor.{queueMost, isFit, lastPlace, ahead, seenAt};
+ghost use Rattle.lookahead.specs.Next.{movedOn, nextOf};
+ghost use Rattle.lookahead.specs.Peek.{mustQueue, queuedOne, queuedAt, peekOf};
+use token::rows;
+use token::rows::Row;
+use token::rows::RowAt;
+
+// The most tokens that may be queued.
+const QUEUE_MOST: usize = 65_535;
+
+// How the scan ended that wrote the list.
+pub enum Status {
+    // After the last record nothing comes.
+    End,
+    // The last record comes for ever.
+    Stuck,
+}
+
+// Where a user of the list stands. After a scan it is 0, 0, the count and the status.
+pub struct Cursor {
+    // How many tokens `next` has handed out; at Stuck the last is never counted.
+    pub taken: usize,
+    // How many tokens after those are queued.
+    pub queued: usize,
+    pub count: usize,
+    pub status: Status,
+}
+
+// A token that is looked at.
+enum Seen {
+    Token(Row),
+    Nothing,
+    BadRecord(usize),
+}
+
+// What `next` answers. A refusal leaves the cursor, so it has none.
+pub enum Given {
+    Token { row: Row, cursor: Cursor },
+    // All tokens are taken; the cursor stays.
+    Nothing,
+    // Refusal 8: the cursor is unfit for this list.
+    BadState,
+    // Refusal 9: no scan wrote the record at this index.
+    BadRecord(usize),
+}
+
+// What `peek` answers. A refusal leaves the cursor, so it has none.
+pub enum Peeked {
+    Token { row: Row, cursor: Cursor },
+    // No token n is queued. One may have been queued all the same.
+    Nothing { cursor: Cursor },
+    // Refusal 8: the cursor is unfit for this list.
+    BadState,
+    // Refusal 6: n is over queued + 1, where the Rust's subtraction underflows.
+    PeekTooFar,
+    // Refusal 7: a token must be queued, and no more may be.
+    QueueFull,
+    // Refusal 9: no scan wrote the record at this index.
+    BadRecord(usize),
+}
+
+// One less, and none of none.
+fn lower(n: usize) -> usize
+    ensures { λ r. ⌜ r ≡ n - 1 ⌝ }
+{
+    if n == 0 {
+        return 0;
+    }
+    n - 1
+}
+
+impl Cursor {
+    // Is the cursor fit for a list with room for so many records?
+    fn is_fit(self, room: usize) -> bool
+        ensures { λ r. ⌜ r ≡ isFit room self ⌝ }
+    {
+        if room < self.count {
+            return false;
+        }
+        if self.count < self.taken {
+            return false;
+        }
+        if QUEUE_MOST < self.queued {
+            return false;
+        }
+        let status = self.status;
+        match status {
+            Status::End => self.queued <= self.count - self.taken,
+            Status::Stuck => self.taken < self.count,
+        }
+    }
+
+    // Where the places stop.
+    fn last_place(self) -> usize
+        ensures { λ r. ⌜ r ≡ lastPlace (self .count) (self .status) ⌝ }
+    {
+        let status = self.status;
+        match status {
+            Status::End => self.count,
+            Status::Stuck => lower(self.count),
+        }
+    }
+
+    // The index of the record that comes after n others; the count where none does.
+    fn ahead(self, n: usize) -> usize
+        ensures { λ r. ⌜ r ≡ ahead self n ⌝ }
+    {
+        let last = self.last_place();
+        if self.taken < last {
+            if n < last - self.taken {
+                return self.taken + n;
+            }
+        }
+        last
+    }
+
+    // The cursor after a token was handed out.
+    fn moved_on(self) -> Cursor
+        ensures { λ r. ⌜ r ≡ movedOn self ⌝ }
+    {
+        let taken = self.ahead(1);
+        let queued = lower(self.queued);
+        let status = self.status;
+        Cursor {
+            taken,
+            queued,
+            count: self.count,
+            status,
+        }
+    }
+
+    // Must a token be queued before queued token n is looked for?
+    fn must_queue(self, n: usize) -> bool
+        ensures { λ r. ⌜ r ≡ mustQueue self n ⌝ }
+    {
+        if self.queued < n {
+            return false;
+        }
+        self.ahead(self.queued) < self.count
+    }
+
+    // The cursor that has queued one more token.
+    fn queued_one(self) -> Cursor
+        requires { ⌜ self .queued ≤ queueMost ⌝ }
+        ensures { λ r. ⌜ r ≡ queuedOne self ⌝ }
+    {
+        let status = self.status;
+        Cursor {
+            taken: self.taken,
+            queued: self.queued + 1,
+            count: self.count,
+            status,
+        }
+    }
+}
+
+// The token that comes after n others.
+fn see(list: &[u32], cursor: Cursor, n: usize) -> Seen
+    requires { ⌜ cursor .count ≤ room (now list) ⌝ }
+    ensures { λ r. ⌜ r ≡ seenAt (now (list .entry)) cursor n ⌝ }
+{
+    let i = cursor.ahead(n);
+    if i < cursor.count {
+        return match rows::row_at(list, i) {
+            RowAt::Fit(row) => Seen::Token(row),
+            RowAt::Unfit => Seen::BadRecord(i),
+        };
+    }
+    Seen::Nothing
+}
+
+// Hands out the next token. Refused are an unfit cursor, then a record that may not be shown.
+pub fn next(list: &[u32], cursor: Cursor) -> Given
+    ensures { λ r. ⌜ r ≡ nextOf (now (list .entry)) cursor ⌝ }
+{
+    if !cursor.is_fit(rows::room(list)) {
+        return Given::BadState;
+    }
+    match see(list, cursor, 0) {
+        Seen::Token(row) => Given::Token {
+            row,
+            cursor: cursor.moved_on(),
+        },
+        Seen::Nothing => Given::Nothing,
+        Seen::BadRecord(i) => Given::BadRecord(i),
+    }
+}
+
+// Shows queued token n, or that not so many are queued.
+fn queued_at(list: &[u32], cursor: Cursor, n: usize) -> Peeked
+    requires { ⌜ cursor .count ≤ room (now list) ⌝ }
+    ensures { λ r. ⌜ r ≡ queuedAt (now (list .entry)) cursor n ⌝ }
+{
+    if n < cursor.queued {
+        return match see(list, cursor, n) {
+            Seen::Token(row) => Peeked::Token { row, cursor },
+            Seen::Nothing => Peeked::Nothing { cursor },
+            Seen::BadRecord(i) => Peeked::BadRecord(i),
+        };
+    }
+    Peeked::Nothing { cursor }
+}
+
+// Queues one more token, if there is one and n is at most what is queued, and shows queued token n. Refused are an unfit cursor, then an n
+// that is too far, then a full queue, then a record that may not be shown.
+pub fn peek(list: &[u32], cursor: Cursor, n: usize) -> Peeked
+    ensures { λ r. ⌜ r ≡ peekOf (now (list .entry)) cursor n ⌝ }
+{
+    if !cursor.is_fit(rows::room(list)) {
+        return Peeked::BadState;
+    }
+    if cursor.queued + 1 < n {
+        return Peeked::PeekTooFar;
+    }
+    if !cursor.must_queue(n) {
+        return queued_at(list, cursor, n);
+    }
+    if cursor.queued == QUEUE_MOST {
+        return Peeked::QueueFull;
+    }
+    queued_at(list, cursor.queued_one(), n)
+}
