@@ -5,6 +5,8 @@
 --     next-is, give-token, give-none, give-bad       `next`, by what is seen
 --     show-is, show-token, show-none, show-bad       queued token n, by what is seen
 --     must-both                                      when a token must be queued
+--     queued-row, queued-bad, queued-none            queued token n, by the record that is there
+--     next-row, next-bad, next-none                  `next`, by the record that is there
 --     peek-far, peek-as-is, peek-full, peek-more     `peek`, by its tests
 -- Assumes nothing.
 use Prim.Native.Nat.{ℕ, _+_, _-_, _≤_, _<_}
@@ -14,7 +16,7 @@ use mathlib.Core.Bool.{true, false, and-eq-true-iff}
 use mathlib.Core.List.{List}
 use lib.Dec.{leb}
 use borrow.Author.Tests.{leb-true, lt-ltb, le-ltb, eq-eqb, ne-eqb}
-use Rattle.token.specs.Row.{room, shownAt}
+use Rattle.token.specs.Row.{room, rowAt, rowFits, shownAt}
 use Rattle.token.specs.declared.rows.Row.{Row}
 use Rattle.token.specs.declared.rows.RowAt.{RowAt}
 use Rattle.token.specs.declared.rows.RowAt.the-variants.{Fit, Unfit}
@@ -118,3 +120,35 @@ module _ (list : List ℕ) (c : Cursor) (n : ℕ) (f : isFit (room list) c ≡ t
     pub peek-more : mustQueue c n ≡ true → (c .queued ≡ queueMost → ⊥) → queuedAt list (queuedOne c) n ≡ peekOf list c n
     unfolding peekOf
     peek-more m q = rw (f, le-ltb (c .queued + 1) n h, m, ne-eqb (c .queued) queueMost q)
+
+-- ---- both, by the record that is there
+
+module _ (list : List ℕ) (c : Cursor) (n : ℕ) {i : ℕ} (e : ahead c n ≡ i) (h : i < c .count) where
+  seen-row : rowFits (rowAt list i) ≡ true → seenAt list c n ≡ seen.Token (rowAt list i)
+  unfolding seenAt shownAt
+  seen-row t = rw (e, lt-ltb i (c .count) h, t)
+
+  seen-bad : rowFits (rowAt list i) ≡ false → seenAt list c n ≡ seen.BadRecord i
+  unfolding seenAt shownAt
+  seen-bad t = rw (e, lt-ltb i (c .count) h, t)
+
+  module _ (q : n < c .queued) where
+    pub queued-row : rowFits (rowAt list i) ≡ true → peeked.Token (rowAt list i) c ≡ queuedAt list c n
+    queued-row t = show-is list c n q (sym (seen-row t)) refl
+
+    pub queued-bad : rowFits (rowAt list i) ≡ false → peeked.BadRecord i ≡ queuedAt list c n
+    queued-bad t = show-is list c n q (sym (seen-bad t)) refl
+
+pub queued-none : (list : List ℕ) (c : Cursor) (n : ℕ) → c .queued ≤ n → peeked.Nothing c ≡ queuedAt list c n
+unfolding queuedAt
+queued-none list c n h = rw (le-ltb n (c .queued) h)
+
+module _ (list : List ℕ) (c : Cursor) (f : isFit (room list) c ≡ true) {i : ℕ} (e : ahead c 0 ≡ i) where
+  pub next-row : i < c .count → rowFits (rowAt list i) ≡ true → given.Token (rowAt list i) (movedOn c) ≡ nextOf list c
+  next-row h t = next-is list c f (sym (seen-row list c 0 e h t)) refl
+
+  pub next-bad : i < c .count → rowFits (rowAt list i) ≡ false → given.BadRecord i ≡ nextOf list c
+  next-bad h t = next-is list c f (sym (seen-bad list c 0 e h t)) refl
+
+  pub next-none : c .count ≤ i → given.Nothing ≡ nextOf list c
+  next-none h = next-is list c f (see-nothing list c 0 (sym e) h) refl

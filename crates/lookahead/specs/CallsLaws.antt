@@ -11,9 +11,12 @@ use native.Mathlib.Omega.{arith}
 use mathlib.Core.Path.{_≡_, refl, sym, ap, subst, _∙_}
 use mathlib.Core.Bool.{Bool, true, false}
 use mathlib.Core.List.{List, [], _∷_}
+use mathlib.Core.Option.{Option, some}
+use mathlib.Core.Option as option
 use Rattle.base.specs.PickLaws.{by-lt, split-lt, split-eq}
-use Rattle.base.specs.Refusal.{none, badState, badRecord}
+use Rattle.base.specs.Refusal.{none, peekTooFar, queueFull, badState, badRecord}
 use Rattle.token.specs.Row.{room, rowsOf}
+use Rattle.token.specs.declared.rows.Row.{Row}
 use Rattle.lookahead.specs.Cursor.{queueMost, isFit, startCursor, recordAt, ahead, seenAt}
 use Rattle.lookahead.specs.CursorLaws.{record-at, held-plus, last-most, taken-held, stuck-some, moved-fits, queued-fits}
 use Rattle.lookahead.specs.Next as forth
@@ -97,29 +100,29 @@ module _ (list : List ℕ) (c : Cursor) (f : isFit (room list) c ≡ true) (w : 
 
   -- ---- `peek`
 
-  -- the cursor d is this one, but for what is queued
-  queued-leaves : (n : ℕ) (d : Cursor) → isFit (room list) d ≡ true → d .count ≡ c .count → d .status ≡ c .status → d .taken ≡ c .taken
-      → Leaves list c 0 (ofPeeked c (queuedAt list d n))
-  unfolding queuedAt
-  queued-leaves n d g a b e =
-      by-lt (λ (r : Peeked). Leaves list c 0 (ofPeeked c r)) n (d .queued) (λ h. go (seenAt list d n) (seen-says list d n)) (λ h. at-d)
-    where
-      at-d : Leaves list c 0 (ofPeeked c (peeked.Nothing d))
-      at-d =
-          record { fine = λ z. omega arith; readable = λ z. omega arith; fit = g; counted = a; ends = b; place = e ∙ sym stays }
+  -- a cursor d that is this one, but for what is queued, and an answer that is no refusal 8 or 9
+  module _ (d : Cursor) (g : isFit (room list) d ≡ true) (a : d .count ≡ c .count) (b : d .status ≡ c .status) (e : d .taken ≡ c .taken) where
+    same-place : (number : ℕ) (token : Option Row) → (number ≡ badState → ⊥) → (number ≡ badRecord → ⊥)
+        → Leaves list c 0 (record { number = number; token = token; cursor = d })
+    same-place number token x y = record { fine = x; readable = y; fit = g; counted = a; ends = b; place = e ∙ sym stays }
 
-      go : (s : Seen) → Says list d n s → Leaves list c 0 (ofPeeked c (shownBy d s))
-      go (seen.Token row) q =
-          record { fine = λ z. omega arith; readable = λ z. omega arith; fit = g; counted = a; ends = b; place = e ∙ sym stays }
-      go seen.Nothing q = at-d
-      go (seen.BadRecord i) q = absurd (not-bad list d n i (subst (Shows list) (sym a) w) q)
+    shown-leaves : (n : ℕ) (s : Seen) → Says list d n s → Leaves list c 0 (ofPeeked c (shownBy d s))
+    shown-leaves n (seen.Token row) q = same-place none (some row) (λ z. omega arith) (λ z. omega arith)
+    shown-leaves n seen.Nothing q = same-place none option.none (λ z. omega arith) (λ z. omega arith)
+    shown-leaves n (seen.BadRecord i) q = absurd (not-bad list d n i (subst (Shows list) (sym a) w) q)
 
-  -- a refusal leaves the cursor
+    queued-leaves : (n : ℕ) → Leaves list c 0 (ofPeeked c (queuedAt list d n))
+    unfolding queuedAt
+    queued-leaves n =
+        by-lt (λ (r : Peeked). Leaves list c 0 (ofPeeked c r)) n (d .queued) (λ h. shown-leaves n (seenAt list d n) (seen-says list d n))
+        (λ h. same-place none option.none (λ z. omega arith) (λ z. omega arith))
+
+  -- refusals 6 and 7 leave the cursor
   far-leaves : Leaves list c 0 (ofPeeked c peeked.PeekTooFar)
-  far-leaves = record { fine = λ z. omega arith; readable = λ z. omega arith; fit = f; counted = refl; ends = refl; place = sym stays }
+  far-leaves = same-place c f refl refl refl peekTooFar option.none (λ z. omega arith) (λ z. omega arith)
 
   full-leaves : Leaves list c 0 (ofPeeked c peeked.QueueFull)
-  full-leaves = record { fine = λ z. omega arith; readable = λ z. omega arith; fit = f; counted = refl; ends = refl; place = sym stays }
+  full-leaves = same-place c f refl refl refl queueFull option.none (λ z. omega arith) (λ z. omega arith)
 
   near-leaves : (n : ℕ) → n ≤ c .queued + 1 → (t : Bool) → mustQueue c n ≡ t → Leaves list c 0 (ofPeeked c (peekOf list c n))
   unfolding queuedOne
@@ -127,9 +130,9 @@ module _ (list : List ℕ) (c : Cursor) (f : isFit (room list) c ≡ true) (w : 
       split-eq (c .queued) queueMost
       (λ q. subst (λ (r : Peeked). Leaves list c 0 (ofPeeked c r)) (peek-full list c n f h e q) full-leaves)
       (λ q. subst (λ (r : Peeked). Leaves list c 0 (ofPeeked c r)) (peek-more list c n f h e q)
-      (queued-leaves n (queuedOne c) (queued-fits (room list) c f (must-both c n e .1) q) refl refl refl))
+      (queued-leaves (queuedOne c) (queued-fits (room list) c f (must-both c n e .1) q) refl refl refl n))
   near-leaves n h false e =
-      subst (λ (r : Peeked). Leaves list c 0 (ofPeeked c r)) (peek-as-is list c n f h e) (queued-leaves n c f refl refl refl)
+      subst (λ (r : Peeked). Leaves list c 0 (ofPeeked c r)) (peek-as-is list c n f h e) (queued-leaves c f refl refl refl n)
 
   peek-leaves : (n : ℕ) → Leaves list c 0 (ofPeeked c (peekOf list c n))
   peek-leaves n =

@@ -15,3 +15,5 @@ pub mod WrongScans
 pub mod WrongScansLaws
 pub mod Pool
 pub mod PoolLaws
+pub mod Lookahead
+pub mod LookaheadLaws

@@ -1,7 +1,9 @@
 pub mod Reading
 pub mod Scan
 pub mod ReadingLaws
+pub mod ShownLaws
 pub mod ScanLaws
+pub mod WholeLaws
 pub mod Potential
 pub mod PaidLaws
 pub mod WorthLaws

@@ -1,0 +1,138 @@
+-- The promises of `lookahead::next` and `lookahead::peek`, case by case in document 01's order, and what the two say after a scan.
+-- Assumes nothing.
+use Prim.Native.Nat.{ℕ, _+_, _-_, _<_, _≤_}
+use mathlib.Core.Path.{_≡_}
+use mathlib.Core.Bool.{true, false}
+use mathlib.Core.List.{List}
+use mathlib.Core.Option.{some}
+use mathlib.Core.Option as option
+use lib.ListN.{length, getD}
+use Rattle.base.specs.Refusal.{none, peekTooFar, queueFull, badState, badRecord}
+use Rattle.token.specs.Row.{room, rowAt, rowFits}
+use Rattle.token.specs.declared.rows.Row.{Row}
+use Rattle.reading.specs.declared.Scanned.{Scanned}
+use Rattle.reading.specs.declared.Scanned.the-variants as scanned
+use Rattle.lookahead.specs.Cursor.{queueMost, startCursor, ahead}
+use Rattle.lookahead.specs.Next as forth
+use Rattle.lookahead.specs.Next.{nextOf}
+use Rattle.lookahead.specs.Peek as aside
+use Rattle.lookahead.specs.Peek.{peekOf}
+use Rattle.lookahead.specs.Queue.{newLexer}
+use Rattle.lookahead.specs.Calls.{Call, next, call, afterCalls, tokensOf, Unrefused, nexts, rustTokens}
+use Rattle.lookahead.specs.declared.Status.{Status}
+use Rattle.lookahead.specs.declared.Status.the-variants.{End, Stuck}
+use Rattle.lookahead.specs.declared.Cursor.{Cursor}
+use Rattle.lookahead.specs.declared.Given.{Given}
+use Rattle.lookahead.specs.declared.Given.the-variants as given
+use Rattle.lookahead.specs.declared.Peeked.{Peeked}
+use Rattle.lookahead.specs.declared.Peeked.the-variants as peeked
+use Rattle.promises.specs.Said.{Said, says}
+
+-- ---- the cursor
+
+-- the unfit ones, as document 01 lists them
+pub data Unfit (list : List ℕ) (c : Cursor) : Type 0 where
+  list-short : room list < c .count → Unfit list c
+  taken-over : c .count < c .taken → Unfit list c
+  queued-past-end : c .status ≡ End → c .count - c .taken < c .queued → Unfit list c
+  stuck-all-taken : c .status ≡ Stuck → c .count ≤ c .taken → Unfit list c
+  queued-over : queueMost < c .queued → Unfit list c
+
+-- there is a token past the queued ones
+pub data More (c : Cursor) : Type 0 where
+  left : c .taken + c .queued < c .count → More c
+  again : c .status ≡ Stuck → More c
+
+-- ---- `next`
+
+-- what it ensures of its answer
+abbrev pub NextEnsures : List ℕ → Cursor → Given → Type 0
+NextEnsures list c r = r ≡ nextOf list c
+
+abbrev pub givenSays : Given → Said
+givenSays r = says (forth.numberOf r) (forth.placeOf r)
+
+-- the cursor after it: so many are taken, and one less is queued, if one was
+abbrev pub handedOn : Cursor → ℕ → Cursor
+handedOn c taken = record { taken = taken; queued = c .queued - 1; count = c .count; status = c .status }
+
+-- the cases shut each other out, and leave nothing out
+pub record NextPromise (list : List ℕ) (c : Cursor) (r : Given) : Type 0 where
+  pub unfit : Unfit list c → givenSays r ≡ says badState 0
+  pub nothing-left : (Unfit list c → ⊥) → c .taken ≡ c .count → r ≡ given.Nothing
+  pub bad-record :
+      (Unfit list c → ⊥) → c .taken < c .count → rowFits (rowAt list (c .taken)) ≡ false → givenSays r ≡ says badRecord (c .taken)
+  pub at-end :
+      (Unfit list c → ⊥) → c .status ≡ End → c .taken < c .count → rowFits (rowAt list (c .taken)) ≡ true
+      → r ≡ given.Token (rowAt list (c .taken)) (handedOn c (c .taken + 1))
+  pub at-stuck :
+      (Unfit list c → ⊥) → c .status ≡ Stuck → c .taken + 1 < c .count → rowFits (rowAt list (c .taken)) ≡ true
+      → r ≡ given.Token (rowAt list (c .taken)) (handedOn c (c .taken + 1))
+  -- the last record is handed out again and again
+  pub at-last :
+      (Unfit list c → ⊥) → c .status ≡ Stuck → c .taken + 1 ≡ c .count → rowFits (rowAt list (c .taken)) ≡ true
+      → r ≡ given.Token (rowAt list (c .taken)) (handedOn c (c .taken))
+
+-- ---- `peek`
+
+-- what it ensures of its answer
+abbrev pub PeekEnsures : List ℕ → Cursor → ℕ → Peeked → Type 0
+PeekEnsures list c n r = r ≡ peekOf list c n
+
+abbrev pub peekedSays : Peeked → Said
+peekedSays r = says (aside.numberOf r) (aside.placeOf r)
+
+-- d is the cursor that has queued what a look at n asks for: one more token, if there is one and n is at most what is queued
+pub data Queues (c : Cursor) (n : ℕ) : Cursor → Type 0 where
+  one-more :
+      n ≤ c .queued → More c → c .queued < queueMost
+      → Queues c n (record { taken = c .taken; queued = c .queued + 1; count = c .count; status = c .status })
+  no-more : n ≤ c .queued → (More c → ⊥) → Queues c n c
+  next-one : n ≡ c .queued + 1 → Queues c n c
+
+-- the cases shut each other out, and leave nothing out
+pub record PeekPromise (list : List ℕ) (c : Cursor) (n : ℕ) (r : Peeked) : Type 0 where
+  pub unfit : Unfit list c → peekedSays r ≡ says badState 0
+  pub too-far : (Unfit list c → ⊥) → c .queued + 1 < n → peekedSays r ≡ says peekTooFar 0
+  pub full : (Unfit list c → ⊥) → n ≤ c .queued → More c → c .queued ≡ queueMost → peekedSays r ≡ says queueFull 0
+  pub nothing : (Unfit list c → ⊥) → (d : Cursor) → Queues c n d → d .queued ≤ n → r ≡ peeked.Nothing d
+  pub bad-record :
+      (Unfit list c → ⊥) → (d : Cursor) → Queues c n d → n < d .queued → rowFits (rowAt list (ahead c n)) ≡ false
+      → peekedSays r ≡ says badRecord (ahead c n)
+  pub shown :
+      (Unfit list c → ⊥) → (d : Cursor) → Queues c n d → n < d .queued → rowFits (rowAt list (ahead c n)) ≡ true
+      → r ≡ peeked.Token (rowAt list (ahead c n)) d
+  -- which record that is: the one n places on, and at Stuck no other than the last past it
+  pub place-at-end : c .status ≡ End → c .taken + n ≤ c .count → ahead c n ≡ c .taken + n
+  pub place-at-stuck : c .status ≡ Stuck → c .taken + n < c .count → ahead c n ≡ c .taken + n
+  pub place-past : c .status ≡ Stuck → c .count ≤ c .taken + n → ahead c n ≡ c .count - 1
+
+-- ---- after a scan
+
+-- the cursor to begin with, where the scan was not refused
+abbrev pub BeginsAt : Scanned → Cursor → Type 0
+BeginsAt (scanned.End n b) c = c ≡ startCursor n End
+BeginsAt (scanned.Stuck n b) c = c ≡ startCursor n Stuck
+BeginsAt scanned.TooLong c = ⊥
+BeginsAt (scanned.BadTable i) c = ⊥
+BeginsAt (scanned.BadUtf8 i) c = ⊥
+BeginsAt (scanned.ListFull n b) c = ⊥
+BeginsAt (scanned.ModesFull n b) c = ⊥
+
+-- what every sequence of calls meets that begins at this cursor, over a list that holds these rows
+pub record HandsOut (list : List ℕ) (rows : List Row) (c : Cursor) : Type 0 where
+  -- whatever was called before, no call gets 8 or 9
+  pub never-refused :
+      (calls : List Call) (x : Call)
+      → (call list (afterCalls list c calls) x .number ≡ badState → ⊥) × (call list (afterCalls list c calls) x .number ≡ badRecord → ⊥)
+  -- `next` hands out the rows in order, whatever was looked at between
+  pub in-order :
+      (calls : List Call) (d : Row) → nexts calls < length rows → call list (afterCalls list c calls) next .token ≡ some (getD rows (nexts calls) d)
+  -- and then nothing at End, and the last for ever at Stuck
+  pub ended :
+      c .status ≡ End → (calls : List Call) → length rows ≤ nexts calls → call list (afterCalls list c calls) next .token ≡ option.none
+  pub endless :
+      c .status ≡ Stuck → (calls : List Call) (d : Row) → length rows ≤ nexts calls
+      → call list (afterCalls list c calls) next .token ≡ some (getD rows (length rows - 1) d)
+  -- calls of which none is refused answer what the Rust's answer
+  pub as-in-rust : (calls : List Call) → Unrefused list c calls → rustTokens rows (c .status) newLexer calls ≡ tokensOf list c calls

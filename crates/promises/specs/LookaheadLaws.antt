@@ -1,0 +1,333 @@
+-- The promises of `Lookahead`, proved, and that no second answer fits.
+--     next-promise, next-has-one-answer
+--     peek-promise, peek-has-one-answer
+--     after-a-scan               after an unrefused scan: 8 and 9 are never given, and the definition's tokens are handed out
+--     too-far-is-underflow       refusal 6 is given exactly where the Rust's subtraction underflows
+--     full-is-full               and refusal 7 only where 65,535 tokens are queued
+-- Assumes nothing.
+use Prim.Native.Nat.{ℕ, _+_, _-_, _/_, _<_, _≤_}
+use native.Mathlib.Nat.{add-zero}
+use native.Mathlib.Omega.{arith}
+use mathlib.Core.Path.{_≡_, refl, sym, ap, subst, _∙_}
+use mathlib.Core.Bool.{Bool, true, false}
+use mathlib.Core.List.{List}
+use mathlib.Core.Option.{Option, some}
+use mathlib.Core.Option as option
+use lib.Dec.{ltb, leb}
+use lib.ListN.{length, getD}
+use borrow.Author.Tests.{ltb-true, leb-true, lt-ltb, le-ltb, le-leb, lt-leb}
+use Rattle.base.specs.PickLaws.{split-lt}
+use Rattle.base.specs.Refusal.{peekTooFar, queueFull}
+use Rattle.utf8.specs.CharsLaws.{well-of-fine}
+use Rattle.property.specs.Table.{propertiesAt}
+use Rattle.property.specs.FitLaws as property
+use Rattle.cluster.specs.Call.{baseEdition}
+use Rattle.token.specs.Row.{room, rowAt, rowsOf, putRows, rowFits}
+use Rattle.token.specs.RowLaws.{rows-length, rows-at, rows-back, fits-packs}
+use Rattle.token.specs.declared.rows.Row.{Row}
+use Rattle.state.specs.State.{startState}
+use Rattle.lexer.specs.InvariantLaws.{start-ok}
+use Rattle.reading.specs.Reading.{Stop, ended, stuck}
+use Rattle.reading.specs.Scan.{readingOf, Scans}
+use Rattle.reading.specs.ShownLaws.{reading-shown, stuck-some}
+use Rattle.reading.specs.WholeLaws.{Whole, end-whole, stuck-whole}
+use Rattle.reading.specs.declared.Scanned.{Scanned}
+use Rattle.reading.specs.declared.Scanned.the-variants as scanned
+use Rattle.lookahead.specs.Cursor.{queueMost, fitBy, isFit, startCursor, recordAt, ahead}
+use Rattle.lookahead.specs.CursorLaws as cursor
+use Rattle.lookahead.specs.CursorLaws.{fits-of, fit-of, record-at, record-in, start-fits, queued-fits, taken-held, queued-there}
+use Rattle.lookahead.specs.Next as forth
+use Rattle.lookahead.specs.Next.{movedOn, nextOf}
+use Rattle.lookahead.specs.Peek as aside
+use Rattle.lookahead.specs.Peek.{hasMore, mustQueue, queuedOne, queuedAt, peekOf}
+use Rattle.lookahead.specs.AnswerLaws.{next-row, next-bad, next-none, queued-row, queued-bad, queued-none, peek-far, peek-as-is, peek-full, peek-more}
+use Rattle.lookahead.specs.Queue.{KotoLexer, newLexer, get, tokenAt, underflows}
+use Rattle.lookahead.specs.Calls.{Call, next, call, afterCalls, nexts, Shows, Stands, Mirrors}
+use Rattle.lookahead.specs.StreamLaws.{get-in, get-past}
+use Rattle.lookahead.specs.QueueLaws as queue
+use Rattle.lookahead.specs.QueueLaws.{start-mirrors, calls-agree}
+use Rattle.lookahead.specs.CallsLaws as laws
+use Rattle.lookahead.specs.CallsLaws.{start-stands, calls-stand}
+use Rattle.lookahead.specs.declared.Status.{Status}
+use Rattle.lookahead.specs.declared.Status.the-variants.{End, Stuck}
+use Rattle.lookahead.specs.declared.Cursor.{Cursor}
+use Rattle.lookahead.specs.declared.Given.{Given}
+use Rattle.lookahead.specs.declared.Given.the-variants as given
+use Rattle.lookahead.specs.declared.Peeked.{Peeked}
+use Rattle.lookahead.specs.declared.Peeked.the-variants as peeked
+use Rattle.promises.specs.Said.{Said, says}
+use Rattle.promises.specs.Lookahead.{Unfit, list-short, taken-over, queued-past-end, stuck-all-taken, queued-over, More, left, again, NextEnsures, givenSays, handedOn, NextPromise, PeekEnsures, peekedSays, Queues, one-more, no-more, next-one, PeekPromise, BeginsAt, HandsOut}
+
+-- ---- which cursors are fit
+
+no-true : (t : Bool) → (t ≡ true → ⊥) → t ≡ false
+no-true true f = absurd (f refl)
+no-true false f = refl
+
+module _ (list : List ℕ) (c : Cursor) where
+  never-fit : Unfit list c → isFit (room list) c ≡ true → ⊥
+  never-fit (list-short h) f = omega (arith, fits-of (room list) c f .count)
+  never-fit (taken-over h) f = omega (arith, fits-of (room list) c f .taken)
+  never-fit (queued-past-end e h) f =
+      let t : fitBy c End ≡ true = rw e at (fits-of (room list) c f .by-status) in
+      omega (arith, leb-true (c .queued) (c .count - c .taken) t)
+  never-fit (stuck-all-taken e h) f =
+      let t : fitBy c Stuck ≡ true = rw e at (fits-of (room list) c f .by-status) in omega (arith, ltb-true (c .taken) (c .count) t)
+  never-fit (queued-over h) f = omega (arith, fits-of (room list) c f .queued)
+
+  unfit-is : Unfit list c → isFit (room list) c ≡ false
+  unfit-is u = no-true (isFit (room list) c) (never-fit u)
+
+  fit-is : (Unfit list c → ⊥) → isFit (room list) c ≡ true
+  fit-is n =
+      fit-of (room list) c (record {
+        count = split-lt (room list) (c .count) (λ h. absurd (n (list-short h))) (λ h. h);
+        taken = split-lt (c .count) (c .taken) (λ h. absurd (n (taken-over h))) (λ h. h);
+        queued = split-lt queueMost (c .queued) (λ h. absurd (n (queued-over h))) (λ h. h);
+        by-status = go (c .status) refl;
+      })
+    where
+      go : (s : Status) → c .status ≡ s → fitBy c s ≡ true
+      go End e =
+          split-lt (c .count - c .taken) (c .queued) (λ h. absurd (n (queued-past-end e h))) (λ h. le-leb (c .queued) (c .count - c .taken) h)
+      go Stuck e = split-lt (c .taken) (c .count) (λ h. lt-ltb (c .taken) (c .count) h) (λ h. absurd (n (stuck-all-taken e h)))
+
+-- ---- `next`
+
+module _ (list : List ℕ) (c : Cursor) (n : Unfit list c → ⊥) where
+  -- the record that comes next
+  first : ahead c 0 ≡ c .taken
+  first = ap (recordAt (c .count) (c .status)) (add-zero (c .taken)) ∙ taken-held (room list) c (fit-is list c n)
+
+  -- the cursor after it
+  moved-to : (taken : ℕ) → ahead c 1 ≡ taken → movedOn c ≡ handedOn c taken
+  unfolding movedOn
+  moved-to taken e = rw e
+
+  given-to : (taken : ℕ) → c .taken < c .count → rowFits (rowAt list (c .taken)) ≡ true → ahead c 1 ≡ taken
+      → nextOf list c ≡ given.Token (rowAt list (c .taken)) (handedOn c taken)
+  given-to taken h t e =
+      sym (next-row list c (fit-is list c n) first h t) ∙ ap (given.Token (rowAt list (c .taken))) (moved-to taken e)
+
+unfit-next : (list : List ℕ) (c : Cursor) → isFit (room list) c ≡ false → nextOf list c ≡ given.BadState
+unfolding nextOf
+unfit-next list c f = rw f
+
+-- the place that is meant, by the status
+ahead-by : (c : Cursor) (n : ℕ) (s : Status) → c .status ≡ s → ahead c n ≡ recordAt (c .count) s (c .taken + n)
+ahead-by c n s e = rw e
+
+pub next-promise : (list : List ℕ) (c : Cursor) (r : Given) → NextEnsures list c r → NextPromise list c r
+next-promise list c r e =
+    record {
+      unfit = λ u. ap givenSays (e ∙ unfit-next list c (unfit-is list c u));
+      nothing-left = λ n h. e ∙ sym (next-none list c (fit-is list c n) (first list c n) (omega arith));
+      bad-record = λ n h t. ap givenSays (e ∙ sym (next-bad list c (fit-is list c n) (first list c n) h t));
+      at-end = λ n s h t. e
+          ∙ given-to list c n (c .taken + 1) h t (ahead-by c 1 End s ∙ omega (arith, record-at (c .count) End (c .taken + 1)));
+      at-stuck = λ n s h t. e
+          ∙ given-to list c n (c .taken + 1) (omega arith) t (ahead-by c 1 Stuck s ∙ omega (arith, record-at (c .count) Stuck (c .taken + 1)));
+      at-last = λ n s h t. e
+          ∙ given-to list c n (c .taken) (omega arith) t (ahead-by c 1 Stuck s ∙ omega (arith, record-at (c .count) Stuck (c .taken + 1)));
+    }
+
+pub next-has-one-answer : (list : List ℕ) (c : Cursor) (r q : Given) → NextEnsures list c r → NextEnsures list c q → r ≡ q
+next-has-one-answer list c r q e f = e ∙ sym f
+
+-- ---- `peek`
+
+unfit-peek : (list : List ℕ) (c : Cursor) (n : ℕ) → isFit (room list) c ≡ false → peekOf list c n ≡ peeked.BadState
+unfolding peekOf
+unfit-peek list c n f = rw f
+
+-- whether there is more, as the document says it and as the definition tests it
+module _ (list : List ℕ) (c : Cursor) (f : isFit (room list) c ≡ true) where
+  more-is : More c → hasMore c ≡ true
+  more-is (left h) = lt-ltb (ahead c (c .queued)) (c .count) (omega (arith, record-at (c .count) (c .status) (c .taken + c .queued)))
+  more-is (again e) =
+      lt-ltb (ahead c (c .queued)) (c .count)
+      (subst (λ (s : Status). recordAt (c .count) s (c .taken + c .queued) < c .count) (sym e)
+      (record-in (c .count) (c .taken + c .queued) (cursor.stuck-some (room list) c f e)))
+
+  is-more : hasMore c ≡ true → More c
+  is-more t = go (c .status) refl
+    where
+      below : ahead c (c .queued) < c .count
+      below = ltb-true (ahead c (c .queued)) (c .count) t
+
+      go : (s : Status) → c .status ≡ s → More c
+      go End e =
+          let b : recordAt (c .count) End (c .taken + c .queued) < c .count = rw e at below in
+          left (omega (arith, record-at (c .count) End (c .taken + c .queued)))
+      go Stuck e = again e
+
+  must : (n : ℕ) → n ≤ c .queued → More c → mustQueue c n ≡ true
+  unfolding mustQueue
+  must n h m = rw (le-leb n (c .queued) h, more-is m)
+
+  must-not : (n : ℕ) → n ≤ c .queued → (More c → ⊥) → mustQueue c n ≡ false
+  unfolding mustQueue
+  must-not n h m = let t : hasMore c ≡ false = no-true (hasMore c) (λ e. m (is-more e)) in rw (le-leb n (c .queued) h, t)
+
+  must-past : (n : ℕ) → c .queued < n → mustQueue c n ≡ false
+  unfolding mustQueue
+  must-past n h = rw (lt-leb n (c .queued) h)
+
+  -- what is queued for a look at n
+  pub record Looks (n : ℕ) (d : Cursor) : Type 0 where
+    pub answer : peekOf list c n ≡ queuedAt list d n
+    pub fit : isFit (room list) d ≡ true
+    pub same : ahead d n ≡ ahead c n
+
+  looks : (n : ℕ) (d : Cursor) → Queues c n d → Looks n d
+  unfolding queuedOne
+  looks n d (one-more h m q) =
+      let no : c .queued ≡ queueMost → ⊥ = λ e. omega arith in
+      record {
+        answer = sym (peek-more list c n f (omega arith) (must n h m) no);
+        fit = queued-fits (room list) c f (more-is m) no;
+        same = refl;
+      }
+  looks n d (no-more h m) = record { answer = sym (peek-as-is list c n f (omega arith) (must-not n h m)); fit = f; same = refl }
+  looks n d (next-one e) = record { answer = sym (peek-as-is list c n f (omega arith) (must-past n (omega arith))); fit = f; same = refl }
+
+  -- the answer for such a look
+  module _ (n : ℕ) (d : Cursor) (l : Looks n d) where
+    look-none : d .queued ≤ n → peekOf list c n ≡ peeked.Nothing d
+    look-none h = l .answer ∙ sym (queued-none list d n h)
+
+    module _ (h : n < d .queued) where
+      there : ahead c n < d .count
+      there = subst (λ (i : ℕ). i < d .count) (l .same) (queued-there (room list) d (l .fit) n h)
+
+      look-bad : rowFits (rowAt list (ahead c n)) ≡ false → peekOf list c n ≡ peeked.BadRecord (ahead c n)
+      look-bad t = l .answer ∙ sym (queued-bad list d n (l .same) there h t)
+
+      look-row : rowFits (rowAt list (ahead c n)) ≡ true → peekOf list c n ≡ peeked.Token (rowAt list (ahead c n)) d
+      look-row t = l .answer ∙ sym (queued-row list d n (l .same) there h t)
+
+pub peek-promise : (list : List ℕ) (c : Cursor) (n : ℕ) (r : Peeked) → PeekEnsures list c n r → PeekPromise list c n r
+peek-promise list c n r e =
+    record {
+      unfit = λ u. ap peekedSays (e ∙ unfit-peek list c n (unfit-is list c u));
+      too-far = λ f h. ap peekedSays (e ∙ sym (peek-far list c n (fit-is list c f) h));
+      full = λ f h m q. let g = fit-is list c f in ap peekedSays (e ∙ sym (peek-full list c n g (omega arith) (must list c g n h m) q));
+      nothing = λ f d l h. let g = fit-is list c f in e ∙ look-none list c g n d (looks list c g n d l) h;
+      bad-record = λ f d l h t. let g = fit-is list c f in ap peekedSays (e ∙ look-bad list c g n d (looks list c g n d l) h t);
+      shown = λ f d l h t. let g = fit-is list c f in e ∙ look-row list c g n d (looks list c g n d l) h t;
+      place-at-end = λ s h. ahead-by c n End s ∙ omega (arith, record-at (c .count) End (c .taken + n));
+      place-at-stuck = λ s h. ahead-by c n Stuck s ∙ omega (arith, record-at (c .count) Stuck (c .taken + n));
+      place-past = λ s h. ahead-by c n Stuck s ∙ omega (arith, record-at (c .count) Stuck (c .taken + n));
+    }
+
+pub peek-has-one-answer : (list : List ℕ) (c : Cursor) (n : ℕ) (r q : Peeked) → PeekEnsures list c n r → PeekEnsures list c n q → r ≡ q
+peek-has-one-answer list c n r q e f = e ∙ sym f
+
+-- ---- after a scan
+
+-- a token of the Rust's stream, by its rows
+module _ (rows : List Row) (status : Status) (i : ℕ) (d : Row) where
+  stream-row : i < length rows → tokenAt rows status i ≡ some (getD rows i d)
+  unfolding tokenAt
+  stream-row h = go status
+    where
+      go : (s : Status) → tokenAt rows s i ≡ some (getD rows i d)
+      go End = get-in rows i d h
+      go Stuck = rw (lt-ltb i (length rows) h) (get-in rows i d h)
+
+  stream-ended : status ≡ End → length rows ≤ i → tokenAt rows status i ≡ option.none
+  unfolding tokenAt
+  stream-ended e h = rw e (get-past rows i h)
+
+  stream-last : status ≡ Stuck → 0 < length rows → length rows ≤ i → tokenAt rows status i ≡ some (getD rows (length rows - 1) d)
+  unfolding tokenAt
+  stream-last e k h = rw (e, le-ltb i (length rows) h) (get-in rows (length rows - 1) d (omega arith))
+
+-- a list at whose start these rows were put, each of which may be shown
+module _ (old : List ℕ) (rows : List Row) (status : Status) (h : length rows ≤ room old)
+    (shown : (i : ℕ) (d : Row) → i < length rows → rowFits (getD rows i d) ≡ true) (some-stuck : status ≡ Stuck → 0 < length rows) where
+  abbrev list : List ℕ
+  list = putRows old rows
+
+  abbrev count : ℕ
+  count = length rows
+
+  abbrev begin : Cursor
+  begin = startCursor count status
+
+  begins-fit : isFit (room list) begin ≡ true
+  begins-fit =
+      let same : room list ≡ room old = ap (λ (n : ℕ). n / 8) (rows-length old rows h) in
+      start-fits (room list) count status (omega arith) some-stuck
+
+  rows-are : rowsOf count list ≡ rows
+  rows-are = rows-back old rows (rowAt old 0) (λ i k. fits-packs (getD rows i (rowAt old 0)) (shown i (rowAt old 0) k))
+
+  shows : Shows list count
+  shows i k =
+      let t : rowFits (getD rows i (rowAt old 0)) ≡ true = shown i (rowAt old 0) k in
+      rw (rows-at old rows i (rowAt old 0) k (fits-packs (getD rows i (rowAt old 0)) t)) t
+
+  stands : (calls : List Call) → Stands list count status (0 + nexts calls) (afterCalls list begin calls)
+  stands = calls-stand list count status shows 0 begin (start-stands list count status begins-fit)
+
+  next-is : (calls : List Call) → call list (afterCalls list begin calls) next .token ≡ tokenAt rows status (nexts calls)
+  next-is calls =
+      let z : 0 + nexts calls ≡ nexts calls = omega arith in
+      laws.next-token list count status shows (0 + nexts calls) (afterCalls list begin calls) (stands calls) .1
+      ∙ ap (λ (l : List Row). tokenAt l status (0 + nexts calls)) rows-are
+      ∙ ap (tokenAt rows status) z
+
+  hands-out : HandsOut list rows begin
+  hands-out =
+      record {
+        never-refused = λ calls x. laws.never-refused list count status shows (0 + nexts calls) (afterCalls list begin calls) (stands calls) x;
+        in-order = λ calls d k. next-is calls ∙ stream-row rows status (nexts calls) d k;
+        ended = λ e calls k. next-is calls ∙ stream-ended rows status (nexts calls) (rowAt old 0) e k;
+        endless = λ e calls d k. next-is calls ∙ stream-last rows status (nexts calls) d e (some-stuck e) k;
+        as-in-rust = λ calls u. calls-agree list rows status begin newLexer
+            (subst (λ (l : List Row). Mirrors list l status begin newLexer) rows-are (start-mirrors list count status begins-fit)) calls u;
+      }
+
+-- the rows of a source that is read whole
+whole-shown : (source table : List ℕ) (room n : ℕ) (stop : Stop) → Whole source table room n stop → (i : ℕ) (d : Row)
+    → i < length (readingOf source table .rows) → rowFits (getD (readingOf source table .rows) i d) ≡ true
+whole-shown source table room n stop w =
+    reading-shown source table baseEdition (property.fit-of table (w .fit)) startState (start-ok source (w .small) (well-of-fine 0 source (w .well)))
+
+module _ (source table old new : List ℕ) where
+  -- from what was read whole and written
+  from-whole : (n : ℕ) (stop : Stop) (status : Status) (c : Cursor) → Whole source table (room old) n stop
+      → new ≡ putRows old (readingOf source table .rows) → c ≡ startCursor n status → (status ≡ Stuck → stop ≡ stuck)
+      → HandsOut new (readingOf source table .rows) c
+  from-whole n stop status c w p e k =
+      let rows : List Row = readingOf source table .rows in
+      let begin : c ≡ startCursor (length rows) status = e ∙ ap (λ (m : ℕ). startCursor m status) (w .counted) in
+      let some : status ≡ Stuck → 0 < length rows =
+      λ s. stuck-some (propertiesAt table) baseEdition source startState (w .stops ∙ k s) in
+      subst (λ (l : List ℕ). HandsOut l rows c) (sym p)
+      (subst (HandsOut (putRows old rows) rows) (sym begin)
+      (hands-out old rows status (omega (arith, w .counted, w .has-room)) (whole-shown source table (room old) n stop w) some))
+
+  pub after-a-scan : (r : Scanned) → Scans source table old r new → (c : Cursor) → BeginsAt r c → HandsOut new (readingOf source table .rows) c
+  after-a-scan (scanned.End n b) p c e =
+      let w = end-whole source table old new n b p in
+      from-whole n ended End c (w .0) (w .1) e (λ s. absurd (let z : _≡_ {A = ℕ} 0 1 = cc in omega arith))
+  after-a-scan (scanned.Stuck n b) p c e =
+      let w = stuck-whole source table old new n b p in from-whole n stuck Stuck c (w .0) (w .1) e (λ s. refl)
+  after-a-scan scanned.TooLong p c e = absurd e
+  after-a-scan (scanned.BadTable i) p c e = absurd e
+  after-a-scan (scanned.BadUtf8 i) p c e = absurd e
+  after-a-scan (scanned.ListFull n b) p c e = absurd e
+  after-a-scan (scanned.ModesFull n b) p c e = absurd e
+
+-- ---- the refusals that the Rust does not have, of a cursor that stands for the Rust's lexer
+
+module _ (list : List ℕ) (rows : List Row) (status : Status) (c : Cursor) (k : KotoLexer) (m : Mirrors list rows status c k) (n : ℕ) where
+  pub too-far-is-underflow :
+      (aside.numberOf (peekOf list c n) ≡ peekTooFar → underflows n (length (k .«token_queue»)) ≡ true)
+      × (underflows n (length (k .«token_queue»)) ≡ true → aside.numberOf (peekOf list c n) ≡ peekTooFar)
+  too-far-is-underflow = queue.far-underflows list rows status c k m n
+
+  pub full-is-full : aside.numberOf (peekOf list c n) ≡ queueFull → length (k .«token_queue») ≡ queueMost
+  full-is-full = queue.full-queued list rows status c k m n

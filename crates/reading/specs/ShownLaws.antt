@@ -1,0 +1,73 @@
+-- Every record of a reading may be shown, and a reading that is stuck has one.
+--     reading-shown    each of its records
+--     stuck-some       the Error that advanced nothing is a record
+-- Assumes nothing.
+use Prim.Native.Nat.{ℕ, zero, suc, _<_}
+use native.Mathlib.Omega.{arith}
+use mathlib.Core.Path.{_≡_, refl}
+use mathlib.Core.Bool.{true}
+use mathlib.Core.List.{List, [], _∷_}
+use lib.ListN.{length, getD}
+use Rattle.property.specs.Table.{propertiesAt}
+use Rattle.property.specs.FitLaws.{FitTable}
+use Rattle.token.specs.Row.{rowFits}
+use Rattle.token.specs.declared.rows.Row.{Row}
+use Rattle.state.specs.declared.State.{State}
+use Rattle.lexer.specs.Step.{step}
+use Rattle.lexer.specs.Invariant.{Ok, measure}
+use Rattle.lexer.specs.InvariantLaws.{step-ok}
+use Rattle.lexer.specs.ReadsLaws.{token-reads}
+use Rattle.lexer.specs.declared.What.{What}
+use Rattle.lexer.specs.declared.What.the-variants as what
+use Rattle.reading.specs.Reading.{stuck, Reading, afterStep, readIn, readFrom}
+
+-- each of these may be shown
+unfoldable AllShown : List Row → Type 0
+AllShown [] = Unit {0}
+AllShown (r ∷ rows) = (rowFits r ≡ true) × AllShown rows
+
+each-shown : (rows : List Row) → AllShown rows → (i : ℕ) (d : Row) → i < length rows → rowFits (getD rows i d) ≡ true
+unfolding AllShown
+each-shown [] a i d h = absurd (omega arith)
+each-shown (r ∷ rows) a zero d h = a .0
+each-shown (r ∷ rows) a (suc i) d h = each-shown rows (a .1) i d (omega arith)
+
+module _ (s table : List ℕ) (edition : ℕ) (fit : FitTable table) where
+  abbrev next : State → State
+  next st = step (propertiesAt table) edition s st .state
+
+  -- after a step, if what is read on from there may be shown
+  after-shown : (go : State → Reading) (st : State) → Ok s st → (w : What) → step (propertiesAt table) edition s st .what ≡ w
+      → AllShown (go (next st) .rows) → AllShown (afterStep go (next st) w .rows)
+  unfolding AllShown rowFits
+  after-shown go st ok (what.Token u) e a = (token-reads s table edition fit st ok u e .shown, a)
+  after-shown go st ok what.Stuck e a = (refl, tt)
+  after-shown go st ok what.ModesFull e a = tt
+  after-shown go st ok what.End e a = tt
+
+  in-steps : (n : ℕ) (st : State) → Ok s st → AllShown (readIn n (propertiesAt table) edition s st .rows)
+  unfolding readIn AllShown
+  in-steps zero st ok = tt
+  in-steps (suc n) st ok =
+      after-shown (readIn n (propertiesAt table) edition s) st ok (step (propertiesAt table) edition s st .what) refl
+      (in-steps n (next st) (step-ok s table edition fit st ok))
+
+  pub reading-shown : (st : State) → Ok s st → (i : ℕ) (d : Row) → i < length (readFrom (propertiesAt table) edition s st .rows)
+      → rowFits (getD (readFrom (propertiesAt table) edition s st .rows) i d) ≡ true
+  unfolding readFrom
+  reading-shown st ok =
+      each-shown (readFrom (propertiesAt table) edition s st .rows) (in-steps (suc (measure s st)) st ok)
+
+-- ---- a reading that is stuck
+
+after-some : (go : State → Reading) (after : State) (w : What) → afterStep go after w .stop ≡ stuck → 0 < length (afterStep go after w .rows)
+after-some go after (what.Token u) e = omega arith
+after-some go after what.Stuck e = omega arith
+after-some go after what.ModesFull e = let z : _≡_ {A = ℕ} 0 1 = cc in absurd (omega arith)
+after-some go after what.End e = let z : _≡_ {A = ℕ} 0 1 = cc in absurd (omega arith)
+
+pub stuck-some : (look : ℕ → ℕ) (edition : ℕ) (s : List ℕ) (st : State) → readFrom look edition s st .stop ≡ stuck
+    → 0 < length (readFrom look edition s st .rows)
+unfolding readFrom readIn
+stuck-some look edition s st =
+    after-some (readIn (measure s st) look edition s) (step look edition s st .state) (step look edition s st .what)
