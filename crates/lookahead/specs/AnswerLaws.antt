@@ -11,7 +11,7 @@
 -- Assumes nothing.
 use Prim.Native.Nat.{ℕ, _+_, _-_, _≤_, _<_}
 use native.Mathlib.Omega.{arith}
-use mathlib.Core.Path.{_≡_, refl, sym, ap, _∙_}
+use mathlib.Core.Path.{_≡_, refl, sym}
 use mathlib.Core.Bool.{true, false, and-eq-true-iff}
 use mathlib.Core.List.{List}
 use lib.Dec.{leb}
@@ -20,7 +20,7 @@ use Rattle.token.specs.Row.{room, rowAt, rowFits, shownAt}
 use Rattle.token.specs.declared.rows.Row.{Row}
 use Rattle.token.specs.declared.rows.RowAt.{RowAt}
 use Rattle.token.specs.declared.rows.RowAt.the-variants.{Fit, Unfit}
-use Rattle.lookahead.specs.Cursor.{queueMost, fitBy, isFit, lastPlace, recordAt, ahead, seenAt}
+use Rattle.lookahead.specs.Cursor.{queueMost, fitBy, isFit, lastPlace, ahead, seenAt}
 use Rattle.lookahead.specs.CursorLaws.{record-at}
 use Rattle.lookahead.specs.Next.{movedOn, givenBy, nextOf}
 use Rattle.lookahead.specs.Peek.{hasMore, mustQueue, queuedOne, shownBy, queuedAt, peekOf}

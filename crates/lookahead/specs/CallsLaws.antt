@@ -1,5 +1,5 @@
--- What no sequence of calls can break: over records that may be shown, a fit cursor stays fit, no call gets refusal 8 or 9, and `next` hands
--- out the tokens in order.
+-- What no sequence of calls can break: over records that may be shown a fit cursor stays fit, no call gets refusal 8 or 9, and `next`
+-- hands out the tokens in order.
 --     call-leaves                 what one call leaves
 --     start-stands, call-stands, calls-stand    where the cursor stands at the start, after a call, and after a sequence of calls
 --     never-refused               no call gets 8 or 9
@@ -19,9 +19,7 @@ use Rattle.token.specs.Row.{room, rowsOf}
 use Rattle.token.specs.declared.rows.Row.{Row}
 use Rattle.lookahead.specs.Cursor.{queueMost, isFit, startCursor, recordAt, ahead, seenAt}
 use Rattle.lookahead.specs.CursorLaws.{record-at, held-plus, last-most, taken-held, stuck-some, moved-fits, queued-fits}
-use Rattle.lookahead.specs.Next as forth
 use Rattle.lookahead.specs.Next.{movedOn, givenBy, nextOf}
-use Rattle.lookahead.specs.Peek as aside
 use Rattle.lookahead.specs.Peek.{mustQueue, queuedOne, shownBy, queuedAt, peekOf}
 use Rattle.lookahead.specs.AnswerLaws.{next-is, peek-far, peek-as-is, peek-full, peek-more, must-both}
 use Rattle.lookahead.specs.Queue.{tokenAt}
@@ -84,7 +82,8 @@ module _ (list : List ℕ) (c : Cursor) (f : isFit (room list) c ≡ true) (w : 
 
   next-leaves : Leaves list c 1 (ofGiven c (nextOf list c))
   next-leaves =
-      subst (λ (r : Given). Leaves list c 1 (ofGiven c r)) (next-is list c f refl refl) (given-leaves (seenAt list c 0) (seen-says list c 0))
+      subst (λ (r : Given). Leaves list c 1 (ofGiven c r)) (next-is list c f refl refl)
+      (given-leaves (seenAt list c 0) (seen-says list c 0))
 
   -- the token that it hands out
   given-token : (s : Seen) → Says list c 0 s
@@ -101,7 +100,8 @@ module _ (list : List ℕ) (c : Cursor) (f : isFit (room list) c ≡ true) (w : 
   -- ---- `peek`
 
   -- a cursor d that is this one, but for what is queued, and an answer that is no refusal 8 or 9
-  module _ (d : Cursor) (g : isFit (room list) d ≡ true) (a : d .count ≡ c .count) (b : d .status ≡ c .status) (e : d .taken ≡ c .taken) where
+  module _ (d : Cursor) (g : isFit (room list) d ≡ true) (a : d .count ≡ c .count) (b : d .status ≡ c .status)
+      (e : d .taken ≡ c .taken) where
     same-place : (number : ℕ) (token : Option Row) → (number ≡ badState → ⊥) → (number ≡ badRecord → ⊥)
         → Leaves list c 0 (record { number = number; token = token; cursor = d })
     same-place number token x y = record { fine = x; readable = y; fit = g; counted = a; ends = b; place = e ∙ sym stays }
@@ -155,7 +155,8 @@ module _ (list : List ℕ) (count : ℕ) (status : Status) (w : Shows list count
   own : {n : ℕ} → n ≡ count → Shows list n
   own e = subst (Shows list) (sym e) w
 
-  pub call-stands : (i : ℕ) (c : Cursor) → Stands list count status i c → (x : Call) → Stands list count status (i + isNext x) (call list c x .cursor)
+  pub call-stands : (i : ℕ) (c : Cursor) → Stands list count status i c → (x : Call)
+      → Stands list count status (i + isNext x) (call list c x .cursor)
   call-stands i c s x =
       let l = call-leaves list c (s .fit) (own (s .counted)) x in
       record {

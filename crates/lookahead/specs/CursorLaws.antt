@@ -3,7 +3,7 @@
 --     start-fits, moved-fits, queued-fits    after a scan it is, and both calls keep it so
 --     record-at                 the record that a place means is the place itself or the last, whichever is smaller
 --     last-most, record-most, record-in    it is none past the count, and at Stuck always one below
---     same-plus, held-plus      places that mean one record do so after n more, and a place may be held before n more
+--     same-plus, held-plus, held-once    places that mean one record do so after n more, and a place may be held before n more
 --     taken-held                a fit cursor does not stand past the last place
 --     stuck-some, queued-there  at Stuck there is a record, and a token that is queued is there
 -- Assumes nothing.
@@ -76,7 +76,11 @@ module _ (count : ℕ) (status : Status) where
         record-at count status (recordAt count status i + n),
       )
 
-  pub same-plus : (i j n : ℕ) → recordAt count status i ≡ recordAt count status j → recordAt count status (i + n) ≡ recordAt count status (j + n)
+  pub held-once : (i : ℕ) → recordAt count status (recordAt count status i) ≡ recordAt count status i
+  held-once i = omega (arith, record-at count status i, record-at count status (recordAt count status i))
+
+  pub same-plus : (i j n : ℕ) → recordAt count status i ≡ recordAt count status j
+      → recordAt count status (i + n) ≡ recordAt count status (j + n)
   same-plus i j n e = sym (held-plus i n) ∙ ap (λ (r : ℕ). recordAt count status (r + n)) e ∙ held-plus j n
 
 pub record-in : (count i : ℕ) → 0 < count → recordAt count Stuck i < count
@@ -85,7 +89,8 @@ record-in count i h = omega (arith, record-at count Stuck i)
 -- ---- what keeps a cursor fit
 
 -- what a scan has written has room
-pub start-fits : (room count : ℕ) (status : Status) → count ≤ room → (status ≡ Stuck → 0 < count) → isFit room (startCursor count status) ≡ true
+pub start-fits : (room count : ℕ) (status : Status) → count ≤ room → (status ≡ Stuck → 0 < count)
+    → isFit room (startCursor count status) ≡ true
 start-fits room count status h k =
     fit-of room (startCursor count status) (record {
       count = h;
@@ -137,7 +142,9 @@ module _ (room : ℕ) (c : Cursor) (f : isFit room c ≡ true) where
       go End e =
           le-leb (c .queued - 1) (c .count - recordAt (c .count) End (c .taken + 1))
           (omega (arith, passed .taken, leb-true (c .queued) (c .count - c .taken) e, record-at (c .count) End (c .taken + 1)))
-      go Stuck e = lt-ltb (recordAt (c .count) Stuck (c .taken + 1)) (c .count) (record-in (c .count) (c .taken + 1) (omega (arith, ltb-true (c .taken) (c .count) e)))
+      go Stuck e =
+          lt-ltb (recordAt (c .count) Stuck (c .taken + 1)) (c .count)
+          (record-in (c .count) (c .taken + 1) (omega (arith, ltb-true (c .taken) (c .count) e)))
 
   pub queued-fits : hasMore c ≡ true → (c .queued ≡ queueMost → ⊥) → isFit room (queuedOne c) ≡ true
   unfolding queuedOne

@@ -79,7 +79,8 @@ pushedBy go (some t) k = go (pushBack k t)
 -- `for _ in 0..tokens_to_add`
 unfoldable pub addTokens : List Row → Status → ℕ → KotoLexer → KotoLexer
 addTokens rows status zero k = k
-addTokens rows status (suc m) k = pushedBy (λ x. addTokens rows status m x) (nextToken rows status k .token) (nextToken rows status k .after)
+addTokens rows status (suc m) k =
+    pushedBy (λ x. addTokens rows status m x) (nextToken rows status k .token) (nextToken rows status k .after)
 
 -- `peek`
 unfoldable pub rustPeek : List Row → Status → KotoLexer → ℕ → Answered

@@ -14,24 +14,26 @@ use mathlib.Core.Bool.{Bool, true, false}
 use mathlib.Core.List.{List, [], _∷_, _++_}
 use mathlib.Core.Option.{Option, some}
 use mathlib.Core.Option as option
-use lib.Dec.{ltb, leb}
+use lib.Dec.{ltb}
 use lib.ListN.{length}
-use borrow.Author.Tests.{ltb-true, ltb-false, lt-ltb, le-ltb, le-leb, lt-leb, leb-true}
-use Rattle.base.specs.Pick.{pick}
+use borrow.Author.Tests.{ltb-true, ltb-false, lt-ltb, le-ltb, le-leb}
 use Rattle.base.specs.PickLaws.{by-lt, split-lt, split-eq}
 use Rattle.base.specs.Refusal.{none, peekTooFar, queueFull}
 use Rattle.token.specs.Row.{room, rowAt, rowsOf}
 use Rattle.token.specs.declared.rows.Row.{Row}
 use Rattle.lookahead.specs.Cursor.{queueMost, isFit, startCursor, recordAt, ahead, seenAt}
-use Rattle.lookahead.specs.CursorLaws.{held-plus, same-plus, moved-fits, queued-fits, queued-there, stuck-some}
+use Rattle.lookahead.specs.CursorLaws.{held-plus, held-once, same-plus, moved-fits, queued-fits, queued-there, stuck-some}
 use Rattle.lookahead.specs.Next as forth
 use Rattle.lookahead.specs.Next.{movedOn, givenBy, nextOf}
 use Rattle.lookahead.specs.Peek as aside
 use Rattle.lookahead.specs.Peek.{hasMore, mustQueue, queuedOne, shownBy, queuedAt, peekOf}
 use Rattle.lookahead.specs.AnswerLaws.{next-is, peek-far, peek-as-is, peek-full, peek-more, must-both}
-use Rattle.lookahead.specs.Queue.{KotoLexer, newLexer, Answered, get, tokenAt, handedOut, rustNext, maxOf, tokensToAdd, underflows, pushBack, addTokens, rustPeek}
-use Rattle.lookahead.specs.Calls.{Call, next, peek, ofGiven, ofPeeked, call, tokensOf, Unrefused, rustCall, rustTokens, upcoming, Mirrors, Agrees}
-use Rattle.lookahead.specs.StreamLaws.{get-past, recordOr, record-some, record-none, token-at, Says, seen-says, upcoming-length, upcoming-same, upcoming-next, get-upcoming}
+use Rattle.lookahead.specs.Queue.{KotoLexer, newLexer, Answered, get, tokenAt, handedOut, rustNext}
+use Rattle.lookahead.specs.Queue.{maxOf, tokensToAdd, underflows, pushBack, addTokens, rustPeek}
+use Rattle.lookahead.specs.Calls.{Call, next, peek, ofGiven, ofPeeked, call, tokensOf, Unrefused}
+use Rattle.lookahead.specs.Calls.{rustCall, rustTokens, upcoming, Mirrors, Agrees}
+use Rattle.lookahead.specs.StreamLaws.{get-past, recordOr, record-some, record-none, token-at, Says, seen-says}
+use Rattle.lookahead.specs.StreamLaws.{upcoming-length, upcoming-same, upcoming-next, get-upcoming}
 use Rattle.lookahead.specs.declared.Status.{Status}
 use Rattle.lookahead.specs.declared.Cursor.{Cursor}
 use Rattle.lookahead.specs.declared.Seen.{Seen}
@@ -39,7 +41,6 @@ use Rattle.lookahead.specs.declared.Seen.the-variants as seen
 use Rattle.lookahead.specs.declared.Given.{Given}
 use Rattle.lookahead.specs.declared.Given.the-variants as given
 use Rattle.lookahead.specs.declared.Peeked.{Peeked}
-use Rattle.lookahead.specs.declared.Peeked.the-variants as peeked
 
 pub start-mirrors : (list : List ℕ) (count : ℕ) (status : Status) → isFit (room list) (startCursor count status) ≡ true
     → Mirrors list (rowsOf count list) status (startCursor count status) newLexer
@@ -59,6 +60,18 @@ module _ (rows : List Row) (status : Status) (k : KotoLexer) where
   pop-front e = rw e
 
 module _ (list : List ℕ) (rows : List Row) (status : Status) (c : Cursor) (k : KotoLexer) (m : Mirrors list rows status c k) where
+  -- the record that a place means
+  abbrev here : ℕ → ℕ
+  here = recordAt (c .count) (c .status)
+
+  -- the records of n places, from a place on
+  abbrev from : ℕ → ℕ → List Row
+  from = upcoming list (c .count) (c .status)
+
+  -- the lexer that has handed out one more token
+  abbrev handed : KotoLexer
+  handed = record { lexer = k .lexer + 1; «token_queue» = k .«token_queue» }
+
   -- the token that the lexer hands out next is the one after the queue
   lexer-token : tokenAt rows status (k .lexer) ≡ recordOr list (c .count) (ahead c (c .queued))
   lexer-token =
@@ -71,13 +84,13 @@ module _ (list : List ℕ) (rows : List Row) (status : Status) (c : Cursor) (k :
   queue-length = ap length (m .queue) ∙ upcoming-length list (c .count) (c .status) (c .taken) (c .queued)
 
   -- the queue, where this many are queued
-  queue-is : (q : ℕ) → c .queued ≡ q → k .«token_queue» ≡ upcoming list (c .count) (c .status) (c .taken) q
-  queue-is q e = m .queue ∙ ap (upcoming list (c .count) (c .status) (c .taken)) e
+  queue-is : (q : ℕ) → c .queued ≡ q → k .«token_queue» ≡ from (c .taken) q
+  queue-is q e = m .queue ∙ ap (from (c .taken)) e
 
   -- ---- a token is handed out
 
   -- with nothing queued the lexer hands it out
-  moved-lexer : c .queued ≡ 0 → Mirrors list rows status (movedOn c) (record { lexer = k .lexer + 1; «token_queue» = k .«token_queue» })
+  moved-lexer : c .queued ≡ 0 → Mirrors list rows status (movedOn c) handed
   unfolding movedOn upcoming
   moved-lexer e =
       let q : c .queued - 1 ≡ 0 = omega arith in
@@ -86,38 +99,38 @@ module _ (list : List ℕ) (rows : List Row) (status : Status) (c : Cursor) (k :
         records = m .records;
         ends = m .ends;
         fit = moved-fits (room list) c (m .fit);
-        queue = queue-is 0 e ∙ sym (ap (upcoming list (c .count) (c .status) (ahead c 1)) q);
+        queue = queue-is 0 e ∙ sym (ap (from (ahead c 1)) q);
         position = same-plus (c .count) (c .status) (k .lexer) (c .taken + c .queued) 1 (m .position)
-            ∙ ap (recordAt (c .count) (c .status)) p
+            ∙ ap (here) p
             ∙ sym (held-plus (c .count) (c .status) (c .taken + 1) (c .queued - 1));
       }
 
   -- or else the queue does
   moved-queue : (q : ℕ) → c .queued ≡ suc q
-      → Mirrors list rows status (movedOn c) (record { lexer = k .lexer; «token_queue» = upcoming list (c .count) (c .status) (c .taken + 1) q })
+      → Mirrors list rows status (movedOn c) (record { lexer = k .lexer; «token_queue» = from (c .taken + 1) q })
   unfolding movedOn
   moved-queue q e =
       let same : c .queued - 1 ≡ q = omega arith in
       let p : c .taken + c .queued ≡ c .taken + 1 + (c .queued - 1) = omega arith in
       let z : ahead c 1 + 0 ≡ ahead c 1 = add-zero (ahead c 1) in
-      let held : recordAt (c .count) (c .status) (c .taken + 1) ≡ recordAt (c .count) (c .status) (ahead c 1) =
-      sym (ap (recordAt (c .count) (c .status)) (sym z) ∙ held-plus (c .count) (c .status) (c .taken + 1) 0 ∙ ap (recordAt (c .count) (c .status)) (add-zero (c .taken + 1))) in
+      let held : here (c .taken + 1) ≡ here (ahead c 1) =
+      sym (ap (here) (sym z) ∙ held-plus (c .count) (c .status) (c .taken + 1) 0 ∙ ap (here) (add-zero (c .taken + 1))) in
       record {
         records = m .records;
         ends = m .ends;
         fit = moved-fits (room list) c (m .fit);
         queue = upcoming-same list (c .count) (c .status) (c .taken + 1) (ahead c 1) q held
-            ∙ sym (ap (upcoming list (c .count) (c .status) (ahead c 1)) same);
+            ∙ sym (ap (from (ahead c 1)) same);
         position = m .position
-            ∙ ap (recordAt (c .count) (c .status)) p
+            ∙ ap (here) p
             ∙ sym (held-plus (c .count) (c .status) (c .taken + 1) (c .queued - 1));
       }
 
   -- the first of the queue is the token that is seen
   front-is : {row : Row} → 0 < c .queued → recordOr list (c .count) (ahead c 0) ≡ some row
-      → some (rowAt list (recordAt (c .count) (c .status) (c .taken))) ≡ some row
+      → some (rowAt list (here (c .taken))) ≡ some row
   front-is h e =
-      ap (λ (i : ℕ). some (rowAt list (recordAt (c .count) (c .status) i))) (sym (add-zero (c .taken)))
+      ap (λ (i : ℕ). some (rowAt list (here i))) (sym (add-zero (c .taken)))
       ∙ sym (record-some list (c .count) (ahead c 0) (queued-there (room list) c (m .fit) 0 h))
       ∙ e
 
@@ -183,7 +196,7 @@ module _ (list : List ℕ) (rows : List Row) (status : Status) (c : Cursor) (k :
 
   -- one more
   pushed : hasMore c ≡ true → (c .queued ≡ queueMost → ⊥)
-      → Mirrors list rows status (queuedOne c) (pushBack (record { lexer = k .lexer + 1; «token_queue» = k .«token_queue» }) (rowAt list (ahead c (c .queued))))
+      → Mirrors list rows status (queuedOne c) (pushBack handed (rowAt list (ahead c (c .queued))))
   unfolding queuedOne
   pushed h n =
       let p : c .taken + c .queued + 1 ≡ c .taken + (c .queued + 1) = omega arith in
@@ -193,13 +206,13 @@ module _ (list : List ℕ) (rows : List Row) (status : Status) (c : Cursor) (k :
         fit = queued-fits (room list) c (m .fit) h n;
         queue = ap (λ (l : List Row). l ++ (rowAt list (ahead c (c .queued)) ∷ [])) (m .queue)
             ∙ sym (upcoming-next list (c .count) (c .status) (c .taken) (c .queued))
-            ∙ ap (upcoming list (c .count) (c .status) (c .taken)) (sym (add-one (c .queued)));
-        position = same-plus (c .count) (c .status) (k .lexer) (c .taken + c .queued) 1 (m .position) ∙ ap (recordAt (c .count) (c .status)) p;
+            ∙ ap (from (c .taken)) (sym (add-one (c .queued)));
+        position = same-plus (c .count) (c .status) (k .lexer) (c .taken + c .queued) 1 (m .position) ∙ ap (here) p;
       }
 
   one-added : hasMore c ≡ true → (n : ℕ) → n ≤ c .queued
       → addTokens rows status (tokensToAdd n (length (k .«token_queue»))) k
-      ≡ pushBack (record { lexer = k .lexer + 1; «token_queue» = k .«token_queue» }) (rowAt list (ahead c (c .queued)))
+      ≡ pushBack handed (rowAt list (ahead c (c .queued)))
   unfolding addTokens
   one-added h n le =
       let one : tokensToAdd n (length (k .«token_queue»)) ≡ 1 =
@@ -278,31 +291,33 @@ max-most : (n len most : ℕ) → n ≤ most → len ≤ most → maxOf n len �
 max-most n len most h k = by-lt (λ (x : ℕ). x ≤ most) len n (λ _. h) (λ _. k)
 
 module _ (list : List ℕ) (rows : List Row) (status : Status) (c : Cursor) (k : KotoLexer) (m : Mirrors list rows status c k) (n : ℕ) where
+  abbrev len : ℕ
+  len = length (k .«token_queue»)
+
   -- a near token: neither, or the queue is full
   near-full : n ≤ c .queued + 1 → (t : Bool) → mustQueue c n ≡ t
       → (aside.numberOf (peekOf list c n) ≡ peekTooFar → ⊥) × (aside.numberOf (peekOf list c n) ≡ queueFull → c .queued ≡ queueMost)
   near-full h true e =
       split-eq (c .queued) queueMost
       (λ q. (λ z. omega (arith, ap aside.numberOf (peek-full list c n (m .fit) h e q)), λ z. q))
-      (λ q. let past = subst Past (peek-more list c n (m .fit) h e q) (queued-past list (queuedOne c) n) in (past .0, λ z. absurd (past .1 z)))
+      (λ q. let past = subst Past (peek-more list c n (m .fit) h e q) (queued-past list (queuedOne c) n) in
+      (past .0, λ z. absurd (past .1 z)))
   near-full h false e =
       let past = subst Past (peek-as-is list c n (m .fit) h e) (queued-past list c n) in (past .0, λ z. absurd (past .1 z))
 
   pub far-underflows :
-      (aside.numberOf (peekOf list c n) ≡ peekTooFar → underflows n (length (k .«token_queue»)) ≡ true)
-      × (underflows n (length (k .«token_queue»)) ≡ true → aside.numberOf (peekOf list c n) ≡ peekTooFar)
+      (aside.numberOf (peekOf list c n) ≡ peekTooFar → underflows n len ≡ true)
+      × (underflows n len ≡ true → aside.numberOf (peekOf list c n) ≡ peekTooFar)
   far-underflows =
-      let len = queue-length list rows status c k m in
+      let long : len ≡ c .queued = queue-length list rows status c k m in
       split-lt (c .queued + 1) n
       (λ far. let above : ltb (c .queued) n ≡ true = lt-ltb (c .queued) n (omega arith) in (
-        λ z. rw (len, above) (lt-ltb (c .queued + 1) n far),
+        λ z. rw (long, above) (lt-ltb (c .queued + 1) n far),
         λ z. sym (ap aside.numberOf (peek-far list c n (m .fit) far)),
       ))
       (λ near. (
         λ z. absurd (near-full near (mustQueue c n) refl .0 z),
-        λ z. absurd
-        (omega
-        (arith, ltb-true (length (k .«token_queue») + 1) (maxOf n (length (k .«token_queue»))) z, max-most n (length (k .«token_queue»)) (length (k .«token_queue») + 1) (omega (arith, len)) (omega arith))),
+        λ z. absurd (omega (arith, ltb-true (len + 1) (maxOf n len) z, max-most n len (len + 1) (omega arith) (omega arith))),
       ))
 
   pub full-queued : aside.numberOf (peekOf list c n) ≡ queueFull → length (k .«token_queue») ≡ queueMost

@@ -21,7 +21,7 @@ use Rattle.token.specs.RowLaws.{rows-of-length, rows-of-at}
 use Rattle.token.specs.declared.rows.Row.{Row}
 use Rattle.token.specs.declared.rows.RowAt.{RowAt}
 use Rattle.lookahead.specs.Cursor.{recordAt, ahead, seenBy, seenAt}
-use Rattle.lookahead.specs.CursorLaws.{record-at, same-plus, record-in}
+use Rattle.lookahead.specs.CursorLaws.{record-at, same-plus}
 use Rattle.lookahead.specs.Queue.{get, tokenAt}
 use Rattle.lookahead.specs.Calls.{upcoming}
 use Rattle.lookahead.specs.declared.Status.{Status}
@@ -126,7 +126,8 @@ module _ (list : List ℕ) (count : ℕ) (status : Status) where
       (upcoming-next (place + 1) n
       ∙ ap (λ (i : ℕ). upcoming list count status (place + 1) n ++ (rowAt list (recordAt count status i) ∷ [])) e)
 
-  pub get-upcoming : (place n i : ℕ) → i < n → get (upcoming list count status place n) i ≡ some (rowAt list (recordAt count status (place + i)))
+  pub get-upcoming : (place n i : ℕ) → i < n
+      → get (upcoming list count status place n) i ≡ some (rowAt list (recordAt count status (place + i)))
   unfolding upcoming get
   get-upcoming place zero i h = absurd (omega arith)
   get-upcoming place (suc n) zero h = ap (λ (j : ℕ). some (rowAt list (recordAt count status j))) (sym (add-zero place))

@@ -19,7 +19,6 @@ use Rattle.lookahead.specs.Peek as aside
 use Rattle.lookahead.specs.Peek.{peekOf}
 use Rattle.lookahead.specs.Queue.{newLexer}
 use Rattle.lookahead.specs.Calls.{Call, next, call, afterCalls, tokensOf, Unrefused, nexts, rustTokens}
-use Rattle.lookahead.specs.declared.Status.{Status}
 use Rattle.lookahead.specs.declared.Status.the-variants.{End, Stuck}
 use Rattle.lookahead.specs.declared.Cursor.{Cursor}
 use Rattle.lookahead.specs.declared.Given.{Given}
@@ -127,7 +126,8 @@ pub record HandsOut (list : List ℕ) (rows : List Row) (c : Cursor) : Type 0 wh
       → (call list (afterCalls list c calls) x .number ≡ badState → ⊥) × (call list (afterCalls list c calls) x .number ≡ badRecord → ⊥)
   -- `next` hands out the rows in order, whatever was looked at between
   pub in-order :
-      (calls : List Call) (d : Row) → nexts calls < length rows → call list (afterCalls list c calls) next .token ≡ some (getD rows (nexts calls) d)
+      (calls : List Call) (d : Row) → nexts calls < length rows
+      → call list (afterCalls list c calls) next .token ≡ some (getD rows (nexts calls) d)
   -- and then nothing at End, and the last for ever at Stuck
   pub ended :
       c .status ≡ End → (calls : List Call) → length rows ≤ nexts calls → call list (afterCalls list c calls) next .token ≡ option.none

@@ -11,9 +11,8 @@ use native.Mathlib.Omega.{arith}
 use mathlib.Core.Path.{_≡_, refl, sym, ap, subst, _∙_}
 use mathlib.Core.Bool.{Bool, true, false}
 use mathlib.Core.List.{List}
-use mathlib.Core.Option.{Option, some}
+use mathlib.Core.Option.{some}
 use mathlib.Core.Option as option
-use lib.Dec.{ltb, leb}
 use lib.ListN.{length, getD}
 use borrow.Author.Tests.{ltb-true, leb-true, lt-ltb, le-ltb, le-leb, lt-leb}
 use Rattle.base.specs.PickLaws.{split-lt}
@@ -36,12 +35,12 @@ use Rattle.reading.specs.declared.Scanned.the-variants as scanned
 use Rattle.lookahead.specs.Cursor.{queueMost, fitBy, isFit, startCursor, recordAt, ahead}
 use Rattle.lookahead.specs.CursorLaws as cursor
 use Rattle.lookahead.specs.CursorLaws.{fits-of, fit-of, record-at, record-in, start-fits, queued-fits, taken-held, queued-there}
-use Rattle.lookahead.specs.Next as forth
 use Rattle.lookahead.specs.Next.{movedOn, nextOf}
 use Rattle.lookahead.specs.Peek as aside
 use Rattle.lookahead.specs.Peek.{hasMore, mustQueue, queuedOne, queuedAt, peekOf}
-use Rattle.lookahead.specs.AnswerLaws.{next-row, next-bad, next-none, queued-row, queued-bad, queued-none, peek-far, peek-as-is, peek-full, peek-more}
-use Rattle.lookahead.specs.Queue.{KotoLexer, newLexer, get, tokenAt, underflows}
+use Rattle.lookahead.specs.AnswerLaws.{next-row, next-bad, next-none, queued-row, queued-bad, queued-none}
+use Rattle.lookahead.specs.AnswerLaws.{peek-far, peek-as-is, peek-full, peek-more}
+use Rattle.lookahead.specs.Queue.{KotoLexer, newLexer, tokenAt, underflows}
 use Rattle.lookahead.specs.Calls.{Call, next, call, afterCalls, nexts, Shows, Stands, Mirrors}
 use Rattle.lookahead.specs.StreamLaws.{get-in, get-past}
 use Rattle.lookahead.specs.QueueLaws as queue
@@ -55,8 +54,9 @@ use Rattle.lookahead.specs.declared.Given.{Given}
 use Rattle.lookahead.specs.declared.Given.the-variants as given
 use Rattle.lookahead.specs.declared.Peeked.{Peeked}
 use Rattle.lookahead.specs.declared.Peeked.the-variants as peeked
-use Rattle.promises.specs.Said.{Said, says}
-use Rattle.promises.specs.Lookahead.{Unfit, list-short, taken-over, queued-past-end, stuck-all-taken, queued-over, More, left, again, NextEnsures, givenSays, handedOn, NextPromise, PeekEnsures, peekedSays, Queues, one-more, no-more, next-one, PeekPromise, BeginsAt, HandsOut}
+use Rattle.promises.specs.Lookahead.{Unfit, list-short, taken-over, queued-past-end, stuck-all-taken, queued-over}
+use Rattle.promises.specs.Lookahead.{More, left, again, NextEnsures, givenSays, handedOn, NextPromise}
+use Rattle.promises.specs.Lookahead.{PeekEnsures, peekedSays, Queues, one-more, no-more, next-one, PeekPromise, BeginsAt, HandsOut}
 
 -- ---- which cursors are fit
 
@@ -89,7 +89,8 @@ module _ (list : List ℕ) (c : Cursor) where
     where
       go : (s : Status) → c .status ≡ s → fitBy c s ≡ true
       go End e =
-          split-lt (c .count - c .taken) (c .queued) (λ h. absurd (n (queued-past-end e h))) (λ h. le-leb (c .queued) (c .count - c .taken) h)
+          split-lt (c .count - c .taken) (c .queued) (λ h. absurd (n (queued-past-end e h)))
+          (λ h. le-leb (c .queued) (c .count - c .taken) h)
       go Stuck e = split-lt (c .taken) (c .count) (λ h. lt-ltb (c .taken) (c .count) h) (λ h. absurd (n (stuck-all-taken e h)))
 
 -- ---- `next`
@@ -126,7 +127,8 @@ next-promise list c r e =
       at-end = λ n s h t. e
           ∙ given-to list c n (c .taken + 1) h t (ahead-by c 1 End s ∙ omega (arith, record-at (c .count) End (c .taken + 1)));
       at-stuck = λ n s h t. e
-          ∙ given-to list c n (c .taken + 1) (omega arith) t (ahead-by c 1 Stuck s ∙ omega (arith, record-at (c .count) Stuck (c .taken + 1)));
+          ∙ given-to list c n (c .taken + 1) (omega arith) t
+          (ahead-by c 1 Stuck s ∙ omega (arith, record-at (c .count) Stuck (c .taken + 1)));
       at-last = λ n s h t. e
           ∙ given-to list c n (c .taken) (omega arith) t (ahead-by c 1 Stuck s ∙ omega (arith, record-at (c .count) Stuck (c .taken + 1)));
     }
@@ -281,7 +283,7 @@ module _ (old : List ℕ) (rows : List Row) (status : Status) (h : length rows �
   hands-out : HandsOut list rows begin
   hands-out =
       record {
-        never-refused = λ calls x. laws.never-refused list count status shows (0 + nexts calls) (afterCalls list begin calls) (stands calls) x;
+        never-refused = λ calls. laws.never-refused list count status shows (0 + nexts calls) (afterCalls list begin calls) (stands calls);
         in-order = λ calls d k. next-is calls ∙ stream-row rows status (nexts calls) d k;
         ended = λ e calls k. next-is calls ∙ stream-ended rows status (nexts calls) (rowAt old 0) e k;
         endless = λ e calls d k. next-is calls ∙ stream-last rows status (nexts calls) d e (some-stuck e) k;
@@ -293,7 +295,8 @@ module _ (old : List ℕ) (rows : List Row) (status : Status) (h : length rows �
 whole-shown : (source table : List ℕ) (room n : ℕ) (stop : Stop) → Whole source table room n stop → (i : ℕ) (d : Row)
     → i < length (readingOf source table .rows) → rowFits (getD (readingOf source table .rows) i d) ≡ true
 whole-shown source table room n stop w =
-    reading-shown source table baseEdition (property.fit-of table (w .fit)) startState (start-ok source (w .small) (well-of-fine 0 source (w .well)))
+    reading-shown source table baseEdition (property.fit-of table (w .fit)) startState
+    (start-ok source (w .small) (well-of-fine 0 source (w .well)))
 
 module _ (source table old new : List ℕ) where
   -- from what was read whole and written
@@ -309,7 +312,8 @@ module _ (source table old new : List ℕ) where
       (subst (HandsOut (putRows old rows) rows) (sym begin)
       (hands-out old rows status (omega (arith, w .counted, w .has-room)) (whole-shown source table (room old) n stop w) some))
 
-  pub after-a-scan : (r : Scanned) → Scans source table old r new → (c : Cursor) → BeginsAt r c → HandsOut new (readingOf source table .rows) c
+  pub after-a-scan : (r : Scanned) → Scans source table old r new → (c : Cursor) → BeginsAt r c
+      → HandsOut new (readingOf source table .rows) c
   after-a-scan (scanned.End n b) p c e =
       let w = end-whole source table old new n b p in
       from-whole n ended End c (w .0) (w .1) e (λ s. absurd (let z : _≡_ {A = ℕ} 0 1 = cc in omega arith))

@@ -60,7 +60,8 @@ module _ (s table : List ℕ) (edition : ℕ) (fit : FitTable table) where
 
 -- ---- a reading that is stuck
 
-after-some : (go : State → Reading) (after : State) (w : What) → afterStep go after w .stop ≡ stuck → 0 < length (afterStep go after w .rows)
+after-some : (go : State → Reading) (after : State) (w : What) → afterStep go after w .stop ≡ stuck
+    → 0 < length (afterStep go after w .rows)
 after-some go after (what.Token u) e = omega arith
 after-some go after what.Stuck e = omega arith
 after-some go after what.ModesFull e = let z : _≡_ {A = ℕ} 0 1 = cc in absurd (omega arith)

@@ -18,7 +18,7 @@ use Rattle.property.specs.declared.table.TableCheck.{TableCheck}
 use Rattle.property.specs.declared.table.TableCheck.the-variants as property
 use Rattle.token.specs.Row.{room, putRows}
 use Rattle.token.specs.declared.rows.Row.{Row}
-use Rattle.reading.specs.Reading.{Stop, ended, stuck, deep, Reading}
+use Rattle.reading.specs.Reading.{Stop, ended, stuck, deep}
 use Rattle.reading.specs.Scan.{endOf, whole, byRoom, onTable, onUtf8, readingOf, scanned, writtenBy, written, Scans}
 use Rattle.reading.specs.declared.Scanned.{Scanned}
 use Rattle.reading.specs.declared.Scanned.the-variants.{End, Stuck, TooLong, BadTable, BadUtf8, ListFull, ModesFull}
@@ -85,14 +85,13 @@ module _ (source table old new : List ℕ) (n b : ℕ) where
       ∙ e (take (room old) (readingOf source table .rows))
       ∙ take-all (room old) (readingOf source table .rows) h)
 
+  meant : {r : Scanned} → Scans source table old r new → Means source table (room old) r
+  meant p = subst (Means source table (room old)) (sym (p .answer)) (scanned-means source table (room old))
+
   pub end-whole : Scans source table old (End n b) new
       → Whole source table (room old) n ended × (new ≡ putRows old (readingOf source table .rows))
-  end-whole p =
-      let w : Whole source table (room old) n ended = subst (Means source table (room old)) (sym (p .answer)) (scanned-means source table (room old)) in
-      (w, all-written p (omega (arith, w .counted, w .has-room)) (λ rows. refl))
+  end-whole p = let w = meant p in (w, all-written p (omega (arith, w .counted, w .has-room)) (λ rows. refl))
 
   pub stuck-whole : Scans source table old (Stuck n b) new
       → Whole source table (room old) n stuck × (new ≡ putRows old (readingOf source table .rows))
-  stuck-whole p =
-      let w : Whole source table (room old) n stuck = subst (Means source table (room old)) (sym (p .answer)) (scanned-means source table (room old)) in
-      (w, all-written p (omega (arith, w .counted, w .has-room)) (λ rows. refl))
+  stuck-whole p = let w = meant p in (w, all-written p (omega (arith, w .counted, w .has-room)) (λ rows. refl))

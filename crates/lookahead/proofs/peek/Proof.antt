@@ -1,4 +1,5 @@
 -- `lookahead::peek` meets its contract: the code takes the tests of `peekOf` in its order. Assumes nothing.
+use native.Mathlib.Omega.{arith}
 use mathlib.Core.Path.{_≡_, sym, ap, _∙_}
 use mathlib.Core.Bool.{true}
 use denote.Ref.{now}
@@ -6,7 +7,6 @@ use borrow.Author.Tests.{not-true, not-false}
 use Rattle.token.specs.Row.{room}
 use Rattle.lookahead.specs.Cursor.{isFit}
 use Rattle.lookahead.specs.CursorLaws.{fits-of}
-use native.Mathlib.Omega.{arith}
 use Rattle.lookahead.specs.Peek.{mustQueue, queuedOne, queuedAt, peekOf}
 use Rattle.lookahead.specs.declared.Cursor.{Cursor}
 use Rattle.lookahead.specs.AnswerLaws.{peek-far, peek-as-is, peek-full, peek-more}
@@ -76,7 +76,8 @@ returns-5 c =
     let a = start (not-full .before .before) .args in
     c .queued-at2 .ensures
     ∙ ap (λ (x : Cursor). queuedAt (now (a .list)) x (a .n)) (c .before .queued-one .ensures)
-    ∙ peek-more _ _ _ (fit (tested .before .before .before)) (tested .before .if2 .left) (must (not-full .before .before)) (not-full .if4 .left)
+    ∙ peek-more _ _ _ (fit (tested .before .before .before)) (tested .before .if2 .left)
+    (must (not-full .before .before)) (not-full .if4 .left)
 
 pub peek-spec : {M : Type 1} → statement M
 peek-spec =

@@ -20,13 +20,15 @@ returns : tie.Need-returns
 returns c =
     let at-row = c .before .before .before in
     let s = at-row .before .before .before in
-    see-token _ _ (s .before .before .args .n) (s .ahead .ensures) (at-row .before .if1 .taken) (at-row .row-at .ensures) (c .before .row .given .1)
+    see-token _ _ (s .before .before .args .n) (s .ahead .ensures) (at-row .before .if1 .taken) (at-row .row-at .ensures)
+    (c .before .row .given .1)
 
 returns-2 : tie.Need-returns-2
 returns-2 c =
     let at-row = c .before .before in
     let s = at-row .before .before .before in
-    see-bad _ _ (s .before .before .args .n) (s .ahead .ensures) (at-row .before .if1 .taken) (at-row .row-at .ensures) (c .enum-told .given .1)
+    see-bad _ _ (s .before .before .args .n) (s .ahead .ensures) (at-row .before .if1 .taken) (at-row .row-at .ensures)
+    (c .enum-told .given .1)
 
 returns-3 : tie.Need-returns-3
 returns-3 c =

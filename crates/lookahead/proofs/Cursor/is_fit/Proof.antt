@@ -9,11 +9,13 @@ use borrow.Author.Needs.{needs}
 use Rattle.lookahead.proofs.Cursor.is_fit.Statement.{statement}
 use Rattle.lookahead.proofs.Cursor.is_fit.Tie as tie
 
+abbrev start : tie.Else3 → tie.Start
+start c = c .before .before .before .before .before .before
+
 -- the other tests are passed
-last-test : (c : tie.Else3) (s : Status) → let a = c .before .before .before .before .before .before .args in a .self .status ≡ s → fitBy (a .self) s ≡ isFit (a .room) (a .self)
+last-test : (c : tie.Else3) (s : Status) → start c .args .self .status ≡ s → fitBy (start c .args .self) s ≡ isFit (start c .args .room) (start c .args .self)
 last-test c s e =
-    let a = c .before .before .before .before .before .before .args in
-    fit-last (a .room) (a .self) s (c .before .before .before .before .if1 .left) (c .before .before .if2 .left) (c .if3 .left) e
+    fit-last _ (start c .args .self) s (c .before .before .before .before .if1 .left) (c .before .before .if2 .left) (c .if3 .left) e
 
 returns : tie.Need-returns
 unfolding isFit
