@@ -3,8 +3,8 @@
 --     ahead-own, ahead-last             the record that is ahead is the place's own, or the last
 --     see-token, see-bad, see-nothing   what is seen
 --     next-is, give-token, give-none, give-bad       `next`, by what is seen
---     show-is, show-token, show-none, show-bad       queued token n, by what is seen
 --     must-both                                      when a token must be queued
+--     show-is, show-token, show-none, show-bad       queued token n, by what is seen
 --     queued-row, queued-bad, queued-none            queued token n, by the record that is there
 --     next-row, next-bad, next-none                  `next`, by the record that is there
 --     peek-far, peek-as-is, peek-full, peek-more     `peek`, by its tests
@@ -82,6 +82,11 @@ next-is list c f e g = rw (f, ← e) g
 
 -- ---- `peek`
 
+-- a token must be queued
+pub must-both : (c : Cursor) (n : ℕ) → mustQueue c n ≡ true → (n ≤ c .queued) × (hasMore c ≡ true)
+unfolding mustQueue
+must-both c n e = let tests = and-eq-true-iff (leb n (c .queued)) (hasMore c) .0 e in (leb-true n (c .queued) (tests .0), tests .1)
+
 module _ (c : Cursor) {s : Seen} where
   pub show-token : {row : Row} → s ≡ seen.Token row → peeked.Token row c ≡ shownBy c s
   show-token e = rw e
@@ -97,11 +102,6 @@ pub show-is : (list : List ℕ) (c : Cursor) (n : ℕ) {s : Seen} {v : Peeked} �
     → v ≡ queuedAt list c n
 unfolding queuedAt
 show-is list c n h e g = rw (lt-ltb n (c .queued) h, ← e) g
-
--- a token must be queued
-pub must-both : (c : Cursor) (n : ℕ) → mustQueue c n ≡ true → (n ≤ c .queued) × (hasMore c ≡ true)
-unfolding mustQueue
-must-both c n e = let tests = and-eq-true-iff (leb n (c .queued)) (hasMore c) .0 e in (leb-true n (c .queued) (tests .0), tests .1)
 
 module _ (list : List ℕ) (c : Cursor) (n : ℕ) (f : isFit (room list) c ≡ true) where
   pub peek-far : c .queued + 1 < n → peeked.PeekTooFar ≡ peekOf list c n

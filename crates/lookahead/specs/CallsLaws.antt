@@ -192,7 +192,7 @@ module _ (list : List ℕ) (count : ℕ) (status : Status) (w : Shows list count
         let e : ahead c 0 ≡ recordAt count status i = stays list c (s .fit) (own (s .counted)) ∙ s .place in (
           t .0,
           t .1
-          ∙ ap (recordOr list (c .count)) e
-          ∙ ap (λ (n : ℕ). recordOr list n (recordAt count status i)) (s .counted)
-          ∙ sym (token-at list count status i some-stuck),
+              ∙ ap (recordOr list (c .count)) e
+              ∙ ap (λ (n : ℕ). recordOr list n (recordAt count status i)) (s .counted)
+              ∙ sym (token-at list count status i some-stuck),
         )

@@ -59,6 +59,13 @@ module _ (rows : List Row) (status : Status) (k : KotoLexer) where
   unfolding rustNext
   pop-front e = rw e
 
+-- how many tokens the loop is to add: one for a look at the queue or right after it, none for a look one further
+tokens-one : (n len : ℕ) → n ≤ len → tokensToAdd n len ≡ 1
+tokens-one n len h = let low : maxOf n len ≡ len = rw (le-ltb len n h) in omega arith
+
+tokens-none : (n len : ℕ) → n ≡ len + 1 → tokensToAdd n len ≡ 0
+tokens-none n len h = let high : maxOf n len ≡ n = rw (lt-ltb len n (omega arith)) in omega arith
+
 module _ (list : List ℕ) (rows : List Row) (status : Status) (c : Cursor) (k : KotoLexer) (m : Mirrors list rows status c k) where
   -- the record that a place means
   abbrev here : ℕ → ℕ
@@ -101,7 +108,7 @@ module _ (list : List ℕ) (rows : List Row) (status : Status) (c : Cursor) (k :
         fit = moved-fits (room list) c (m .fit);
         queue = queue-is 0 e ∙ sym (ap (from (ahead c 1)) q);
         position = same-plus (c .count) (c .status) (k .lexer) (c .taken + c .queued) 1 (m .position)
-            ∙ ap (here) p
+            ∙ ap here p
             ∙ sym (held-plus (c .count) (c .status) (c .taken + 1) (c .queued - 1));
       }
 
@@ -114,7 +121,7 @@ module _ (list : List ℕ) (rows : List Row) (status : Status) (c : Cursor) (k :
       let p : c .taken + c .queued ≡ c .taken + 1 + (c .queued - 1) = omega arith in
       let z : ahead c 1 + 0 ≡ ahead c 1 = add-zero (ahead c 1) in
       let held : here (c .taken + 1) ≡ here (ahead c 1) =
-      sym (ap (here) (sym z) ∙ held-plus (c .count) (c .status) (c .taken + 1) 0 ∙ ap (here) (add-zero (c .taken + 1))) in
+      sym (ap here (sym z) ∙ held-plus (c .count) (c .status) (c .taken + 1) 0 ∙ ap (here) (add-zero (c .taken + 1))) in
       record {
         records = m .records;
         ends = m .ends;
@@ -122,7 +129,7 @@ module _ (list : List ℕ) (rows : List Row) (status : Status) (c : Cursor) (k :
         queue = upcoming-same list (c .count) (c .status) (c .taken + 1) (ahead c 1) q held
             ∙ sym (ap (from (ahead c 1)) same);
         position = m .position
-            ∙ ap (here) p
+            ∙ ap here p
             ∙ sym (held-plus (c .count) (c .status) (c .taken + 1) (c .queued - 1));
       }
 
@@ -207,7 +214,7 @@ module _ (list : List ℕ) (rows : List Row) (status : Status) (c : Cursor) (k :
         queue = ap (λ (l : List Row). l ++ (rowAt list (ahead c (c .queued)) ∷ [])) (m .queue)
             ∙ sym (upcoming-next list (c .count) (c .status) (c .taken) (c .queued))
             ∙ ap (from (c .taken)) (sym (add-one (c .queued)));
-        position = same-plus (c .count) (c .status) (k .lexer) (c .taken + c .queued) 1 (m .position) ∙ ap (here) p;
+        position = same-plus (c .count) (c .status) (k .lexer) (c .taken + c .queued) 1 (m .position) ∙ ap here p;
       }
 
   one-added : hasMore c ≡ true → (n : ℕ) → n ≤ c .queued
@@ -215,8 +222,7 @@ module _ (list : List ℕ) (rows : List Row) (status : Status) (c : Cursor) (k :
       ≡ pushBack handed (rowAt list (ahead c (c .queued)))
   unfolding addTokens
   one-added h n le =
-      let one : tokensToAdd n (length (k .«token_queue»)) ≡ 1 =
-      rw (queue-length, le-ltb (c .queued) n le) (omega arith) in
+      let one : tokensToAdd n (length (k .«token_queue»)) ≡ 1 = tokens-one n (length (k .«token_queue»)) (omega (arith, queue-length)) in
       let t : tokenAt rows status (k .lexer) ≡ some (rowAt list (ahead c (c .queued))) =
       lexer-token ∙ record-some list (c .count) (ahead c (c .queued)) (ltb-true (ahead c (c .queued)) (c .count) h) in
       rw (one, t)
@@ -225,8 +231,10 @@ module _ (list : List ℕ) (rows : List Row) (status : Status) (c : Cursor) (k :
   unfolding addTokens mustQueue
   none-added n f near =
       split-lt (c .queued) n
-      (λ h. let no : tokensToAdd n (length (k .«token_queue»)) ≡ 0 = rw (queue-length, lt-ltb (c .queued) n h) (omega arith) in rw no)
-      (λ h. let one : tokensToAdd n (length (k .«token_queue»)) ≡ 1 = rw (queue-length, le-ltb (c .queued) n h) (omega arith) in
+      (λ h. let no : tokensToAdd n (length (k .«token_queue»)) ≡ 0 =
+      tokens-none n (length (k .«token_queue»)) (omega (arith, queue-length)) in rw no)
+      (λ h. let one : tokensToAdd n (length (k .«token_queue»)) ≡ 1 =
+      tokens-one n (length (k .«token_queue»)) (omega (arith, queue-length)) in
       let past : hasMore c ≡ false = rw (le-leb n (c .queued) h) at f in
       let t : tokenAt rows status (k .lexer) ≡ option.none =
       lexer-token ∙ record-none list (c .count) (ahead c (c .queued)) (ltb-false (ahead c (c .queued)) (c .count) past) in

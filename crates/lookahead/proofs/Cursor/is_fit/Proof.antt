@@ -13,7 +13,8 @@ abbrev start : tie.Else3 → tie.Start
 start c = c .before .before .before .before .before .before
 
 -- the other tests are passed
-last-test : (c : tie.Else3) (s : Status) → start c .args .self .status ≡ s → fitBy (start c .args .self) s ≡ isFit (start c .args .room) (start c .args .self)
+last-test : (c : tie.Else3) (s : Status) → start c .args .self .status ≡ s
+    → fitBy (start c .args .self) s ≡ isFit (start c .args .room) (start c .args .self)
 last-test c s e =
     fit-last _ (start c .args .self) s (c .before .before .before .before .if1 .left) (c .before .before .if2 .left) (c .if3 .left) e
 
