@@ -10,9 +10,9 @@ use Rattle.base.specs.Refusal.{none}
 use Rattle.token.specs.Row.{room, rowAt, rowsOf, rowFits}
 use Rattle.token.specs.declared.rows.Row.{Row}
 use Rattle.lookahead.specs.Cursor.{isFit, recordAt, ahead}
-use Rattle.lookahead.specs.Next as forth
+use Rattle.lookahead.specs.Next as ofNext
 use Rattle.lookahead.specs.Next.{nextOf}
-use Rattle.lookahead.specs.Peek as aside
+use Rattle.lookahead.specs.Peek as ofPeek
 use Rattle.lookahead.specs.Peek.{peekOf}
 use Rattle.lookahead.specs.Queue.{KotoLexer, Answered, rustNext, rustPeek}
 use Rattle.lookahead.specs.declared.Status.{Status}
@@ -35,20 +35,21 @@ pub record Outcome : Type 0 where
   pub token : Option Row
   pub cursor : Cursor
 
--- the token that `next` hands out, and the cursor after it
+-- the token that `next` hands out
 abbrev pub givenToken : Given → Option Row
 givenToken (given.Token row after) = some row
 givenToken given.Nothing = option.none
 givenToken given.BadState = option.none
 givenToken (given.BadRecord i) = option.none
 
+-- the cursor after it: the old one, where none is handed back
 abbrev pub givenCursor : Cursor → Given → Cursor
 givenCursor c (given.Token row after) = after
 givenCursor c given.Nothing = c
 givenCursor c given.BadState = c
 givenCursor c (given.BadRecord i) = c
 
--- the token that `peek` shows, and the cursor after it
+-- the token that `peek` shows
 abbrev pub peekedToken : Peeked → Option Row
 peekedToken (peeked.Token row after) = some row
 peekedToken (peeked.Nothing after) = option.none
@@ -57,6 +58,7 @@ peekedToken peeked.PeekTooFar = option.none
 peekedToken peeked.QueueFull = option.none
 peekedToken (peeked.BadRecord i) = option.none
 
+-- the cursor after it: the old one, where none is handed back
 abbrev pub peekedCursor : Cursor → Peeked → Cursor
 peekedCursor c (peeked.Token row after) = after
 peekedCursor c (peeked.Nothing after) = after
@@ -65,12 +67,15 @@ peekedCursor c peeked.PeekTooFar = c
 peekedCursor c peeked.QueueFull = c
 peekedCursor c (peeked.BadRecord i) = c
 
+-- an answer of `next`
 abbrev pub ofGiven : Cursor → Given → Outcome
-ofGiven c r = record { number = forth.numberOf r; token = givenToken r; cursor = givenCursor c r }
+ofGiven c r = record { number = ofNext.numberOf r; token = givenToken r; cursor = givenCursor c r }
 
+-- an answer of `peek`
 abbrev pub ofPeeked : Cursor → Peeked → Outcome
-ofPeeked c r = record { number = aside.numberOf r; token = peekedToken r; cursor = peekedCursor c r }
+ofPeeked c r = record { number = ofPeek.numberOf r; token = peekedToken r; cursor = peekedCursor c r }
 
+-- a call, from a cursor
 abbrev pub call : List ℕ → Cursor → Call → Outcome
 call list c next = ofGiven c (nextOf list c)
 call list c (peek n) = ofPeeked c (peekOf list c n)
@@ -90,11 +95,12 @@ unfoldable pub Unrefused : List ℕ → Cursor → List Call → Type 0
 Unrefused list c [] = Unit {0}
 Unrefused list c (x ∷ calls) = (call list c x .number ≡ none) × Unrefused list (call list c x .cursor) calls
 
--- how many of them are `next`
+-- how many places a call goes on
 abbrev pub isNext : Call → ℕ
 isNext next = 1
 isNext (peek n) = 0
 
+-- how many of them are `next`
 unfoldable pub nexts : List Call → ℕ
 nexts [] = 0
 nexts (x ∷ calls) = isNext x + nexts calls
@@ -112,10 +118,17 @@ pub record Stands (list : List ℕ) (count : ℕ) (status : Status) (i : ℕ) (c
 
 -- ---- in the Rust
 
+-- a call
 abbrev pub rustCall : List Row → Status → KotoLexer → Call → Answered
 rustCall rows status k next = rustNext rows status k
 rustCall rows status k (peek n) = rustPeek rows status k n
 
+-- the lexer after some calls
+unfoldable pub rustAfter : List Row → Status → KotoLexer → List Call → KotoLexer
+rustAfter rows status k [] = k
+rustAfter rows status k (x ∷ calls) = rustAfter rows status (rustCall rows status k x .after) calls
+
+-- their tokens, one for each call
 unfoldable pub rustTokens : List Row → Status → KotoLexer → List Call → List (Option Row)
 rustTokens rows status k [] = []
 rustTokens rows status k (x ∷ calls) = rustCall rows status k x .token ∷ rustTokens rows status (rustCall rows status k x .after) calls

@@ -1,6 +1,6 @@
 -- Document 01, "Look-ahead": a cursor over a scan's records. lexer.rs's `KotoLexer` has a queue of tokens beside its lexer; here both are
--- numbers over the list. The tokens that are still to come have places 0, 1, 2 and so on: `taken` is the place of the next one, and the
--- queued tokens are the first after it. What is written here knows a record by its index alone, and its numbers not at all.
+-- numbers over the list. The tokens have places 0, 1, 2 and so on, without end at Stuck: those below `taken` are handed out, and so many as
+-- `queued` says are queued from there on. A record is known here by its index alone; its numbers are known in the crate `token`.
 -- Assumes nothing.
 use Prim.Native.Nat.{ℕ, _+_, _-_}
 use mathlib.Core.Bool.{Bool, false}

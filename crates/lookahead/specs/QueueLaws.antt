@@ -1,7 +1,7 @@
 -- A cursor says what the Rust's lexer says, call by call.
 --     start-mirrors            the cursor of a scan's answer stands for a new lexer
 --     next-agrees, peek-agrees, call-agrees    a call that is not refused answers the same token, or none, and leads on
---     calls-agree              so does every sequence of such calls
+--     calls-agree, calls-mirror    so does every sequence of such calls
 --     far-underflows           refusal 6 is given exactly where the Rust's subtraction underflows
 --     full-queued              refusal 7 only where 65,535 tokens are queued
 -- Assumes nothing.
@@ -23,15 +23,15 @@ use Rattle.token.specs.Row.{room, rowAt, rowsOf}
 use Rattle.token.specs.declared.rows.Row.{Row}
 use Rattle.lookahead.specs.Cursor.{queueMost, isFit, startCursor, recordAt, ahead, seenAt}
 use Rattle.lookahead.specs.CursorLaws.{held-plus, held-once, same-plus, moved-fits, queued-fits, queued-there, stuck-some}
-use Rattle.lookahead.specs.Next as forth
+use Rattle.lookahead.specs.Next as ofNext
 use Rattle.lookahead.specs.Next.{movedOn, givenBy, nextOf}
-use Rattle.lookahead.specs.Peek as aside
+use Rattle.lookahead.specs.Peek as ofPeek
 use Rattle.lookahead.specs.Peek.{hasMore, mustQueue, queuedOne, shownBy, queuedAt, peekOf}
 use Rattle.lookahead.specs.AnswerLaws.{next-is, peek-far, peek-as-is, peek-full, peek-more, must-both}
 use Rattle.lookahead.specs.Queue.{KotoLexer, newLexer, Answered, get, tokenAt, handedOut, rustNext}
 use Rattle.lookahead.specs.Queue.{maxOf, tokensToAdd, underflows, pushBack, addTokens, rustPeek}
-use Rattle.lookahead.specs.Calls.{Call, next, peek, ofGiven, ofPeeked, call, tokensOf, Unrefused}
-use Rattle.lookahead.specs.Calls.{rustCall, rustTokens, upcoming, Mirrors, Agrees}
+use Rattle.lookahead.specs.Calls.{Call, next, peek, ofGiven, ofPeeked, call, afterCalls, tokensOf, Unrefused}
+use Rattle.lookahead.specs.Calls.{rustCall, rustAfter, rustTokens, upcoming, Mirrors, Agrees}
 use Rattle.lookahead.specs.StreamLaws.{get-past, recordOr, record-some, record-none, token-at, Says, seen-says}
 use Rattle.lookahead.specs.StreamLaws.{upcoming-length, upcoming-same, upcoming-next, get-upcoming}
 use Rattle.lookahead.specs.declared.Status.{Status}
@@ -119,9 +119,7 @@ module _ (list : List ℕ) (rows : List Row) (status : Status) (c : Cursor) (k :
   moved-queue q e =
       let same : c .queued - 1 ≡ q = omega arith in
       let p : c .taken + c .queued ≡ c .taken + 1 + (c .queued - 1) = omega arith in
-      let z : ahead c 1 + 0 ≡ ahead c 1 = add-zero (ahead c 1) in
-      let held : here (c .taken + 1) ≡ here (ahead c 1) =
-      sym (ap here (sym z) ∙ held-plus (c .count) (c .status) (c .taken + 1) 0 ∙ ap (here) (add-zero (c .taken + 1))) in
+      let held : here (c .taken + 1) ≡ here (ahead c 1) = sym (held-once (c .count) (c .status) (c .taken + 1)) in
       record {
         records = m .records;
         ends = m .ends;
@@ -161,15 +159,15 @@ module _ (list : List ℕ) (rows : List Row) (status : Status) (c : Cursor) (k :
       (record { token = refl; mirrors = m })
   none-agrees h (suc q) e = absurd (omega (arith, queued-there (room list) c (m .fit) 0 (omega arith)))
 
-  given-agrees : (s : Seen) → Says list c 0 s → forth.numberOf (givenBy c s) ≡ none
+  given-agrees : (s : Seen) → Says list c 0 s → ofNext.numberOf (givenBy c s) ≡ none
       → Agrees list rows status (ofGiven c (givenBy c s)) (rustNext rows status k)
   given-agrees (seen.Token row) f z = give-agrees row f (c .queued) refl
   given-agrees seen.Nothing f z = none-agrees f (c .queued) refl
   given-agrees (seen.BadRecord i) f z = absurd (omega arith)
 
-  pub next-agrees : forth.numberOf (nextOf list c) ≡ none → Agrees list rows status (ofGiven c (nextOf list c)) (rustNext rows status k)
+  pub next-agrees : ofNext.numberOf (nextOf list c) ≡ none → Agrees list rows status (ofGiven c (nextOf list c)) (rustNext rows status k)
   next-agrees =
-      subst (λ (r : Given). forth.numberOf r ≡ none → Agrees list rows status (ofGiven c r) (rustNext rows status k))
+      subst (λ (r : Given). ofNext.numberOf r ≡ none → Agrees list rows status (ofGiven c r) (rustNext rows status k))
       (next-is list c (m .fit) refl refl) (given-agrees (seenAt list c 0) (seen-says list c 0))
 
   -- ---- a token is shown
@@ -181,7 +179,7 @@ module _ (list : List ℕ) (rows : List Row) (status : Status) (c : Cursor) (k :
   shown-token : (n : ℕ) → n < c .queued → get (k .«token_queue») n ≡ some (rowAt list (ahead c n))
   shown-token n h = rw (m .queue) (get-upcoming list (c .count) (c .status) (c .taken) (c .queued) n h)
 
-  seen-agrees : (old : Cursor) (n : ℕ) → n < c .queued → (s : Seen) → Says list c n s → aside.numberOf (shownBy c s) ≡ none
+  seen-agrees : (old : Cursor) (n : ℕ) → n < c .queued → (s : Seen) → Says list c n s → ofPeek.numberOf (shownBy c s) ≡ none
       → Agrees list rows status (ofPeeked old (shownBy c s)) (shown n)
   seen-agrees old n h (seen.Token row) f z =
       record {
@@ -191,11 +189,11 @@ module _ (list : List ℕ) (rows : List Row) (status : Status) (c : Cursor) (k :
   seen-agrees old n h seen.Nothing f z = absurd (omega (arith, queued-there (room list) c (m .fit) n h))
   seen-agrees old n h (seen.BadRecord i) f z = absurd (omega arith)
 
-  queued-agrees : (old : Cursor) (n : ℕ) → aside.numberOf (queuedAt list c n) ≡ none
+  queued-agrees : (old : Cursor) (n : ℕ) → ofPeek.numberOf (queuedAt list c n) ≡ none
       → Agrees list rows status (ofPeeked old (queuedAt list c n)) (shown n)
   unfolding queuedAt
   queued-agrees old n =
-      by-lt (λ (r : Peeked). aside.numberOf r ≡ none → Agrees list rows status (ofPeeked old r) (shown n)) n (c .queued)
+      by-lt (λ (r : Peeked). ofPeek.numberOf r ≡ none → Agrees list rows status (ofPeeked old r) (shown n)) n (c .queued)
       (λ h. seen-agrees old n h (seenAt list c n) (seen-says list c n))
       (λ h z. record { token = get-past (k .«token_queue») n (omega (arith, queue-length)); mirrors = m })
 
@@ -251,7 +249,7 @@ rust-peek-is rows status k n e = rw e
 module _ (list : List ℕ) (rows : List Row) (status : Status) (c : Cursor) (k : KotoLexer) (m : Mirrors list rows status c k) where
   -- what is to be shown of an answer of `peek`
   abbrev PeekAgrees : ℕ → Peeked → Type 0
-  PeekAgrees n r = aside.numberOf r ≡ none → Agrees list rows status (ofPeeked c r) (rustPeek rows status k n)
+  PeekAgrees n r = ofPeek.numberOf r ≡ none → Agrees list rows status (ofPeeked c r) (rustPeek rows status k n)
 
   -- from a cursor that stands for the lexer after the loop
   after-loop : (n : ℕ) (d : Cursor) (after : KotoLexer) → addTokens rows status (tokensToAdd n (length (k .«token_queue»))) k ≡ after
@@ -264,7 +262,7 @@ module _ (list : List ℕ) (rows : List Row) (status : Status) (c : Cursor) (k :
   near-agrees n h true e =
       let both = must-both c n e in
       split-eq (c .queued) queueMost
-      (λ q z. absurd (omega (arith, ap aside.numberOf (peek-full list c n (m .fit) h e q))))
+      (λ q z. absurd (omega (arith, ap ofPeek.numberOf (peek-full list c n (m .fit) h e q))))
       (λ q. subst (PeekAgrees n) (peek-more list c n (m .fit) h e q)
       (after-loop n (queuedOne c) _ (one-added list rows status c k m (both .1) n (both .0)) (pushed list rows status c k m (both .1) q)))
   near-agrees n h false e =
@@ -272,7 +270,7 @@ module _ (list : List ℕ) (rows : List Row) (status : Status) (c : Cursor) (k :
 
   pub peek-agrees : (n : ℕ) → PeekAgrees n (peekOf list c n)
   peek-agrees n =
-      split-lt (c .queued + 1) n (λ far z. absurd (omega (arith, ap aside.numberOf (peek-far list c n (m .fit) far))))
+      split-lt (c .queued + 1) n (λ far z. absurd (omega (arith, ap ofPeek.numberOf (peek-far list c n (m .fit) far))))
       (λ near. near-agrees n near (mustQueue c n) refl)
 
   pub call-agrees : (x : Call) → call list c x .number ≡ none → Agrees list rows status (call list c x) (rustCall rows status k x)
@@ -283,7 +281,7 @@ module _ (list : List ℕ) (rows : List Row) (status : Status) (c : Cursor) (k :
 
 -- neither is given once the queue has been seen to
 abbrev Past : Peeked → Type 0
-Past r = (aside.numberOf r ≡ peekTooFar → ⊥) × (aside.numberOf r ≡ queueFull → ⊥)
+Past r = (ofPeek.numberOf r ≡ peekTooFar → ⊥) × (ofPeek.numberOf r ≡ queueFull → ⊥)
 
 shown-past : (c : Cursor) (s : Seen) → Past (shownBy c s)
 shown-past c (seen.Token row) = (λ e. omega arith, λ e. omega arith)
@@ -304,34 +302,34 @@ module _ (list : List ℕ) (rows : List Row) (status : Status) (c : Cursor) (k :
 
   -- a near token: neither, or the queue is full
   near-full : n ≤ c .queued + 1 → (t : Bool) → mustQueue c n ≡ t
-      → (aside.numberOf (peekOf list c n) ≡ peekTooFar → ⊥) × (aside.numberOf (peekOf list c n) ≡ queueFull → c .queued ≡ queueMost)
+      → (ofPeek.numberOf (peekOf list c n) ≡ peekTooFar → ⊥) × (ofPeek.numberOf (peekOf list c n) ≡ queueFull → c .queued ≡ queueMost)
   near-full h true e =
       split-eq (c .queued) queueMost
-      (λ q. (λ z. omega (arith, ap aside.numberOf (peek-full list c n (m .fit) h e q)), λ z. q))
+      (λ q. (λ z. omega (arith, ap ofPeek.numberOf (peek-full list c n (m .fit) h e q)), λ z. q))
       (λ q. let past = subst Past (peek-more list c n (m .fit) h e q) (queued-past list (queuedOne c) n) in
       (past .0, λ z. absurd (past .1 z)))
   near-full h false e =
       let past = subst Past (peek-as-is list c n (m .fit) h e) (queued-past list c n) in (past .0, λ z. absurd (past .1 z))
 
   pub far-underflows :
-      (aside.numberOf (peekOf list c n) ≡ peekTooFar → underflows n len ≡ true)
-      × (underflows n len ≡ true → aside.numberOf (peekOf list c n) ≡ peekTooFar)
+      (ofPeek.numberOf (peekOf list c n) ≡ peekTooFar → underflows n len ≡ true)
+      × (underflows n len ≡ true → ofPeek.numberOf (peekOf list c n) ≡ peekTooFar)
   far-underflows =
       let long : len ≡ c .queued = queue-length list rows status c k m in
       split-lt (c .queued + 1) n
       (λ far. let above : ltb (c .queued) n ≡ true = lt-ltb (c .queued) n (omega arith) in (
         λ z. rw (long, above) (lt-ltb (c .queued + 1) n far),
-        λ z. sym (ap aside.numberOf (peek-far list c n (m .fit) far)),
+        λ z. sym (ap ofPeek.numberOf (peek-far list c n (m .fit) far)),
       ))
       (λ near. (
         λ z. absurd (near-full near (mustQueue c n) refl .0 z),
         λ z. absurd (omega (arith, ltb-true (len + 1) (maxOf n len) z, max-most n len (len + 1) (omega arith) (omega arith))),
       ))
 
-  pub full-queued : aside.numberOf (peekOf list c n) ≡ queueFull → length (k .«token_queue») ≡ queueMost
+  pub full-queued : ofPeek.numberOf (peekOf list c n) ≡ queueFull → length (k .«token_queue») ≡ queueMost
   full-queued z =
       queue-length list rows status c k m
-      ∙ split-lt (c .queued + 1) n (λ far. absurd (omega (arith, ap aside.numberOf (peek-far list c n (m .fit) far))))
+      ∙ split-lt (c .queued + 1) n (λ far. absurd (omega (arith, ap ofPeek.numberOf (peek-far list c n (m .fit) far))))
       (λ near. near-full near (mustQueue c n) refl .1 z)
 
 -- every sequence of calls of which none is refused
@@ -342,3 +340,11 @@ calls-agree list rows status c k m [] u = refl
 calls-agree list rows status c k m (x ∷ calls) u =
     let a = call-agrees list rows status c k m x (u .0) in
     rw (a .token, calls-agree list rows status (call list c x .cursor) (rustCall rows status k x .after) (a .mirrors) calls (u .1))
+
+pub calls-mirror : (list : List ℕ) (rows : List Row) (status : Status) (c : Cursor) (k : KotoLexer) → Mirrors list rows status c k
+    → (calls : List Call) → Unrefused list c calls → Mirrors list rows status (afterCalls list c calls) (rustAfter rows status k calls)
+unfolding Unrefused afterCalls rustAfter
+calls-mirror list rows status c k m [] u = m
+calls-mirror list rows status c k m (x ∷ calls) u =
+    calls-mirror list rows status (call list c x .cursor) (rustCall rows status k x .after)
+    (call-agrees list rows status c k m x (u .0) .mirrors) calls (u .1)

@@ -13,12 +13,12 @@ use Rattle.token.specs.declared.rows.Row.{Row}
 use Rattle.reading.specs.declared.Scanned.{Scanned}
 use Rattle.reading.specs.declared.Scanned.the-variants as scanned
 use Rattle.lookahead.specs.Cursor.{queueMost, startCursor, ahead}
-use Rattle.lookahead.specs.Next as forth
+use Rattle.lookahead.specs.Next as ofNext
 use Rattle.lookahead.specs.Next.{nextOf}
-use Rattle.lookahead.specs.Peek as aside
+use Rattle.lookahead.specs.Peek as ofPeek
 use Rattle.lookahead.specs.Peek.{peekOf}
-use Rattle.lookahead.specs.Queue.{newLexer}
-use Rattle.lookahead.specs.Calls.{Call, next, call, afterCalls, tokensOf, Unrefused, nexts, rustTokens}
+use Rattle.lookahead.specs.Queue.{KotoLexer, newLexer, underflows}
+use Rattle.lookahead.specs.Calls.{Call, next, peek, call, afterCalls, tokensOf, Unrefused, nexts, rustAfter, rustTokens}
 use Rattle.lookahead.specs.declared.Status.the-variants.{End, Stuck}
 use Rattle.lookahead.specs.declared.Cursor.{Cursor}
 use Rattle.lookahead.specs.declared.Given.{Given}
@@ -49,7 +49,7 @@ abbrev pub NextEnsures : List ℕ → Cursor → Given → Type 0
 NextEnsures list c r = r ≡ nextOf list c
 
 abbrev pub givenSays : Given → Said
-givenSays r = says (forth.numberOf r) (forth.placeOf r)
+givenSays r = says (ofNext.numberOf r) (ofNext.placeOf r)
 
 -- the cursor after it: so many are taken, and one less is queued, if one was
 abbrev pub handedOn : Cursor → ℕ → Cursor
@@ -79,7 +79,7 @@ abbrev pub PeekEnsures : List ℕ → Cursor → ℕ → Peeked → Type 0
 PeekEnsures list c n r = r ≡ peekOf list c n
 
 abbrev pub peekedSays : Peeked → Said
-peekedSays r = says (aside.numberOf r) (aside.placeOf r)
+peekedSays r = says (ofPeek.numberOf r) (ofPeek.placeOf r)
 
 -- d is the cursor that has queued what a look at n asks for: one more token, if there is one and n is at most what is queued
 pub data Queues (c : Cursor) (n : ℕ) : Cursor → Type 0 where
@@ -118,6 +118,12 @@ BeginsAt (scanned.BadUtf8 i) c = ⊥
 BeginsAt (scanned.ListFull n b) c = ⊥
 BeginsAt (scanned.ModesFull n b) c = ⊥
 
+-- this number is 6 exactly where the Rust's subtraction underflows
+abbrev pub TooFarIs : ℕ → ℕ → KotoLexer → Type 0
+TooFarIs number n k =
+    (number ≡ peekTooFar → underflows n (length (k .«token_queue»)) ≡ true)
+    × (underflows n (length (k .«token_queue»)) ≡ true → number ≡ peekTooFar)
+
 -- what every sequence of calls meets that begins at this cursor, over a list that holds these rows
 pub record HandsOut (list : List ℕ) (rows : List Row) (c : Cursor) : Type 0 where
   -- whatever was called before, no call gets 8 or 9
@@ -136,3 +142,10 @@ pub record HandsOut (list : List ℕ) (rows : List Row) (c : Cursor) : Type 0 wh
       → call list (afterCalls list c calls) next .token ≡ some (getD rows (length rows - 1) d)
   -- calls of which none is refused answer what the Rust's answer
   pub as-in-rust : (calls : List Call) → Unrefused list c calls → rustTokens rows (c .status) newLexer calls ≡ tokensOf list c calls
+  -- after such calls 6 is given exactly where the Rust's subtraction underflows, and 7 only where its queue is full
+  pub too-far :
+      (calls : List Call) → Unrefused list c calls → (n : ℕ)
+      → TooFarIs (call list (afterCalls list c calls) (peek n) .number) n (rustAfter rows (c .status) newLexer calls)
+  pub full :
+      (calls : List Call) → Unrefused list c calls → (n : ℕ) → call list (afterCalls list c calls) (peek n) .number ≡ queueFull
+      → length (rustAfter rows (c .status) newLexer calls .«token_queue») ≡ queueMost

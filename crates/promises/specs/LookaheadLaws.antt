@@ -1,9 +1,7 @@
 -- The promises of `Lookahead`, proved, and that no second answer fits.
 --     next-promise, next-has-one-answer
 --     peek-promise, peek-has-one-answer
---     after-a-scan               after an unrefused scan: 8 and 9 are never given, and the definition's tokens are handed out
---     too-far-is-underflow       refusal 6 is given exactly where the Rust's subtraction underflows
---     full-is-full               and refusal 7 only where 65,535 tokens are queued
+--     after-a-scan    after an unrefused scan 8 and 9 are never given, the definition's tokens are handed out, and the Rust says the same
 -- Assumes nothing.
 use Prim.Native.Nat.{ℕ, _+_, _-_, _/_, _<_, _≤_}
 use native.Mathlib.Nat.{add-zero}
@@ -16,7 +14,6 @@ use mathlib.Core.Option as option
 use lib.ListN.{length, getD}
 use borrow.Author.Tests.{ltb-true, leb-true, lt-ltb, le-ltb, le-leb, lt-leb}
 use Rattle.base.specs.PickLaws.{split-lt}
-use Rattle.base.specs.Refusal.{peekTooFar, queueFull}
 use Rattle.utf8.specs.CharsLaws.{well-of-fine}
 use Rattle.property.specs.Table.{propertiesAt}
 use Rattle.property.specs.FitLaws as property
@@ -36,15 +33,13 @@ use Rattle.lookahead.specs.Cursor.{queueMost, fitBy, isFit, startCursor, record
 use Rattle.lookahead.specs.CursorLaws as cursor
 use Rattle.lookahead.specs.CursorLaws.{fits-of, fit-of, record-at, record-in, start-fits, queued-fits, taken-held, queued-there}
 use Rattle.lookahead.specs.Next.{movedOn, nextOf}
-use Rattle.lookahead.specs.Peek as aside
 use Rattle.lookahead.specs.Peek.{hasMore, mustQueue, queuedOne, queuedAt, peekOf}
 use Rattle.lookahead.specs.AnswerLaws.{next-row, next-bad, next-none, queued-row, queued-bad, queued-none}
 use Rattle.lookahead.specs.AnswerLaws.{peek-far, peek-as-is, peek-full, peek-more}
-use Rattle.lookahead.specs.Queue.{KotoLexer, newLexer, tokenAt, underflows}
-use Rattle.lookahead.specs.Calls.{Call, next, call, afterCalls, nexts, Shows, Stands, Mirrors}
+use Rattle.lookahead.specs.Queue.{newLexer, tokenAt}
+use Rattle.lookahead.specs.Calls.{Call, next, call, afterCalls, Unrefused, nexts, Shows, Stands, rustAfter, Mirrors}
 use Rattle.lookahead.specs.StreamLaws.{get-in, get-past}
-use Rattle.lookahead.specs.QueueLaws as queue
-use Rattle.lookahead.specs.QueueLaws.{start-mirrors, calls-agree}
+use Rattle.lookahead.specs.QueueLaws.{start-mirrors, calls-agree, calls-mirror, far-underflows, full-queued}
 use Rattle.lookahead.specs.CallsLaws as laws
 use Rattle.lookahead.specs.CallsLaws.{start-stands, calls-stand}
 use Rattle.lookahead.specs.declared.Status.{Status}
@@ -280,6 +275,13 @@ module _ (old : List ℕ) (rows : List Row) (status : Status) (h : length rows �
       ∙ ap (λ (l : List Row). tokenAt l status (0 + nexts calls)) rows-are
       ∙ ap (tokenAt rows status) z
 
+  begins : Mirrors list rows status begin newLexer
+  begins = subst (λ (l : List Row). Mirrors list l status begin newLexer) rows-are (start-mirrors list count status begins-fit)
+
+  mirrors : (calls : List Call) → Unrefused list begin calls
+      → Mirrors list rows status (afterCalls list begin calls) (rustAfter rows status newLexer calls)
+  mirrors = calls-mirror list rows status begin newLexer begins
+
   hands-out : HandsOut list rows begin
   hands-out =
       record {
@@ -287,8 +289,9 @@ module _ (old : List ℕ) (rows : List Row) (status : Status) (h : length rows �
         in-order = λ calls d k. next-is calls ∙ stream-row rows status (nexts calls) d k;
         ended = λ e calls k. next-is calls ∙ stream-ended rows status (nexts calls) (rowAt old 0) e k;
         endless = λ e calls d k. next-is calls ∙ stream-last rows status (nexts calls) d e (some-stuck e) k;
-        as-in-rust = λ calls u. calls-agree list rows status begin newLexer
-            (subst (λ (l : List Row). Mirrors list l status begin newLexer) rows-are (start-mirrors list count status begins-fit)) calls u;
+        as-in-rust = calls-agree list rows status begin newLexer begins;
+        too-far = λ calls u. far-underflows list rows status (afterCalls list begin calls) (rustAfter rows status newLexer calls) (mirrors calls u);
+        full = λ calls u. full-queued list rows status (afterCalls list begin calls) (rustAfter rows status newLexer calls) (mirrors calls u);
       }
 
 -- the rows of a source that is read whole
@@ -324,14 +327,3 @@ module _ (source table old new : List ℕ) where
   after-a-scan (scanned.BadUtf8 i) p c e = absurd e
   after-a-scan (scanned.ListFull n b) p c e = absurd e
   after-a-scan (scanned.ModesFull n b) p c e = absurd e
-
--- ---- the refusals that the Rust does not have, of a cursor that stands for the Rust's lexer
-
-module _ (list : List ℕ) (rows : List Row) (status : Status) (c : Cursor) (k : KotoLexer) (m : Mirrors list rows status c k) (n : ℕ) where
-  pub too-far-is-underflow :
-      (aside.numberOf (peekOf list c n) ≡ peekTooFar → underflows n (length (k .«token_queue»)) ≡ true)
-      × (underflows n (length (k .«token_queue»)) ≡ true → aside.numberOf (peekOf list c n) ≡ peekTooFar)
-  too-far-is-underflow = queue.far-underflows list rows status c k m n
-
-  pub full-is-full : aside.numberOf (peekOf list c n) ≡ queueFull → length (k .«token_queue») ≡ queueMost
-  full-is-full = queue.full-queued list rows status c k m n
