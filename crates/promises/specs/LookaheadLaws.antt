@@ -290,8 +290,8 @@ module _ (old : List ℕ) (rows : List Row) (status : Status) (h : length rows �
         ended = λ e calls k. next-is calls ∙ stream-ended rows status (nexts calls) (rowAt old 0) e k;
         endless = λ e calls d k. next-is calls ∙ stream-last rows status (nexts calls) d e (some-stuck e) k;
         as-in-rust = calls-agree list rows status begin newLexer begins;
-        too-far = λ calls u. far-underflows list rows status (afterCalls list begin calls) (rustAfter rows status newLexer calls) (mirrors calls u);
-        full = λ calls u. full-queued list rows status (afterCalls list begin calls) (rustAfter rows status newLexer calls) (mirrors calls u);
+        too-far = λ calls u. far-underflows list rows status (afterCalls list begin calls) _ (mirrors calls u);
+        full = λ calls u. full-queued list rows status (afterCalls list begin calls) _ (mirrors calls u);
       }
 
 -- the rows of a source that is read whole
