@@ -1,19 +1,12 @@
 -- A return of `add_string`, from what the calls before it said.
---     fit-as     the check of a pool, by the room that was asked for
 --     settled    its answer, and its rows
 -- Assumes nothing.
 use Prim.Native.Nat.{ℕ}
-use mathlib.Core.Path.{_≡_, sym, _∙_}
-use mathlib.Core.Bool.{Bool}
+use mathlib.Core.Path.{_≡_, sym}
 use mathlib.Core.List.{List}
-use Rattle.pool.specs.Pool.{byteRoom, entryRoom, fitIn, fitPool, added, bytesAfter, entriesAfter, AddsString}
+use Rattle.pool.specs.Pool.{added, bytesAfter, entriesAfter, AddsString}
 use Rattle.pool.specs.declared.Counts.{Counts}
 use Rattle.pool.specs.declared.Added.{Added}
-
-pub fit-as : (bytes entries : List ℕ) (counts : Counts) (forEntries forBytes : ℕ) (t : Bool)
-    → t ≡ fitIn entries counts forEntries forBytes → forEntries ≡ entryRoom entries → forBytes ≡ byteRoom bytes
-    → t ≡ fitPool bytes entries counts
-fit-as bytes entries counts forEntries forBytes t e f g = e ∙ rw (f, g)
 
 pub settled : (string : List ℕ) (counts : Counts) (bytes entries newBytes newEntries : List ℕ) (r : Added)
     → r ≡ added string bytes entries counts → newBytes ≡ bytesAfter string counts r bytes → newEntries ≡ entriesAfter string counts r entries

@@ -6,6 +6,7 @@
 --     grows                       an index answered leaves a pool that has grown so
 --     there-costs-nothing, refused-writes-nothing       when counts and rows stay
 --     index-kept, index-shows     no addition changes what an index means, and the string stands at the index answered
+--     added-again                 a string that was added is there: adding it again answers the same
 --     one-answer                  no second answer and no second rows fit `AddsString`
 -- Assumes nothing.
 use Prim.Native.Nat.{ℕ, suc, _+_, _*_, _<_, _≤_}
@@ -28,7 +29,7 @@ use Rattle.utf8.specs.declared.Utf8Check.the-variants as utf8
 use Rattle.pool.specs.Pool.{startOf, lengthOf, stringAt, stringsOf, indexOf, roomMost, byteRoom, entryRoom, runsTo, fitPool}
 use Rattle.pool.specs.Pool.{oneMore, placed, onUtf8, addedToFit, added, isNew, written, entered, bytesAfter, entriesAfter}
 use Rattle.pool.specs.Pool.{AddsString, Grown, numberOf}
-use Rattle.pool.specs.StringsLaws.{index-most, kept-with, shown-with, strings-long, strings-more, strings-same}
+use Rattle.pool.specs.StringsLaws.{index-most, kept-with, shown-with, index-with, strings-long, strings-more, strings-same}
 use Rattle.pool.specs.FitLaws.{room-within, entry-room, Fit, fit-of, fit-by, runs-more, runs-same, within}
 use Rattle.pool.specs.declared.Counts.{Counts}
 use Rattle.pool.specs.declared.Added.{Added}
@@ -330,6 +331,34 @@ module _
 
   pub index-shows : getD (stringsOf newBytes newEntries (after .entries)) index [] ≡ string
   index-shows = rw (g .strings, g .index-is) (shown-with string (stringsOf bytes entries (counts .entries)))
+
+-- a string with an index is well formed
+index-fine : (string bytes entries : List ℕ) (counts : Counts) {i : ℕ} {after : Counts} → added string bytes entries counts ≡ Index i after
+    → checkFrom 0 string ≡ utf8.Fine
+unfolding added
+index-fine string bytes entries counts {i} {after} = go (checkFrom 0 string)
+  where
+    go : (u : Utf8Check) → onUtf8 u (pick (fitPool bytes entries counts) (addedToFit string bytes entries counts) BadState) ≡ Index i after → u ≡ utf8.Fine
+    go utf8.Fine e = refl
+    go (utf8.BadAt n) e = absurd (let z : _≡_ {A = ℕ} 0 1 = cc in omega arith)
+    go (utf8.CutAt n) e = absurd (let z : _≡_ {A = ℕ} 0 1 = cc in omega arith)
+
+-- a string that was added is there: adding it again answers the same
+pub added-again : (string bytes entries : List ℕ) (counts : Counts) (newBytes newEntries : List ℕ) (i : ℕ) (after : Counts)
+    → AddsString string counts bytes entries newBytes newEntries (Index i after)
+    → (added string newBytes newEntries after ≡ Index i after) × (i < after .entries)
+added-again string bytes entries counts newBytes newEntries i after p =
+    let g = grows string bytes entries counts newBytes newEntries (Index i after) p i after refl in
+    let w = index-with string (stringsOf bytes entries (counts .entries)) in
+    let long = strings-long newBytes newEntries 0 (after .entries) in
+    let at : indexOf string (stringsOf newBytes newEntries (after .entries)) ≡ i = ap (indexOf string) (g .strings) ∙ w .0 ∙ sym (g .index-is) in
+    let less : i < after .entries = omega (arith, w .1, g .index-is, ap (λ (l : List (List ℕ)). length l) (g .strings)) in
+    let fine = index-fine string bytes entries counts (sym (p .answer)) in (
+      unrefused string newBytes newEntries after fine (g .fit)
+          ∙ placed-there (length string) _ after (entryRoom newEntries) (byteRoom newBytes) (omega arith)
+          ∙ ap (λ (k : ℕ). Index k after) at,
+      less,
+    )
 
 -- no second answer and no second rows fit
 pub one-answer : {string bytes entries newBytes newEntries newBytes′ newEntries′ : List ℕ} {counts : Counts} {r q : Added}

@@ -4,14 +4,15 @@
 --     index-most, index-there     an index is at most how many strings there are, and below that its string stands there
 --     index-at, index-none        what makes a number the index, or how many there are
 --     kept-with, shown-with       a string added at the end changes what no index means, and stands at its index
+--     index-with                  and that is its index then
 --     strings-long, strings-at, strings-more, strings-same    the strings of a pool, one by one
 -- Assumes nothing.
 use Prim.Native.Nat.{ℕ, zero, suc, _+_, _<_, _≤_}
 use native.Mathlib.Omega.{arith}
-use mathlib.Core.Path.{_≡_, refl, ap, _∙_}
+use mathlib.Core.Path.{_≡_, refl, ap, _∙_, sym}
 use mathlib.Core.Bool.{Bool, true}
 use mathlib.Core.List.{List, [], _∷_, _++_}
-use lib.ListN.{length, getD, List·getD-append}
+use lib.ListN.{length, getD, List·getD-append, length-append}
 use lib.Seq.{getD-append-seam}
 use borrow.Author.Tests.{eq-eqb}
 use Rattle.base.specs.PickLaws.{by-test, by-lt, by-eq, split-lt}
@@ -85,6 +86,19 @@ module _ (string : List ℕ) where
         (λ i.
         let e : indexOf string ss ≡ length ss = omega (arith, index-most ss) in
         rw e (getD-append-seam ss string [] []))
+
+    -- a string that was added has the index that it had, or was to have
+    with-more : indexOf string ss < length (withString string ss)
+    with-more =
+        by-lt (λ (l : List (List ℕ)). indexOf string ss < length l) (indexOf string ss) (length ss) (λ h. h)
+        (λ h. omega (arith, index-most ss, length-append ss (string ∷ [])))
+
+    pub index-with : (indexOf string (withString string ss) ≡ indexOf string ss) × (indexOf string ss < length (withString string ss))
+    index-with = (
+      index-at (withString string ss) (indexOf string ss) with-more shown-with
+          (λ j h e. omega (arith, index-first ss j (omega (arith, index-most ss)) (sym (kept-with j (omega (arith, index-most ss))) ∙ e))),
+      with-more,
+    )
 
 -- ---- the strings of a pool
 

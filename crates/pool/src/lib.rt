@@ -72,6 +72,15 @@ fn is_fit(entries: &[u32], counts: Counts, entry_room: u32, byte_room: u32) -> b
     runs_to(entries, counts.entries as usize, counts.bytes as usize)
 }
 
+// Whether a pool is fit: no count exceeds its row, and the entries in use run end to end from byte 0 to the byte count.
+pub fn is_pool_fit(bytes: &[u8], entries: &[u32], counts: Counts) -> bool
+    ensures { λ r. ⌜ r ≡ fitPool (now (bytes .entry)) (now (entries .entry)) counts ⌝ }
+{
+    let entry_room = room_of(entries.len() / 2);
+    let byte_room = room_of(bytes.len());
+    is_fit(entries, counts, entry_room, byte_room)
+}
+
 // Whether two rows of bytes are the same.
 fn is_same(a: &[u8], b: &[u8]) -> bool
     ensures { λ r. ⌜ r ≡ same (now (a .entry)) (now (b .entry)) ⌝ }
@@ -208,9 +217,7 @@ pub fn add_string(string: &[u8], bytes: &mut [u8], entries: &mut [u32], counts: 
         utf8::Utf8Check::BadAt(i) => Added::BadUtf8(i),
         utf8::Utf8Check::CutAt(i) => Added::BadUtf8(i),
         utf8::Utf8Check::Fine => {
-            let entry_room = room_of(entries.len() / 2);
-            let byte_room = room_of(bytes.len());
-            if !is_fit(entries, counts, entry_room, byte_room) {
+            if !is_pool_fit(bytes, entries, counts) {
                 return Added::BadState;
             }
             add_to_fit(string, bytes, entries, counts)

@@ -1,13 +1,24 @@
 -- The cases that document 01 marks P in "Scripts and format strings to try", as one table: each is a call with its bytes, and what that gives.
 -- `CasesLaws.all-cases` proves all of them, over the definitions that the contracts cite. Bytes are decoded and looked up in the small table.
--- A call of another kind is one more constructor of `Call` and of `Gives`, and one more line of `run`.
 -- Assumes nothing.
 use Prim.Native.Nat.{ℕ}
 use mathlib.Core.List.{List, [], _∷_}
+use lib.ListN.{replicate}
 use Rattle.property.specs.Small.{smallTable}
 use Rattle.token.specs.Kind.{error, commentMulti, id, stringStart, stringEnd, stringLiteral, dot, else, elseIf}
 use Rattle.token.specs.declared.rows.Row.{Row}
 use Rattle.words.specs.Words.{bytes}
+use Rattle.pool.specs.Pool.{stringsOf}
+use Rattle.format.specs.declared.Alignment.the-variants.{Default}
+use Rattle.format.specs.declared.Shown.the-variants.{Plain}
+use Rattle.format.specs.declared.Given.{Given}
+use Rattle.format.specs.declared.Given.the-variants.{Number, Nothing}
+use Rattle.format.specs.declared.Fill.{Fill}
+use Rattle.format.specs.declared.Fill.the-variants.{Is, NoFill}
+use Rattle.parse.specs.Call as parse
+use Rattle.parse.specs.Call.{Pool, lent}
+use Rattle.parse.specs.declared.Parsed.{Parsed}
+use Rattle.parse.specs.declared.Parsed.the-variants.{Read, FormatNumberIsTooLarge, UnexpectedToken}
 use Rattle.reading.specs.Scan.{scanned, written}
 use Rattle.reading.specs.declared.Scanned.{Scanned}
 use Rattle.reading.specs.declared.Scanned.the-variants.{End, Stuck}
@@ -18,11 +29,15 @@ use Rattle.reading.specs.declared.Scanned.the-variants.{End, Stuck}
 pub data Call : Type 0 where
   -- a scan with the small table, into a list that has the list program's room
   scan : List ℕ → Call
+  -- a format string parsed with the small table, and an empty pool of 64 entries and 1,024 bytes
+  format : List ℕ → Call
 
 -- what a call gives
 pub data Gives : Type 0 where
   -- a scan's answer, and the records that it writes
   records : Scanned → List Row → Gives
+  -- a parse's answer, and the strings of the pool after it
+  options : Parsed → List (List ℕ) → Gives
 
 pub record Case : Type 0 where
   pub call : Call
@@ -32,9 +47,18 @@ pub record Case : Type 0 where
 abbrev pub listRoom : ℕ
 listRoom = 1365
 
+-- an empty pool of 64 entries and 1,024 bytes
+abbrev pub emptyPool : Pool
+emptyPool = lent (replicate 1024 0) (replicate 128 0) (record { entries = 0; bytes = 0 })
+
+-- the strings of a pool
+abbrev pub stringsIn : Pool → List (List ℕ)
+stringsIn p = stringsOf (p .bytes) (p .entries) (p .counts .entries)
+
 -- what the definitions give for a call
 abbrev pub run : Call → Gives
 run (scan source) = records (scanned source smallTable listRoom) (written source smallTable listRoom)
+run (format text) = options (parse.call text smallTable emptyPool .answer) (stringsIn (parse.call text smallTable emptyPool .pool))
 
 -- what the definitions give for a case, and what the case says
 abbrev pub ran : Case → Gives
@@ -48,6 +72,15 @@ want c = c .gives
 -- a scan of these bytes, its answer and its records
 abbrev scans : List ℕ → Scanned → List Row → Case
 scans source answer rows = record { call = scan source; gives = records answer rows }
+
+-- a format string, its answer and the pool's strings
+abbrev parses : List ℕ → Parsed → List (List ℕ) → Case
+parses text answer strings = record { call = format text; gives = options answer strings }
+
+-- options with default alignment, no precision and no representation: a width, a fill and its index
+abbrev plain : Given → Fill → Given → Parsed
+plain width fill index =
+    Read (record { alignment = Default; width = width; precision = Nothing; representation = Plain; fill = fill }) index
 
 -- a record by its nine numbers, in the order in which the list program prints them: kind, detail, byte start, byte end, start line, start
 -- column, end line, end column, indent
@@ -87,4 +120,12 @@ cases =
     ∷ scans (0xe6 ∷ 0xbc ∷ 0xa2 ∷ 0xe5 ∷ 0xad ∷ 0x97 ∷ []) (End 1 6) (row id 0 0 6 0 0 0 3 0 ∷ [])
     -- U+20AC: an unknown symbol advances one byte, and inside a character nothing is left to read
     ∷ scans (0xe2 ∷ 0x82 ∷ 0xac ∷ []) (End 1 1) (row error 0 0 1 0 0 0 1 0 ∷ [])
+    -- no format options: all defaults
+    ∷ parses [] (plain Nothing NoFill Nothing) []
+    -- a dot with nothing after it is a fill
+    ∷ parses (bytes ".") (plain Nothing (Is (record { place = 0; len = 1 })) (Number 0)) (bytes "." ∷ [])
+    ∷ parses (bytes "5.") (UnexpectedToken 46) []
+    -- the fill "0" points at its last zero, and the pool has it once
+    ∷ parses (bytes "000") (plain (Number 0) (Is (record { place = 1; len = 1 })) (Number 0)) (bytes "0" ∷ [])
+    ∷ parses (bytes "4294967296") (FormatNumberIsTooLarge 4294967296) []
     ∷ []

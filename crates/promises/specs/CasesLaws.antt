@@ -31,6 +31,10 @@ use Rattle.lexer.specs.GetNextToken.{inLiteral, inCode, takeToken, remainingAt}
 use Rattle.lexer.specs.Step.{stoodStill, half, step}
 use Rattle.reading.specs.Reading.{readIn, readFrom}
 use Rattle.reading.specs.Scan.{endOf, scanned, written}
+use Rattle.pool.specs.Pool.{stringsFrom, indexOf, roomOf, runsTo, fitIn, placed, added, bytesAfter, entriesAfter}
+use Rattle.pool.specs.Pool as pool
+use Rattle.format.specs.Parse.{peeked, isSign, isDigit, charToAlignment, digitsFrom, consumeU32, representationOf, letterOf, lastArm, armOf, parseFrom}
+use Rattle.parse.specs.Call.{addTo, parsed, call}
 use Rattle.promises.specs.Cases.{ran, want, cases}
 
 unfoldable pub reads-computed : Unit {0}
@@ -44,6 +48,12 @@ unfolding computes firstBad startOk propertiesOk runOk tableCheck smallTable las
     step readIn readFrom endOf scanned written
 reads-computed = tt
 
+-- and every definition of a parse
+unfoldable formats-computed : Unit {0}
+unfolding reads-computed stringsFrom pool.same indexOf roomOf runsTo fitIn placed added bytesAfter entriesAfter peeked isSign isDigit charToAlignment
+    digitsFrom consumeU32 representationOf letterOf lastArm armOf parseFrom addTo parsed call
+formats-computed = tt
+
 pub all-cases : map ran cases ≡ map want cases
-unfolding reads-computed
+unfolding formats-computed
 all-cases = refl

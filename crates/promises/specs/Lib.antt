@@ -17,3 +17,5 @@ pub mod Pool
 pub mod PoolLaws
 pub mod Lookahead
 pub mod LookaheadLaws
+pub mod Parse
+pub mod ParseLaws

@@ -1,25 +1,11 @@
 -- `pool::add_string` meets its contract: the code takes the tests of `added` in its order, and a refusal leaves the rows. Assumes nothing.
 use mathlib.Core.Path.{_≡_, refl, sym, _∙_}
-use native.Mathlib.Omega.{arith}
-use denote.Ref.{now}
 use borrow.Author.Needs.{needs}
 use borrow.Author.Tests.{not-true, not-false}
-use Rattle.pool.specs.Pool.{fitPool}
-use Rattle.pool.specs.FitLaws.{entry-room}
 use Rattle.pool.specs.PoolLaws.{wrong, cut, unfit, unrefused, old-bytes, old-entries}
-use Rattle.pool.proofs.Answers.{fit-as, settled}
+use Rattle.pool.proofs.Answers.{settled}
 use Rattle.pool.proofs.add_string.Statement.{statement}
 use Rattle.pool.proofs.add_string.Tie as tie
-
-abbrev start : tie.After-is-fit → tie.Start
-start c = c .before .before .before .before .before .before .before .before .before .before
-
--- what `is_fit` said
-fit-is : (c : tie.After-is-fit)
-    → c .is-fit .result ≡ fitPool (now (start c .args .bytes)) (now (start c .args .entries)) (start c .args .counts)
-fit-is c =
-    let room = c .before .before in
-    fit-as (now (start c .args .bytes)) _ _ _ _ _ (c .is-fit .ensures) (room .before .room-of .ensures) (room .room-of2 .ensures)
 
 check-utf8-requires : tie.Need-check-utf8-requires
 check-utf8-requires c κs = search needs
@@ -33,29 +19,24 @@ enum-known-i-2 c = search needs
 enum-told : tie.Need-enum-told
 enum-told c = search needs
 
-room-of-requires : tie.Need-room-of-requires
-room-of-requires c κs = search needs
-
-room-of-requires-2 : tie.Need-room-of-requires-2
-room-of-requires-2 c κs = search needs
-
-is-fit-requires : tie.Need-is-fit-requires
-is-fit-requires c κs =
-    let s = c .before .before .before .before .before .before .before .before .before in
-    entry-room (now (s .args .entries)) _ (omega (arith, c .before .before .room-of .ensures))
+is-pool-fit-requires : tie.Need-is-pool-fit-requires
+is-pool-fit-requires c κs = search needs
 
 same-length : tie.Need-same-length
 same-length c = search needs
 
+same-length-2 : tie.Need-same-length-2
+same-length-2 c = search needs
+
 returns : tie.Need-returns
 returns c =
-    let told = c .before .before .before .before .before in
+    let told = c .before .before .before .before in
     let fine = sym (told .before .before .check-utf8 .ensures) ∙ told .enum-told .given .1 in
-    let no = sym (fit-is (c .before)) ∙ not-true _ (c .if1 .taken) in
+    let no = sym (c .before .is-pool-fit .ensures) ∙ not-true _ (c .if1 .taken) in
     settled _ _ _ _ _ _ _ (sym (unfit _ _ _ _ fine no)) (sym (old-bytes _ _ _ refl _)) (sym (old-entries _ _ _ refl _))
 
 add-to-fit-requires : tie.Need-add-to-fit-requires
-add-to-fit-requires c κs = sym (fit-is (c .before .before .before)) ∙ not-false _ (c .before .before .if1 .left)
+add-to-fit-requires c κs = sym (c .before .before .before .is-pool-fit .ensures) ∙ not-false _ (c .before .before .if1 .left)
 
 returns-2 : tie.Need-returns-2
 returns-2 c =
@@ -67,19 +48,19 @@ returns-3 c =
     let e = sym (c .before .before .before .check-utf8 .ensures) ∙ c .before .i2 .given .1 in
     settled _ _ _ _ _ _ _ (sym (cut _ _ _ _ _ e)) (sym (old-bytes _ _ _ refl _)) (sym (old-entries _ _ _ refl _))
 
-same-length-2 : tie.Need-same-length-2
-same-length-2 c = search needs
-
 same-length-3 : tie.Need-same-length-3
 same-length-3 c = search needs
+
+same-length-4 : tie.Need-same-length-4
+same-length-4 c = search needs
 
 returns-4 : tie.Need-returns-4
 returns-4 c =
     let done = c .before .before .before .before in
     let fits = done .before .before .before .before in
-    let told = fits .before .before .before .before in
+    let told = fits .before .before .before in
     let fine = sym (told .before .before .check-utf8 .ensures) ∙ told .enum-told .given .1 in
-    let yes = sym (fit-is fits) ∙ not-false _ (done .before .before .before .if1 .left) in
+    let yes = sym (fits .is-pool-fit .ensures) ∙ not-false _ (done .before .before .before .if1 .left) in
     let r = done .add-to-fit .ensures in
     settled _ _ _ _ _ _ _ (r .0 ∙ sym (unrefused _ _ _ _ fine yes)) (r .1) (r .2)
 
@@ -91,14 +72,13 @@ add-string-spec =
     enum-known-i
     enum-known-i-2
     enum-told
-    room-of-requires
-    room-of-requires-2
-    is-fit-requires
+    is-pool-fit-requires
     same-length
+    same-length-2
     returns
     add-to-fit-requires
     returns-2
     returns-3
-    same-length-2
     same-length-3
+    same-length-4
     returns-4)

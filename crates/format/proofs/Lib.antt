@@ -1,0 +1,5 @@
+pub mod Peeks
+pub mod Digits
+pub mod Turns
+pub mod Going
+pub mod Vectors

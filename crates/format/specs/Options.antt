@@ -1,0 +1,77 @@
+-- string_format_options.rs `StringFormatOptions`: its default, its fields set one at a time, and the numbers of its enums. Document 01,
+-- "Refusal numbers": those of a reading's outcome.
+-- Assumes nothing.
+use Prim.Native.Nat.{ℕ}
+use Rattle.base.specs.Refusal as refusal
+use Rattle.format.specs.declared.Alignment.{Alignment}
+use Rattle.format.specs.declared.Alignment.the-variants as alignment
+use Rattle.format.specs.declared.Representation.{Representation}
+use Rattle.format.specs.declared.Representation.the-variants as representation
+use Rattle.format.specs.declared.Shown.the-variants.{As, Plain}
+use Rattle.format.specs.declared.Given.the-variants.{Number, Nothing}
+use Rattle.format.specs.declared.Part.{Part}
+use Rattle.format.specs.declared.Fill.the-variants.{Is, NoFill}
+use Rattle.format.specs.declared.Options.{Options}
+use Rattle.format.specs.declared.Outcome.{Outcome}
+use Rattle.format.specs.declared.Outcome.the-variants.{Fine, ExpectedNumber, TooLarge, UnexpectedToken}
+
+-- `Self::default()`
+abbrev pub noOptions : Options
+noOptions = record { alignment = alignment.Default; width = Nothing; precision = Nothing; representation = Plain; fill = NoFill }
+
+-- `result.alignment = ..`
+abbrev pub withAlignment : Alignment → Options → Options
+withAlignment a o =
+    record { alignment = a; width = o .width; precision = o .precision; representation = o .representation; fill = o .fill }
+
+-- `result.min_width = Some(..)`
+abbrev pub withWidth : ℕ → Options → Options
+withWidth n o =
+    record { alignment = o .alignment; width = Number n; precision = o .precision; representation = o .representation; fill = o .fill }
+
+-- `result.precision = Some(..)`
+abbrev pub withPrecision : ℕ → Options → Options
+withPrecision n o =
+    record { alignment = o .alignment; width = o .width; precision = Number n; representation = o .representation; fill = o .fill }
+
+-- `result.representation = Some(..)`
+abbrev pub withRepresentation : Representation → Options → Options
+withRepresentation r o = record { alignment = o .alignment; width = o .width; precision = o .precision; representation = As r; fill = o .fill }
+
+-- `result.fill_character = Some(..)`
+abbrev pub withFill : Part → Options → Options
+withFill p o =
+    record { alignment = o .alignment; width = o .width; precision = o .precision; representation = o .representation; fill = Is p }
+
+-- ---- numbers
+
+-- `StringAlignment as u8`
+abbrev pub alignmentNumber : Alignment → ℕ
+alignmentNumber alignment.Default = 0
+alignmentNumber alignment.Left = 1
+alignmentNumber alignment.Center = 2
+alignmentNumber alignment.Right = 3
+
+-- `StringFormatRepresentation as u8`
+abbrev pub representationNumber : Representation → ℕ
+representationNumber representation.Debug = 0
+representationNumber representation.HexLower = 1
+representationNumber representation.HexUpper = 2
+representationNumber representation.Binary = 3
+representationNumber representation.Octal = 4
+representationNumber representation.ExpLower = 5
+representationNumber representation.ExpUpper = 6
+
+-- document 01's number of an outcome
+abbrev pub numberOf : Outcome → ℕ
+numberOf Fine = refusal.none
+numberOf (ExpectedNumber c) = refusal.expectedNumber
+numberOf (TooLarge n) = refusal.formatNumberIsTooLarge
+numberOf (UnexpectedToken c) = refusal.unexpectedToken
+
+-- and the code point, or the first value that is too large
+abbrev pub valueOf : Outcome → ℕ
+valueOf Fine = 0
+valueOf (ExpectedNumber c) = c
+valueOf (TooLarge n) = n
+valueOf (UnexpectedToken c) = c

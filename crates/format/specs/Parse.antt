@@ -1,0 +1,237 @@
+-- string_format_options.rs `StringFormatOptions::parse`, over the characters that are left and the byte place of the first of them. `look`
+-- gives the properties of a code point.
+-- The pool is whatever `add` adds to, one part of the format string after the other: a list of parts, in `parse`; what the code keeps, in
+-- `Read`. An addition cannot fail here: for a pool that can be full, P also says whether it was, and `add` then leaves it as it is.
+-- `match (next, chars.peek(), position)` is told in two halves: `armOf` has the patterns, in their order, and `bodyOf` what stands behind each.
+-- Assumes nothing.
+use Prim.Native.Nat.{ℕ, zero, suc, _+_, _-_, _*_}
+use mathlib.Core.Bool.{Bool, false, _&&_, _||_}
+use mathlib.Core.List.{List, [], _∷_, _++_}
+use lib.Dec.{eqb, ltb, leb}
+use lib.ListN.{length, take, drop}
+use Rattle.base.specs.Pick.{pick}
+use Rattle.utf8.specs.Encode.{encode}
+use Rattle.cluster.specs.First.{firstSize, firstEnd}
+use Rattle.format.specs.Options.{noOptions, withAlignment, withWidth, withPrecision, withRepresentation, withFill}
+use Rattle.format.specs.declared.Alignment.{Alignment}
+use Rattle.format.specs.declared.Alignment.the-variants.{Left, Center, Right}
+use Rattle.format.specs.declared.Representation.{Representation}
+use Rattle.format.specs.declared.Representation.the-variants.{Debug, HexLower, HexUpper, Binary, Octal, ExpLower, ExpUpper}
+use Rattle.format.specs.declared.Shown.{Shown}
+use Rattle.format.specs.declared.Shown.the-variants.{As, Plain}
+use Rattle.format.specs.declared.Part.{Part}
+use Rattle.format.specs.declared.Fill.{Fill}
+use Rattle.format.specs.declared.Fill.the-variants.{Is, NoFill}
+use Rattle.format.specs.declared.Options.{Options}
+use Rattle.format.specs.declared.Outcome.{Outcome}
+use Rattle.format.specs.declared.Outcome.the-variants.{Fine, ExpectedNumber, TooLarge, UnexpectedToken}
+use Rattle.format.specs.declared.Consumed.{Consumed}
+use Rattle.format.specs.declared.Consumed.the-variants.{Value, Wrong}
+use Rattle.format.specs.declared.Arm.{Arm}
+use Rattle.format.specs.declared.Arm.the-variants as arm
+
+-- ---- `FormatParsePosition`
+
+abbrev pub start : ℕ
+start = 0
+
+abbrev pub alignment : ℕ
+alignment = 1
+
+abbrev pub minWidth : ℕ
+minWidth = 2
+
+abbrev pub precision : ℕ
+precision = 3
+
+abbrev pub type : ℕ
+type = 4
+
+abbrev pub end : ℕ
+end = 5
+
+-- ---- characters
+
+-- no character: one more than the last code point
+abbrev pub noChar : ℕ
+noChar = 0x110000
+
+-- `chars.peek()`
+unfoldable pub peeked : List ℕ → ℕ
+peeked [] = noChar
+peeked (c ∷ cs) = c
+
+-- `c.len_utf8()`
+abbrev pub lenUtf8 : ℕ → ℕ
+lenUtf8 c = length (encode c)
+
+-- `'<' | '^' | '>'`
+unfoldable pub isSign : ℕ → Bool
+isSign c = eqb c 60 || (eqb c 94 || eqb c 62)
+
+-- `'0'`
+abbrev pub zeroDigit : ℕ
+zeroDigit = 48
+
+-- `'0'..='9'`
+unfoldable pub isDigit : ℕ → Bool
+isDigit c = pick (ltb c zeroDigit) false (leb c 57)
+
+-- `char_to_alignment`, which only the three signs reach
+unfoldable pub charToAlignment : ℕ → Alignment
+charToAlignment c = pick (eqb c 60) Left (pick (eqb c 94) Center Right)
+
+-- ---- `consume_u32`
+
+-- `u32::MAX`
+abbrev pub indexMax : ℕ
+indexMax = 4294967295
+
+-- its loop: n is the number so far, and k how many digits the loop has taken. The first value over the limit is told
+unfoldable pub digitsFrom : ℕ → ℕ → List ℕ → Consumed
+digitsFrom n k [] = Value n k
+digitsFrom n k (c ∷ cs) =
+    let m = n * 10 + (c - zeroDigit) in
+    pick (isDigit c) (pick (ltb indexMax m) (Wrong (TooLarge m)) (digitsFrom m (k + 1) cs)) (Value n k)
+
+-- the number that begins with `first` and goes on in cs
+unfoldable pub consumeU32 : ℕ → List ℕ → Consumed
+consumeU32 first cs = pick (isDigit first) (digitsFrom (first - zeroDigit) 0 cs) (Wrong (ExpectedNumber first))
+
+-- ---- the patterns
+
+-- `(_, Some('<' | '^' | '>'), Start)`
+abbrev pub isFillSign : ℕ → ℕ → Bool
+isFillSign peek position = isSign peek && eqb position start
+
+-- `('<' | '^' | '>', _, Start | Alignment)`
+abbrev pub isAlign : ℕ → ℕ → Bool
+isAlign c position = isSign c && (eqb position start || eqb position alignment)
+
+-- `('0', Some('0'..='9'), Start | MinWidth)`
+abbrev pub isZeroFill : ℕ → ℕ → ℕ → Bool
+isZeroFill c peek position = eqb c zeroDigit && (isDigit peek && (eqb position start || eqb position minWidth))
+
+-- `('0'..='9', _, Start | MinWidth)`
+abbrev pub isWidth : ℕ → ℕ → Bool
+isWidth c position = isDigit c && (eqb position start || eqb position minWidth)
+
+-- `('.', Some(_), Start | MinWidth | Precision)`
+abbrev pub isPrecision : ℕ → ℕ → ℕ → Bool
+isPrecision c peek position = eqb c 46 && (ltb peek noChar && (eqb position start || (eqb position minWidth || eqb position precision)))
+
+-- `Start | MinWidth | Precision | Type`
+abbrev pub isBeforeEnd : ℕ → Bool
+isBeforeEnd position = eqb position start || (eqb position minWidth || (eqb position precision || eqb position type))
+
+-- `'?'`, `'b'`, `'o'`, `'x'`, `'X'`, `'e'`, `'E'`
+unfoldable pub representationOf : ℕ → Shown
+representationOf c =
+    pick (eqb c 63) (As Debug)
+    (pick (eqb c 98) (As Binary)
+    (pick (eqb c 111) (As Octal)
+    (pick (eqb c 120) (As HexLower)
+    (pick (eqb c 88) (As HexUpper)
+    (pick (eqb c 101) (As ExpLower)
+    (pick (eqb c 69) (As ExpUpper)
+    Plain))))))
+
+-- `('?', _, Start | MinWidth | Precision | Type)`, and the six arms after it, which differ in the letter alone
+unfoldable pub letterOf : ℕ → ℕ → Shown
+letterOf c position = pick (isBeforeEnd position) (representationOf c) Plain
+
+-- f of the representation, or what is said where there is none
+abbrev pub onShown : {A : Type 0} → Shown → (Representation → A) → A → A
+onShown (As r) f none = f r
+onShown Plain f none = none
+
+-- the arms from the letters on
+unfoldable pub lastArm : ℕ → ℕ → Arm
+lastArm c position =
+    onShown (letterOf c position) arm.Represent
+    -- `(_, _, Start)`
+    (pick (eqb position start) arm.FillCluster
+    -- `(other, _, _)`
+    arm.Unexpected)
+
+-- the first arm whose pattern matches
+unfoldable pub armOf : ℕ → ℕ → ℕ → Arm
+armOf c peek position =
+    pick (isFillSign peek position) arm.FillSign
+    (pick (isAlign c position) arm.Align
+    (pick (isZeroFill c peek position) arm.ZeroFill
+    (pick (isWidth c position) arm.MinWidth
+    (pick (isPrecision c peek position) arm.Precision
+    (lastArm c position)))))
+
+-- ---- the bodies
+
+-- what an arm does: it goes on with these options and this position, having taken so many characters after its own, and with the string
+-- added, if it adds one; or it fails
+pub data Body : Type 0 where
+  Goes : Options → ℕ → ℕ → Fill → Body
+  Fails : Outcome → Body
+
+-- `?` on what `consume_u32` answers
+abbrev pub onConsumed : Consumed → (ℕ → ℕ → Body) → Body
+onConsumed (Value n k) f = f n k
+onConsumed (Wrong e) f = Fails e
+
+-- the options with the fill, which is added to the pool
+abbrev pub goesFilled : Options → ℕ → ℕ → Part → Body
+goesFilled o position k fill = Goes (withFill fill o) position k (Is fill)
+
+-- c stands at the byte `at`, and cs after it. Position Start is left at the first character, so there c and cs are the whole format string
+abbrev pub bodyOf : ℕ → (ℕ → ℕ) → ℕ → Options → ℕ → List ℕ → Arm → Body
+bodyOf edition look at o c cs arm.FillSign =
+    goesFilled (withAlignment (charToAlignment (peeked cs)) o) minWidth 1 (record { place = at; len = lenUtf8 c })
+bodyOf edition look at o c cs arm.Align = Goes (withAlignment (charToAlignment c) o) minWidth 0 NoFill
+bodyOf edition look at o c cs arm.ZeroFill = goesFilled o minWidth 0 (record { place = at; len = lenUtf8 c })
+bodyOf edition look at o c cs arm.MinWidth = onConsumed (consumeU32 c cs) (λ n k. Goes (withWidth n o) precision k NoFill)
+bodyOf edition look at o c cs arm.Precision =
+    onConsumed (consumeU32 (peeked cs) (drop 1 cs)) (λ n k. Goes (withPrecision n o) type (suc k) NoFill)
+bodyOf edition look at o c cs (arm.Represent r) = Goes (withRepresentation r o) end 0 NoFill
+bodyOf edition look at o c cs arm.FillCluster =
+    goesFilled o alignment (firstSize edition look (c ∷ cs) - 1) (record { place = at; len = firstEnd edition look 0 (c ∷ cs) })
+bodyOf edition look at o c cs arm.Unexpected = Fails (UnexpectedToken c)
+
+-- ---- the loop
+
+-- what `parse` comes to: the options so far, how it ends, and the pool
+pub record Parsed (P : Type 0) : Type 0 where
+  pub options : Options
+  pub outcome : Outcome
+  pub pool : P
+
+-- the pool after an arm
+abbrev pub addFill : {P : Type 0} → (P → Part → P) → P → Fill → P
+addFill add pool (Is part) = add pool part
+addFill add pool NoFill = pool
+
+module _ {P : Type 0} (add : P → Part → P) (edition : ℕ) (look : ℕ → ℕ) where
+  -- from the byte `at` on, where the first k characters of what is left were taken by the last arm
+  unfoldable pub parseFrom : ℕ → ℕ → ℕ → Options → P → List ℕ → Parsed P
+  parseFrom k at position o pool [] = record { options = o; outcome = Fine; pool = pool }
+  parseFrom (suc k) at position o pool (c ∷ cs) = parseFrom k (at + lenUtf8 c) position o pool cs
+  parseFrom zero at position o pool (c ∷ cs) = elim (bodyOf edition look at o c cs (armOf c (peeked cs) position)) [ Goes result next k fill ↦ parseFrom k (at + lenUtf8 c) next result (addFill add pool fill) cs | Fails e ↦ record { options = o; outcome = e; pool = pool } ]
+
+  -- of a whole format string
+  abbrev pub parseWith : P → List ℕ → Parsed P
+  parseWith pool cs = parseFrom 0 0 start noOptions pool cs
+
+-- one more string, at the end of a list
+abbrev pub append : List Part → Part → List Part
+append parts part = parts ++ part ∷ []
+
+-- `parse` of a whole format string, with the strings that it adds, in order
+abbrev pub parse : ℕ → (ℕ → ℕ) → List ℕ → Parsed (List Part)
+parse edition look cs = parseWith append edition look [] cs
+
+-- the string of a part of s
+abbrev pub stringOf : List ℕ → Part → List ℕ
+stringOf s part = take (part .len) (drop (part .place) s)
+
+-- strings added to a pool, one after the other
+abbrev pub addAll : {P : Type 0} → (P → Part → P) → P → List Part → P
+addAll add pool [] = pool
+addAll add pool (part ∷ parts) = addAll add (add pool part) parts

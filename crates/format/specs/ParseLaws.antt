@@ -1,0 +1,237 @@
+-- Laws of `parse`.
+--     ArmIs, arm-is            what each arm of the match says of the characters and the position
+--     parse-adds               a pool of any kind ends as the list of strings says
+--     PartIn, ZeroIn           a part that is inside the format string and made of whole characters; one that is a zero
+--     Keeps, parse-keeps       what is kept by a first fill, by a zero and by every other arm holds at the end: the way to show something of
+--                              all that `parse` adds
+-- Assumes nothing.
+use Prim.Native.Nat.{ℕ, zero, suc, _+_, _≤_, _<_}
+use native.Mathlib.Omega.{arith}
+use mathlib.Core.Path.{_≡_, refl, sym, ap, subst, _∙_}
+use mathlib.Core.Bool.{true}
+use mathlib.Core.List.{List, [], _∷_, _++_, append-nil}
+use lib.Dec.{eqb, ltb}
+use lib.ListN.{length, take, drop, length-append, length-drop, take-append-drop}
+use lib.Seq.{drop-drop, take-append-seam, drop-append-seam}
+use borrow.Author.Tests.{eqb-true, ltb-true}
+use Rattle.base.specs.Pick.{pick}
+use Rattle.base.specs.PickLaws.{by-test}
+use Rattle.utf8.specs.Encode.{encode, encodeAll, Scalars, WellFormed}
+use Rattle.utf8.specs.EncodeLaws.{all-append}
+use Rattle.utf8.specs.Chars.{chars}
+use Rattle.utf8.specs.CharsLaws.{chars-well}
+use Rattle.property.specs.FitLaws.{and-left, and-right}
+use Rattle.cluster.specs.First.{firstSize, firstEnd}
+use Rattle.format.specs.Options.{noOptions, withWidth, withPrecision}
+use Rattle.format.specs.Parse.{start, alignment, minWidth, precision, type, end, noChar, peeked, lenUtf8, zeroDigit, isSign, consumeU32}
+use Rattle.format.specs.Parse.{isFillSign, isAlign, isZeroFill, isWidth, isPrecision, letterOf, onShown, lastArm, armOf}
+use Rattle.format.specs.Parse.{Body, Goes, Fails, onConsumed, bodyOf, Parsed, addFill, parseFrom, parseWith, append, parse, stringOf, addAll}
+use Rattle.format.specs.declared.Shown.{Shown}
+use Rattle.format.specs.declared.Shown.the-variants.{As, Plain}
+use Rattle.format.specs.declared.Part.{Part}
+use Rattle.format.specs.declared.Fill.{Fill}
+use Rattle.format.specs.declared.Fill.the-variants.{Is, NoFill}
+use Rattle.format.specs.declared.Options.{Options}
+use Rattle.format.specs.declared.Consumed.{Consumed}
+use Rattle.format.specs.declared.Consumed.the-variants.{Value, Wrong}
+use Rattle.format.specs.declared.Arm.{Arm}
+use Rattle.format.specs.declared.Arm.the-variants as arm
+
+-- ---- the arms
+
+-- what is known where an arm is taken: a fill is set at the start alone, or is a zero; a precision has a character after its dot
+abbrev pub ArmIs : ℕ → ℕ → ℕ → Arm → Type 0
+ArmIs c peek position arm.FillSign = (isSign peek ≡ true) × (position ≡ start)
+ArmIs c peek position arm.Align = Unit {0}
+ArmIs c peek position arm.ZeroFill = c ≡ zeroDigit
+ArmIs c peek position arm.MinWidth = Unit {0}
+ArmIs c peek position arm.Precision = peek < noChar
+ArmIs c peek position (arm.Represent r) = Unit {0}
+ArmIs c peek position arm.FillCluster = position ≡ start
+ArmIs c peek position arm.Unexpected = Unit {0}
+
+module _ (c peek position : ℕ) where
+  last-is : (l : Shown) → ArmIs c peek position (onShown l arm.Represent (pick (eqb position start) arm.FillCluster arm.Unexpected))
+  last-is (As r) = tt
+  last-is Plain = by-test (ArmIs c peek position) (eqb position start) (λ t. eqb-true position start t) (λ t. tt)
+
+  pub arm-is : ArmIs c peek position (armOf c peek position)
+  unfolding armOf lastArm
+  arm-is =
+      let P = ArmIs c peek position in
+      by-test P (isFillSign peek position) (λ t. (and-left (isSign peek) _ t, eqb-true position start (and-right (isSign peek) _ t)))
+      (λ _. by-test P (isAlign c position) (λ _. tt)
+      (λ _. by-test P (isZeroFill c peek position) (λ t. eqb-true c zeroDigit (and-left (eqb c zeroDigit) _ t))
+      (λ _. by-test P (isWidth c position) (λ _. tt)
+      (λ _. by-test P (isPrecision c peek position)
+      (λ t. ltb-true peek noChar (and-left (ltb peek noChar) _ (and-right (eqb c 46) _ t))) (λ _. last-is (letterOf c position))))))
+
+-- ---- the pool
+
+-- one more at the end
+add-last : {P : Type 0} (add : P → Part → P) (pool : P) (parts : List Part) (part : Part)
+    → addAll add pool (append parts part) ≡ add (addAll add pool parts) part
+add-last add pool [] part = refl
+add-last add pool (q ∷ parts) part = add-last add (add pool q) parts part
+
+module _ {P : Type 0} (add : P → Part → P) (edition : ℕ) (look : ℕ → ℕ) (pool : P) where
+  -- what is parsed with a list, as what is parsed with the pool
+  abbrev pub poured : Parsed (List Part) → Parsed P
+  poured r = record { options = r .options; outcome = r .outcome; pool = addAll add pool (r .pool) }
+
+  add-fill : (parts : List Part) (fill : Fill) → addFill add (addAll add pool parts) fill ≡ addAll add pool (addFill append parts fill)
+  add-fill parts (Is part) = sym (add-last add pool parts part)
+  add-fill parts NoFill = refl
+
+  adds : (k at position : ℕ) (o : Options) (parts : List Part) (cs : List ℕ)
+      → parseFrom add edition look k at position o (addAll add pool parts) cs ≡ poured (parseFrom append edition look k at position o parts cs)
+  unfolding parseFrom
+  adds k at position o parts [] = refl
+  adds (suc k) at position o parts (c ∷ cs) = adds k (at + lenUtf8 c) position o parts cs
+  adds zero at position o parts (c ∷ cs) =
+      go (bodyOf edition look at o c cs (armOf c (peeked cs) position)) refl (λ k q r more. adds k (at + lenUtf8 c) q r more cs)
+    where
+      go : (b : Body) → bodyOf edition look at o c cs (armOf c (peeked cs) position) ≡ b
+          → ((k q : ℕ) (r : Options) (more : List Part) → parseFrom add edition look k (at + lenUtf8 c) q r (addAll add pool more) cs
+          ≡ poured (parseFrom append edition look k (at + lenUtf8 c) q r more cs))
+          → parseFrom add edition look 0 at position o (addAll add pool parts) (c ∷ cs)
+          ≡ poured (parseFrom append edition look 0 at position o parts (c ∷ cs))
+      go (Goes r q k fill) e ih =
+          rw (e, parseFrom)
+          (ap {B = Parsed P} (λ (x : P). parseFrom add edition look k (at + lenUtf8 c) q r x cs) (add-fill parts fill) ∙ ih k q r (addFill append parts fill))
+      go (Fails x) e ih = rw (e, parseFrom)
+
+  pub parse-adds : (cs : List ℕ) → parseWith add edition look pool cs ≡ poured (parse edition look cs)
+  parse-adds cs = adds 0 0 start noOptions [] cs
+
+-- ---- what is added
+
+module _ (s : List ℕ) where
+  pub record PartIn (part : Part) : Type 0 where
+    pub within : part .place + part .len ≤ length s
+    pub well : WellFormed (stringOf s part)
+
+  pub record ZeroIn (part : Part) : Type 0 where
+    pub part-in : PartIn part
+    pub zero-is : stringOf s part ≡ zeroDigit ∷ []
+
+  -- from the byte `at` on stand the characters cs
+  record Rest (at : ℕ) (cs : List ℕ) : Type 0 where
+    within : at ≤ length s
+    bytes : drop at s ≡ encodeAll cs
+    scalars : Scalars cs
+
+  rest-on : (at c : ℕ) (cs : List ℕ) → Rest at (c ∷ cs) → Rest (at + lenUtf8 c) cs
+  unfolding encodeAll
+  rest-on at c cs r =
+      let n = lenUtf8 c in
+      let b : drop (at + n) s ≡ encodeAll cs = sym (drop-drop n at s) ∙ ap (drop n) (r .bytes) ∙ drop-append-seam (encode c) (encodeAll cs) in
+      record {
+        within = omega (arith, r .within, ap length (r .bytes), length-drop at s, length-append (encode c) (encodeAll cs));
+        bytes = b;
+        scalars = r .scalars .1;
+      }
+
+  -- the first k characters
+  first-part : (at : ℕ) (cs : List ℕ) (k : ℕ) → Rest at cs → stringOf s (record { place = at; len = length (encodeAll (take k cs)) }) ≡ encodeAll (take k cs)
+  first-part at cs k r =
+      let whole : drop at s ≡ encodeAll (take k cs) ++ encodeAll (drop k cs) =
+      r .bytes ∙ ap encodeAll (sym (take-append-drop k cs)) ∙ all-append (take k cs) (drop k cs) in
+      ap (take (length (encodeAll (take k cs)))) whole ∙ take-append-seam (encodeAll (take k cs)) (encodeAll (drop k cs))
+
+  scalars-take : (k : ℕ) (cs : List ℕ) → Scalars cs → Scalars (take k cs)
+  scalars-take zero cs w = tt
+  scalars-take (suc k) [] w = tt
+  scalars-take (suc k) (c ∷ cs) w = (w .0, scalars-take k cs (w .1))
+
+  part-first : (at : ℕ) (cs : List ℕ) (k : ℕ) → Rest at cs → PartIn (record { place = at; len = length (encodeAll (take k cs)) })
+  part-first at cs k r =
+      record {
+        within =
+            omega (
+              arith,
+              r .within,
+              length-drop at s,
+              ap length (r .bytes ∙ ap encodeAll (sym (take-append-drop k cs)) ∙ all-append (take k cs) (drop k cs)),
+              length-append (encodeAll (take k cs)) (encodeAll (drop k cs)),
+            );
+        well = record { points = take k cs; scalars = scalars-take k cs (r .scalars); same = first-part at cs k r };
+      }
+
+  -- one character
+  one-len : (c : ℕ) (cs : List ℕ) → length (encodeAll (take 1 (c ∷ cs))) ≡ lenUtf8 c
+  unfolding encodeAll
+  one-len c cs = ap length (append-nil (encode c))
+
+  part-one : (at c : ℕ) (cs : List ℕ) → Rest at (c ∷ cs) → PartIn (record { place = at; len = lenUtf8 c })
+  part-one at c cs r = subst (λ (n : ℕ). PartIn (record { place = at; len = n })) (one-len c cs) (part-first at (c ∷ cs) 1 r)
+
+  zero-one : (at c : ℕ) (cs : List ℕ) → c ≡ zeroDigit → Rest at (c ∷ cs) → ZeroIn (record { place = at; len = lenUtf8 c })
+  unfolding encodeAll encode
+  zero-one at c cs e r =
+      record {
+        part-in = part-one at c cs r;
+        zero-is =
+            ap (λ (n : ℕ). take n (drop at s)) (sym (one-len c cs)) ∙ first-part at (c ∷ cs) 1 r ∙ ap (λ (d : ℕ). encodeAll (d ∷ [])) e;
+      }
+
+  module _ {P : Type 0} (add : P → Part → P) (I : ℕ → Fill → P → Type 0) where
+    -- I, of the position, the options' fill and the pool, is kept
+    pub record Keeps : Type 0 where
+      pub by-fill : (q : ℕ) (fill : Fill) (pool : P) (part : Part) → I start fill pool → PartIn part → 0 < q → I q (Is part) (add pool part)
+      pub by-zero : (p q : ℕ) (fill : Fill) (pool : P) (part : Part) → I p fill pool → ZeroIn part → 0 < q → I q (Is part) (add pool part)
+      pub by-other : (p q : ℕ) (fill : Fill) (pool : P) → I p fill pool → 0 < q → I q fill pool
+
+    -- it holds at the end, whatever the position there
+    abbrev pub Kept : Parsed P → Type 0
+    Kept r = (q : ℕ) × I q (r .options .fill) (r .pool)
+
+    module _ (keeps : Keeps) (edition : ℕ) (look : ℕ → ℕ) where
+      -- it holds after a body
+      abbrev After : P → Body → Type 0
+      After pool (Goes o q k fill) = I q (o .fill) (addFill add pool fill)
+      After pool (Fails e) = Unit {0}
+
+      after : (at p : ℕ) (o : Options) (pool : P) (c : ℕ) (cs : List ℕ) → Rest at (c ∷ cs) → I p (o .fill) pool
+          → (a : Arm) → ArmIs c (peeked cs) p a → After pool (bodyOf edition look at o c cs a)
+      after at p o pool c cs r i arm.FillSign t =
+          keeps .by-fill minWidth (o .fill) pool _ (subst (λ (q : ℕ). I q (o .fill) pool) (t .1) i) (part-one at c cs r) (omega arith)
+      after at p o pool c cs r i arm.Align t = keeps .by-other p minWidth (o .fill) pool i (omega arith)
+      after at p o pool c cs r i arm.ZeroFill t = keeps .by-zero p minWidth (o .fill) pool _ i (zero-one at c cs t r) (omega arith)
+      after at p o pool c cs r i arm.MinWidth t = go (consumeU32 c cs)
+        where
+          go : (x : Consumed) → After pool (onConsumed x (λ n k. Goes (withWidth n o) precision k NoFill))
+          go (Value n k) = keeps .by-other p precision (o .fill) pool i (omega arith)
+          go (Wrong e) = tt
+      after at p o pool c cs r i arm.Precision t = go (consumeU32 (peeked cs) (drop 1 cs))
+        where
+          go : (x : Consumed) → After pool (onConsumed x (λ n k. Goes (withPrecision n o) type (suc k) NoFill))
+          go (Value n k) = keeps .by-other p type (o .fill) pool i (omega arith)
+          go (Wrong e) = tt
+      after at p o pool c cs r i (arm.Represent x) t = keeps .by-other p end (o .fill) pool i (omega arith)
+      after at p o pool c cs r i arm.FillCluster t =
+          let z : length (encodeAll (take (firstSize edition look (c ∷ cs)) (c ∷ cs))) ≡ firstEnd edition look 0 (c ∷ cs) = omega arith in
+          let part = subst (λ (n : ℕ). PartIn (record { place = at; len = n })) z (part-first at (c ∷ cs) (firstSize edition look (c ∷ cs)) r) in
+          keeps .by-fill alignment (o .fill) pool _ (subst (λ (q : ℕ). I q (o .fill) pool) t i) part (omega arith)
+      after at p o pool c cs r i arm.Unexpected t = tt
+
+      kept : (k at p : ℕ) (o : Options) (pool : P) (cs : List ℕ) → Rest at cs → I p (o .fill) pool → Kept (parseFrom add edition look k at p o pool cs)
+      unfolding parseFrom
+      kept k at p o pool [] r i = (p, i)
+      kept (suc k) at p o pool (c ∷ cs) r i = kept k (at + lenUtf8 c) p o pool cs (rest-on at c cs r) i
+      kept zero at p o pool (c ∷ cs) r i =
+          go (bodyOf edition look at o c cs (armOf c (peeked cs) p)) refl
+          (λ k q o′ pool′ j. kept k (at + lenUtf8 c) q o′ pool′ cs (rest-on at c cs r) j)
+        where
+          go : (b : Body) → bodyOf edition look at o c cs (armOf c (peeked cs) p) ≡ b
+              → ((k q : ℕ) (o′ : Options) (pool′ : P) → I q (o′ .fill) pool′ → Kept (parseFrom add edition look k (at + lenUtf8 c) q o′ pool′ cs))
+              → Kept (parseFrom add edition look 0 at p o pool (c ∷ cs))
+          go (Goes o′ q k fill) e ih =
+              let j = subst (After pool) e (after at p o pool c cs r i (armOf c (peeked cs) p) (arm-is c (peeked cs) p)) in
+              rw (e, parseFrom) (ih k q o′ (addFill add pool fill) j)
+          go (Fails x) e ih = rw (e, parseFrom) (p, i)
+
+      pub parse-keeps : (pool : P) → WellFormed s → I start NoFill pool → Kept (parseWith add edition look pool (chars s))
+      parse-keeps pool w i =
+          let v = chars-well s w in
+          kept 0 0 start noOptions pool (chars s) (record { within = omega arith; bytes = v .0; scalars = v .1 }) i

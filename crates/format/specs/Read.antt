@@ -1,0 +1,110 @@
+-- The reading without a pool: `parse` with two places in the place of a pool, for the first string and the last one after it. What that has
+-- to do with a pool is `parse-two-stages` of `ReadLaws`.
+-- And what one turn of the code's loop does, at a byte place of the format string.
+-- Assumes nothing.
+use Prim.Native.Nat.{ℕ, suc, _+_, _-_, _≤_}
+use mathlib.Core.Path.{_≡_}
+use mathlib.Core.List.{List, _∷_}
+use lib.ListN.{length, take, drop}
+use Rattle.base.specs.Refusal.{formatMost}
+use Rattle.utf8.specs.Encode.{encodeAll, WellFormed}
+use Rattle.utf8.specs.Read.{readAt}
+use Rattle.utf8.specs.declared.Read.the-variants.{Char}
+use Rattle.format.specs.Options.{noOptions, withWidth, withPrecision, withFill}
+use Rattle.format.specs.Parse as parse
+use Rattle.format.specs.declared.Part.{Part}
+use Rattle.format.specs.declared.Fill.{Fill}
+use Rattle.format.specs.declared.Fill.the-variants.{Is, NoFill}
+use Rattle.format.specs.declared.Options.{Options}
+use Rattle.format.specs.declared.Outcome.{Outcome}
+use Rattle.format.specs.declared.Added.{Added}
+use Rattle.format.specs.declared.FormatRead.{FormatRead}
+use Rattle.format.specs.declared.Consumed.{Consumed}
+use Rattle.format.specs.declared.Consumed.the-variants.{Value, Wrong}
+use Rattle.format.specs.declared.Parsing.{Parsing}
+use Rattle.format.specs.declared.Turn.{Turn}
+use Rattle.format.specs.declared.Turn.the-variants.{Goes, Fails}
+
+-- no string
+abbrev pub nothingAdded : Added
+nothingAdded = record { first = NoFill; second = NoFill }
+
+-- the first string stays; a later one takes the place of the one before it
+abbrev pub keepBy : Fill → Added → Part → Added
+keepBy (Is p) a part = record { first = a .first; second = Is part }
+keepBy NoFill a part = record { first = Is part; second = NoFill }
+
+abbrev pub keep : Added → Part → Added
+keep a part = keepBy (a .first) a part
+
+-- the answer, of what `parse` comes to
+abbrev pub readingOf : parse.Parsed Added → FormatRead
+readingOf r = record { options = r .options; outcome = r .outcome; added = r .pool }
+
+-- the reading of a format string with these characters
+unfoldable pub readFormat : ℕ → (ℕ → ℕ) → List ℕ → FormatRead
+readFormat edition look cs = readingOf (parse.parseWith keep edition look nothingAdded cs)
+
+-- the strings of a reading added to a pool, one after the other
+abbrev pub addBoth : {P : Type 0} → (P → Part → P) → P → Added → P
+addBoth add pool a = parse.addFill add (parse.addFill add pool (a .first)) (a .second)
+
+-- the last of them
+abbrev pub lastBy : Fill → Fill → Fill
+lastBy (Is part) first = Is part
+lastBy NoFill first = first
+
+abbrev pub lastOf : Added → Fill
+lastOf a = lastBy (a .second) (a .first)
+
+-- ---- a turn
+
+-- before the first character
+abbrev pub startParsing : Parsing
+startParsing = record { position = parse.start; result = noOptions; at = 0; added = nothingAdded }
+
+-- the reading ends
+abbrev pub endsWith : Parsing → Outcome → FormatRead
+endsWith p e = record { options = p .result; outcome = e; added = p .added }
+
+-- it goes on, at the byte `at`
+abbrev pub goesTo : Parsing → Options → ℕ → ℕ → Fill → Parsing
+goesTo p result position at fill = record { position = position; result = result; at = at; added = parse.addFill keep (p .added) fill }
+
+-- the same, with what stands from here to the byte `end` as the fill, which is added
+abbrev pub goesFilled : Parsing → Options → ℕ → ℕ → ℕ → Parsing
+goesFilled p result position end at =
+    let fill : Part = record { place = p .at; len = end - p .at } in
+    goesTo p (withFill fill result) position at (Is fill)
+
+-- the arms with digits, which go on from the byte `at` on
+abbrev pub widthTo : Parsing → ℕ → Consumed → Turn
+widthTo p at (Value n k) = Goes (goesTo p (withWidth n (p .result)) parse.precision (at + k) NoFill)
+widthTo p at (Wrong e) = Fails e
+
+abbrev pub precisionTo : Parsing → ℕ → Consumed → Turn
+precisionTo p at (Value n k) = Goes (goesTo p (withPrecision n (p .result)) parse.type (at + k) NoFill)
+precisionTo p at (Wrong e) = Fails e
+
+-- the arm of a cluster, which ends before the byte `end`
+abbrev pub clusterTo : Parsing → ℕ → Parsing
+clusterTo p end = goesFilled p (p .result) parse.alignment end end
+
+-- what a body comes to, where cs are the characters from `p .at` on and the first of them is its own
+abbrev pub turnOf : Parsing → List ℕ → parse.Body → Turn
+turnOf p cs (parse.Goes result position k fill) = Goes (goesTo p result position (p .at + length (encodeAll (take (suc k) cs))) fill)
+turnOf p cs (parse.Fails e) = Fails e
+
+-- the body for the character c and those after it
+abbrev pub bodyAt : ℕ → (ℕ → ℕ) → Parsing → ℕ → List ℕ → parse.Body
+bodyAt edition look p c cs = parse.bodyOf edition look (p .at) (p .result) c cs (parse.armOf c (parse.peeked cs) (p .position))
+
+-- the turn for the character c and those after it
+abbrev pub turnAt : ℕ → (ℕ → ℕ) → Parsing → ℕ → List ℕ → Turn
+turnAt edition look p c cs = turnOf p (c ∷ cs) (bodyAt edition look p c cs)
+
+-- the character c, of n bytes, stands at the place i of s, and nothing ill-formed from it on
+pub record Here (s : List ℕ) (i c n : ℕ) : Type 0 where
+  pub small : length s ≤ formatMost
+  pub well : WellFormed (drop i s)
+  pub found : readAt s i ≡ Char c n

@@ -1,0 +1,169 @@
+// What the format program does with the bytes that it has read: it parses them with the small table and an empty pool of 64 entries and 1,024
+// bytes, and prints the options and the pool. It is a library, so that the program for many format strings prints of each what the
+// program for one does.
+use format::Alignment;
+use format::Fill;
+use format::Given;
+use format::Options;
+use format::Representation;
+use format::Shown;
+use libc::STDOUT_FILENO;
+use parse::Parsed;
+use pool::Counts;
+
+// Format strings over this many bytes are refused.
+const TEXT_MOST: usize = 1024;
+
+// `StringAlignment as u8`
+fn alignment_number(alignment: Alignment) -> u64 {
+    match alignment {
+        Alignment::Default => 0,
+        Alignment::Left => 1,
+        Alignment::Center => 2,
+        Alignment::Right => 3,
+    }
+}
+
+// `StringFormatRepresentation as u8`
+fn representation_number(representation: Representation) -> u64 {
+    match representation {
+        Representation::Debug => 0,
+        Representation::HexLower => 1,
+        Representation::HexUpper => 2,
+        Representation::Binary => 3,
+        Representation::Octal => 4,
+        Representation::ExpLower => 5,
+        Representation::ExpUpper => 6,
+    }
+}
+
+// A space and a number.
+fn print_number(n: u64) {
+    io::write_all(STDOUT_FILENO, b" ");
+    io::print_decimal(STDOUT_FILENO, n);
+}
+
+// A space and the sign for none.
+fn print_none() {
+    io::write_all(STDOUT_FILENO, b" -");
+}
+
+fn print_given(given: Given) {
+    match given {
+        Given::Number(n) => print_number(n as u64),
+        Given::Nothing => print_none(),
+    }
+}
+
+fn print_shown(shown: Shown) {
+    match shown {
+        Shown::As(representation) => print_number(representation_number(representation)),
+        Shown::Plain => print_none(),
+    }
+}
+
+fn print_fill(fill: Fill) {
+    match fill {
+        Fill::Is(part) => {
+            print_number(part.place as u64);
+            print_number(part.len as u64);
+        }
+        Fill::NoFill => {
+            print_none();
+            print_none();
+        }
+    }
+}
+
+// Alignment, width, precision, representation, the fill's place, length and index.
+fn print_options(options: Options, index: Given) {
+    let alignment = options.alignment;
+    let width = options.width;
+    let precision = options.precision;
+    let representation = options.representation;
+    let fill = options.fill;
+    io::write_all(STDOUT_FILENO, b"options");
+    print_number(alignment_number(alignment));
+    print_given(width);
+    print_given(precision);
+    print_shown(representation);
+    print_fill(fill);
+    print_given(index);
+    io::write_all(STDOUT_FILENO, b"\n");
+}
+
+// A refusal: its number, and its place or value.
+fn print_refused(number: u64, value: u64) {
+    io::write_all(STDOUT_FILENO, b"refused");
+    print_number(number);
+    print_number(value);
+    io::write_all(STDOUT_FILENO, b"\n");
+}
+
+fn print_answer(answer: Parsed) {
+    match answer {
+        Parsed::Read { options, index } => print_options(options, index),
+        Parsed::TooLong => print_refused(1, 0),
+        Parsed::BadTable(i) => print_refused(2, i as u64),
+        Parsed::BadUtf8(i) => print_refused(3, i as u64),
+        Parsed::BadState => print_refused(8, 0),
+        Parsed::ExpectedNumber(code) => print_refused(10, code as u64),
+        Parsed::FormatNumberIsTooLarge(value) => print_refused(11, value),
+        Parsed::UnexpectedToken(code) => print_refused(12, code as u64),
+        Parsed::PoolFull => print_refused(13, 0),
+    }
+}
+
+// A byte in two hex digits.
+fn print_byte(byte: u8) {
+    io::print_hex(STDOUT_FILENO, byte as u64, 2);
+}
+
+// The bytes from a place to before another, in hex; no byte past the row's end.
+fn print_bytes(bytes: &[u8], start: usize, end: usize) {
+    for i in start..end {
+        if i < bytes.len() {
+            print_byte(bytes[i]);
+        }
+    }
+}
+
+// A space, and a string by where it starts and how long it is.
+fn print_string(bytes: &[u8], start: u32, long: u32) {
+    let first = start as usize;
+    let end = first + long as usize;
+    io::write_all(STDOUT_FILENO, b" ");
+    print_bytes(bytes, first, end);
+}
+
+// The strings of the first n entries.
+fn print_strings(bytes: &[u8], entries: &[u32], n: usize) {
+    for k in 0..n {
+        if k < entries.len() / 2 {
+            print_string(bytes, entries[2 * k], entries[2 * k + 1]);
+        }
+    }
+}
+
+// Prints what a format string is parsed as: its options or its refusal, and then the strings of the pool.
+pub fn print_format(text: &[u8]) {
+    if TEXT_MOST < text.len() {
+        print_refused(1, 0);
+        io::write_all(STDOUT_FILENO, b"pool\n");
+        return;
+    }
+    let table = property::small_table();
+    let mut bytes = [0u8; 1024];
+    let mut entries = [0u32; 128];
+    let none = Counts {
+        entries: 0,
+        bytes: 0,
+    };
+    let after = parse::parse(text, &table, &mut bytes, &mut entries, none);
+    let answer = after.answer;
+    let counts = after.counts;
+    print_answer(answer);
+    io::write_all(STDOUT_FILENO, b"pool");
+    print_strings(&bytes, &entries, counts.entries as usize);
+    io::write_all(STDOUT_FILENO, b"\n");
+}
