@@ -1,7 +1,9 @@
 // What the list program does with the bytes that it has read (document 01, "The list program"). It is a library, so that the program which
 // lists many sources lists each as the list program does.
 use reading::Scanned;
+ghost use mathlib.Core.Path.{_≡_};
 ghost use Prim.Native.Nat.{_≤_};
+ghost use lib.ListN.{length, replicate};
 ghost use Rattle.token.specs.Row.{room};
 ghost use Rattle.reading.specs.Scan.{countOf};
 ghost use Rattle.listing.specs.Listing.{Lists};
@@ -22,9 +24,18 @@ pub fn scan_small(source: &[u8], list: &mut [u32]) -> Scanned
     scan::scan(source, &table, list)
 }
 
-// Prints the records of a source and how its scan ended. There is room for 1,365 records: one for each of 1,024 bytes, and a third more.
+// Zeros, with room for 1,365 records: one for each of 1,024 bytes, and a third more. The length, which follows, is what lending them as a
+// slice asks.
+pub fn list_buffer() -> [u32; 10920]
+    ensures { λ r. ⌜ r ≡ replicate 10920 0 ⌝ }
+    ensures { λ r. ⌜ 10920 ≡ length r ⌝ }
+{
+    [0; 10920]
+}
+
+// Prints the records of a source and how its scan ended.
 pub fn print_source(source: &[u8]) {
-    let mut list = [0u32; 10920];
+    let mut list = list_buffer();
     let scanned = scan_small(source, &mut list);
     printing::print_scan(&list, scanned);
 }

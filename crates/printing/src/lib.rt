@@ -10,8 +10,8 @@ ghost use Prim.Native.Nat.{_<_, _≤_};
 ghost use Rattle.token.specs.Row.{room};
 ghost use Rattle.reading.specs.Scan.{countOf};
 
-// A number, and what stands after it.
-fn print_number(x: u64, after: &[u8]) {
+// Prints a number, and what stands after it.
+pub fn print_number(x: u64, after: &[u8]) {
     io::print_decimal(STDOUT_FILENO, x);
     io::write_all(STDOUT_FILENO, after);
 }
@@ -55,13 +55,18 @@ fn print_last(word: &[u8], first: u64, second: usize) {
     print_number(second as u64, b"\n");
 }
 
+// Prints a refusal: its number and its place.
+pub fn print_refused(number: u32, place: usize) {
+    print_last(b"refused ", number as u64, place);
+}
+
 // Prints how a scan ended: its status with the count of records and the current byte, or the number and the place of its refusal.
 pub fn print_end(scanned: Scanned) {
     let place = answer::place_of(scanned);
     match scanned {
         Scanned::End { count, byte: _ } => print_last(b"end ", count as u64, place),
         Scanned::Stuck { count, byte: _ } => print_last(b"stuck ", count as u64, place),
-        _ => print_last(b"refused ", answer::number_of(scanned) as u64, place),
+        _ => print_refused(answer::number_of(scanned), place),
     }
 }
 
