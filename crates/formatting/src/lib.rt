@@ -1,6 +1,7 @@
 // What the format program does with the bytes that it has read: it parses them with the small table and an empty pool of 64 entries and 1,024
 // bytes, and prints the options and the pool. It is a library, so that the program for many format strings prints of each what the
 // program for one does.
+ghost use mathlib.Core.Path.{_≡_};
 use format::Alignment;
 use format::Fill;
 use format::Given;
@@ -146,7 +147,9 @@ fn print_strings(bytes: &[u8], entries: &[u32], n: usize) {
 }
 
 // Prints what a format string is parsed as: its options or its refusal, and then the strings of the pool.
-pub fn print_format(text: &[u8]) {
+pub fn print_format(text: &[u8])
+    ensures { λ r. ⌜ r ≡ tt ⌝ }
+{
     if TEXT_MOST < text.len() {
         print_refused(1, 0);
         io::write_all(STDOUT_FILENO, b"pool\n");

@@ -34,7 +34,9 @@ pub fn list_buffer() -> [u32; 10920]
 }
 
 // Prints the records of a source and how its scan ended.
-pub fn print_source(source: &[u8]) {
+pub fn print_source(source: &[u8])
+    ensures { λ r. ⌜ r ≡ tt ⌝ }
+{
     let mut list = list_buffer();
     let scanned = scan_small(source, &mut list);
     printing::print_scan(&list, scanned);

@@ -6,18 +6,23 @@ use scan::answer;
 use token::rows;
 use token::rows::Row;
 use token::rows::RowAt;
+ghost use mathlib.Core.Path.{_≡_};
 ghost use Prim.Native.Nat.{_<_, _≤_};
 ghost use Rattle.token.specs.Row.{room};
 ghost use Rattle.reading.specs.Scan.{countOf};
 
 // Prints a number, and what stands after it.
-pub fn print_number(x: u64, after: &[u8]) {
+pub fn print_number(x: u64, after: &[u8])
+    ensures { λ r. ⌜ r ≡ tt ⌝ }
+{
     io::print_decimal(STDOUT_FILENO, x);
     io::write_all(STDOUT_FILENO, after);
 }
 
 // Prints a record: its kind and its detail, then its other seven numbers.
-pub fn print_row(row: Row) {
+pub fn print_row(row: Row)
+    ensures { λ r. ⌜ r ≡ tt ⌝ }
+{
     print_number(row.kind as u64, b" ");
     print_number(row.detail as u64, b" ");
     print_number(row.start as u64, b" ");
@@ -42,6 +47,7 @@ fn print_row_at(list: &[u32], i: usize)
 // Prints the first records of a list.
 pub fn print_rows(list: &[u32], count: usize)
     requires { ⌜ count ≤ room (now list) ⌝ }
+    ensures { λ r. ⌜ r ≡ tt ⌝ }
 {
     for i in 0..count {
         print_row_at(list, i);
@@ -56,12 +62,16 @@ fn print_last(word: &[u8], first: u64, second: usize) {
 }
 
 // Prints a refusal: its number and its place.
-pub fn print_refused(number: u32, place: usize) {
+pub fn print_refused(number: u32, place: usize)
+    ensures { λ r. ⌜ r ≡ tt ⌝ }
+{
     print_last(b"refused ", number as u64, place);
 }
 
 // Prints how a scan ended: its status with the count of records and the current byte, or the number and the place of its refusal.
-pub fn print_end(scanned: Scanned) {
+pub fn print_end(scanned: Scanned)
+    ensures { λ r. ⌜ r ≡ tt ⌝ }
+{
     let place = answer::place_of(scanned);
     match scanned {
         Scanned::End { count, byte: _ } => print_last(b"end ", count as u64, place),
@@ -73,6 +83,7 @@ pub fn print_end(scanned: Scanned) {
 // Prints what a scan left: each record written, and then how it ended.
 pub fn print_scan(list: &[u32], scanned: Scanned)
     requires { ⌜ countOf scanned ≤ room (now list) ⌝ }
+    ensures { λ r. ⌜ r ≡ tt ⌝ }
 {
     print_rows(list, answer::count_of(scanned));
     print_end(scanned);

@@ -159,7 +159,9 @@ pub fn line_buffer() -> [u8; 200001]
 
 // Prints a walk over a source: a line for each call and how many tokens are queued at the end, the refusal of the scan, or that the line
 // is malformed.
-pub fn print_walk(line: &[u8], source: &[u8]) {
+pub fn print_walk(line: &[u8], source: &[u8])
+    ensures { λ r. ⌜ r ≡ tt ⌝ }
+{
     if !are_calls(line) {
         io::write_all(STDOUT_FILENO, b"bad calls\n");
         return;
