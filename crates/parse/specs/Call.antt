@@ -24,13 +24,17 @@ use Rattle.pool.specs.declared.Added.{Added}
 use Rattle.pool.specs.declared.Added.the-variants as pool
 use Rattle.format.specs.Parse as form
 use Rattle.format.specs.Parse.{parseWith, stringOf}
+use Rattle.format.specs.Read.{readFormat}
 use Rattle.format.specs.declared.Given.{Given}
 use Rattle.format.specs.declared.Given.the-variants.{Number, Nothing}
+use Rattle.format.specs.declared.FormatRead.{FormatRead}
 use Rattle.format.specs.declared.Options.{Options}
 use Rattle.format.specs.declared.Outcome.{Outcome}
 use Rattle.format.specs.declared.Outcome.the-variants as outcome
 use Rattle.parse.specs.declared.Adding.{Adding}
 use Rattle.parse.specs.declared.After.{After}
+use Rattle.parse.specs.declared.Reading.{Reading}
+use Rattle.parse.specs.declared.Reading.the-variants as reading
 use Rattle.parse.specs.declared.Parsed.{Parsed}
 use Rattle.parse.specs.declared.Parsed.the-variants.{Read, TooLong, BadTable, BadUtf8, BadState, ExpectedNumber, FormatNumberIsTooLarge, UnexpectedToken, PoolFull}
 
@@ -46,6 +50,13 @@ pub record Pool : Type 0 where
 
 abbrev pub pooled : List ℕ → List ℕ → Adding → Pool
 pooled bytes entries a = record { bytes = bytes; entries = entries; counts = a .counts; index = a .index; full = a .full }
+
+-- what has been added, after an addition that answered so; a refusal of the string or of the pool leaves it
+abbrev pub addingAfter : Adding → Added → Adding
+addingAfter a (pool.Index i counts) = record { counts = counts; index = Number i; full = false }
+addingAfter a pool.PoolFull = record { counts = a .counts; index = a .index; full = true }
+addingAfter a (pool.BadUtf8 place) = a
+addingAfter a pool.BadState = a
 
 -- what an addition of the string x makes of the pool
 abbrev pub onAdded : Pool → List ℕ → Added → Pool
@@ -123,6 +134,28 @@ pub record Parses (format table bytes entries : List ℕ) (counts : Counts) (new
   pub counts-left : r .counts ≡ call format table (lent bytes entries counts) .pool .counts
   pub bytes-left : newBytes ≡ call format table (lent bytes entries counts) .pool .bytes
   pub entries-left : newEntries ≡ call format table (lent bytes entries counts) .pool .entries
+
+-- ---- what stands before the pool is looked at
+
+-- the reading without a pool
+abbrev pub readOf : List ℕ → List ℕ → FormatRead
+readOf format table = readFormat baseEdition (propertiesAt table) (chars format)
+
+abbrev pub byTable : TableCheck → Reading → Reading
+byTable table.Fit r = r
+byTable (table.BadTable i) r = reading.Refused (BadTable i)
+
+abbrev pub byUtf8 : Utf8Check → Reading → Reading
+byUtf8 utf8.Fine r = r
+byUtf8 (utf8.BadAt i) r = reading.Refused (BadUtf8 i)
+byUtf8 (utf8.CutAt i) r = reading.Refused (BadUtf8 i)
+
+-- what `read` answers: refusals 1, 2, 3 in this order, and then the reading
+unfoldable pub readingOf : List ℕ → List ℕ → Reading
+readingOf format table =
+    pick (ltb formatMost (length format)) (reading.Refused TooLong)
+    (byTable (tableCheck table)
+    (byUtf8 (checkFrom 0 format) (reading.Read (readOf format table))))
 
 -- ---- document 01's numbers of an answer
 

@@ -6,14 +6,11 @@
 ghost use mathlib.Core.Path.{_≡_};
 ghost use Prim.Native.Nat.{_+_, _≤_};
 ghost use lib.ListN.{length};
-ghost use Rattle.base.specs.Refusal.{formatMost};
-ghost use Rattle.utf8.specs.Encode.{WellFormed};
-ghost use Rattle.property.specs.Fit.{tableCheck};
-ghost use Rattle.property.specs.declared.table.TableCheck.the-variants.{Fit};
 ghost use Rattle.format.specs.Parse.{addFill, stringOf};
 ghost use Rattle.format.specs.ReadLaws.{addPart, FillIn};
-ghost use Rattle.parse.specs.Call.{pooled, addTo, answerOf, Parses};
+ghost use Rattle.parse.specs.Call.{pooled, addingAfter, addTo, answerOf, readingOf, Parses};
 use format::Fill;
+use format::FormatRead;
 use format::Given;
 use format::Options;
 use format::Outcome;
@@ -57,10 +54,55 @@ pub struct After {
 }
 
 // What has been added so far: the pool's counts, the index that the last addition answered, and whether one found no room.
-struct Adding {
-    counts: Counts,
-    index: Given,
-    full: bool,
+pub struct Adding {
+    pub counts: Counts,
+    pub index: Given,
+    pub full: bool,
+}
+
+// What stands before the pool is looked at: one of refusals 1, 2, 3, or the reading of the format string.
+pub enum Reading {
+    Refused(Parsed),
+    Read(FormatRead),
+}
+
+// Reads a format string without its pool. Refused are one that is too long, then a table that is unfit, then bytes that are ill-formed.
+pub fn read(format: &[u8], table: &[u32]) -> Reading
+    ensures { λ r. ⌜ r ≡ readingOf (now (format .entry)) (now (table .entry)) ⌝ }
+{
+    if FORMAT_MOST < format.len() {
+        return Reading::Refused(Parsed::TooLong);
+    }
+    match property::check_table(table) {
+        property::TableCheck::BadTable(i) => Reading::Refused(Parsed::BadTable(i)),
+        property::TableCheck::Fit => match utf8::check_utf8(format) {
+            utf8::Utf8Check::BadAt(i) => Reading::Refused(Parsed::BadUtf8(i)),
+            utf8::Utf8Check::CutAt(i) => Reading::Refused(Parsed::BadUtf8(i)),
+            utf8::Utf8Check::Fine => Reading::Read(read_format(format, table, EDITION)),
+        },
+    }
+}
+
+// What has been added, after an addition that answered so.
+pub fn after_added(adding: Adding, added: Added) -> Adding
+    ensures { λ r. ⌜ r ≡ addingAfter adding added ⌝ }
+{
+    let had = adding.counts;
+    let last = adding.index;
+    match added {
+        Added::Index { index, counts } => Adding {
+            counts,
+            index: Given::Number(index),
+            full: false,
+        },
+        Added::PoolFull => Adding {
+            counts: had,
+            index: last,
+            full: true,
+        },
+        Added::BadUtf8(_) => adding,
+        Added::BadState => adding,
+    }
 }
 
 // Adds a part of the format string to the pool, if all before it had room.
@@ -75,27 +117,14 @@ fn add_part(
     ensures { λ r. ⌜ pooled (now (bytes .exit)) (now (entries .exit)) r
         ≡ addTo (pooled (now (bytes .entry)) (now (entries .entry)) adding) (stringOf (now (format .entry)) part) ⌝ }
 {
-    let index = adding.index;
-    let counts = adding.counts;
     if adding.full {
         return adding;
     }
+    let counts = adding.counts;
     let place = part.place;
     let end = place + part.len;
-    match pool::add_string(&format[place..end], bytes, entries, counts) {
-        Added::Index { index, counts } => Adding {
-            counts,
-            index: Given::Number(index),
-            full: false,
-        },
-        Added::PoolFull => Adding {
-            counts,
-            index,
-            full: true,
-        },
-        Added::BadUtf8(_) => adding,
-        Added::BadState => adding,
-    }
+    let added = pool::add_string(&format[place..end], bytes, entries, counts);
+    after_added(adding, added)
 }
 
 // Adds a fill, if there is one.
@@ -117,7 +146,7 @@ fn add_fill(
 }
 
 // The answer, from how the reading ended and what was added.
-fn answer_of(options: Options, outcome: Outcome, index: Given, full: bool) -> Parsed
+pub fn answer_of(options: Options, outcome: Outcome, index: Given, full: bool) -> Parsed
     ensures { λ r. ⌜ r ≡ answerOf options outcome index full ⌝ }
 {
     if full {
@@ -128,45 +157,6 @@ fn answer_of(options: Options, outcome: Outcome, index: Given, full: bool) -> Pa
         Outcome::ExpectedNumber(code) => Parsed::ExpectedNumber(code),
         Outcome::TooLarge(value) => Parsed::FormatNumberIsTooLarge(value),
         Outcome::UnexpectedToken(code) => Parsed::UnexpectedToken(code),
-    }
-}
-
-// The parse of a well-formed format string with a fit table: the reading, and then its strings added one after the other.
-fn parse_fine(
-    format: &[u8],
-    table: &[u32],
-    bytes: &mut [u8],
-    entries: &mut [u32],
-    counts: Counts,
-) -> After
-    requires { ⌜ WellFormed (now format) × (length (now format) ≤ formatMost) × (tableCheck (now table) ≡ Fit) ⌝ }
-    ensures { λ r. ⌜ Parses (now (format .entry)) (now (table .entry)) (now (bytes .entry)) (now (entries .entry)) counts
-        (now (bytes .exit)) (now (entries .exit)) r ⌝ }
-{
-    if !pool::is_pool_fit(bytes, entries, counts) {
-        return After {
-            answer: Parsed::BadState,
-            counts,
-        };
-    }
-    let read = read_format(format, table, EDITION);
-    let options = read.options;
-    let outcome = read.outcome;
-    let added = read.added;
-    let first = added.first;
-    let second = added.second;
-    let none = Adding {
-        counts,
-        index: Given::Nothing,
-        full: false,
-    };
-    let one = add_fill(format, first, &mut *bytes, &mut *entries, none);
-    let two = add_fill(format, second, &mut *bytes, &mut *entries, one);
-    let index = two.index;
-    let left = two.counts;
-    After {
-        answer: answer_of(options, outcome, index, two.full),
-        counts: left,
     }
 }
 
@@ -183,27 +173,33 @@ pub fn parse(
     ensures { λ r. ⌜ Parses (now (format .entry)) (now (table .entry)) (now (bytes .entry)) (now (entries .entry)) counts
         (now (bytes .exit)) (now (entries .exit)) r ⌝ }
 {
-    if FORMAT_MOST < format.len() {
-        return After {
-            answer: Parsed::TooLong,
-            counts,
-        };
-    }
-    match property::check_table(table) {
-        property::TableCheck::BadTable(i) => After {
-            answer: Parsed::BadTable(i),
-            counts,
-        },
-        property::TableCheck::Fit => match utf8::check_utf8(format) {
-            utf8::Utf8Check::BadAt(i) => After {
-                answer: Parsed::BadUtf8(i),
+    match read(format, table) {
+        Reading::Refused(answer) => After { answer, counts },
+        Reading::Read(read) => {
+            if !pool::is_pool_fit(bytes, entries, counts) {
+                return After {
+                    answer: Parsed::BadState,
+                    counts,
+                };
+            }
+            let options = read.options;
+            let outcome = read.outcome;
+            let added = read.added;
+            let first = added.first;
+            let second = added.second;
+            let none = Adding {
                 counts,
-            },
-            utf8::Utf8Check::CutAt(i) => After {
-                answer: Parsed::BadUtf8(i),
-                counts,
-            },
-            utf8::Utf8Check::Fine => parse_fine(format, table, bytes, entries, counts),
-        },
+                index: Given::Nothing,
+                full: false,
+            };
+            let one = add_fill(format, first, &mut *bytes, &mut *entries, none);
+            let two = add_fill(format, second, &mut *bytes, &mut *entries, one);
+            let index = two.index;
+            let left = two.counts;
+            After {
+                answer: answer_of(options, outcome, index, two.full),
+                counts: left,
+            }
+        }
     }
 }

@@ -31,7 +31,7 @@ pub enum Added {
 const ROOM_MOST: u32 = 4294967295;
 
 // The room of a row for so many things.
-fn room_of(most: usize) -> u32
+pub fn room_of(most: usize) -> u32
     ensures { λ r. ⌜ r ≡ roomOf most ⌝ }
 {
     if (ROOM_MOST as usize) < most {
@@ -82,7 +82,7 @@ pub fn is_pool_fit(bytes: &[u8], entries: &[u32], counts: Counts) -> bool
 }
 
 // Whether two rows of bytes are the same.
-fn is_same(a: &[u8], b: &[u8]) -> bool
+pub fn is_same(a: &[u8], b: &[u8]) -> bool
     ensures { λ r. ⌜ r ≡ same (now (a .entry)) (now (b .entry)) ⌝ }
 {
     if a.len() != b.len() {
@@ -125,7 +125,7 @@ fn find_string(string: &[u8], bytes: &[u8], entries: &[u32], n: usize) -> usize
 
 // The answer in a fit pool that has room for so many entries and bytes, for a string of so many bytes that the search found at an index, or
 // at the count of entries where it did not.
-fn place(long: usize, found: usize, counts: Counts, entry_room: u32, byte_room: u32) -> Added
+pub fn place(long: usize, found: usize, counts: Counts, entry_room: u32, byte_room: u32) -> Added
     requires { ⌜ counts .bytes ≤ «byte_room» ⌝ }
     ensures { λ r. ⌜ r ≡ placed long found counts «entry_room» «byte_room» ⌝ }
 {
@@ -153,7 +153,7 @@ fn place(long: usize, found: usize, counts: Counts, entry_room: u32, byte_room: 
 }
 
 // Whether an answer hands out an index that no string had before.
-fn is_new(counts: Counts, answer: Added) -> bool
+pub fn is_new(counts: Counts, answer: Added) -> bool
     ensures { λ r. ⌜ r ≡ isNew counts answer ⌝ }
 {
     match answer {
@@ -165,7 +165,7 @@ fn is_new(counts: Counts, answer: Added) -> bool
 }
 
 // Copies the string into a row of bytes, from index `at` on.
-fn copy_in(string: &[u8], bytes: &mut [u8], at: usize)
+pub fn copy_in(string: &[u8], bytes: &mut [u8], at: usize)
     requires { ⌜ at + length (now string) ≤ length (now bytes) ⌝ }
     ensures { λ _. ⌜ now (bytes .exit) ≡ written (now (bytes .entry)) at (now (string .entry)) ⌝ }
 {

@@ -1,4 +1,4 @@
--- `parse::add_part` meets its contract: each answer of `add_string` makes of the pool what `onAdded` says. Assumes nothing.
+-- `parse::add_part` meets its contract: `addTo` adds nothing after an addition without room, and else what `add_string` answered. Assumes nothing.
 use Prim.Native.Nat.{ℕ, _+_, _-_}
 use native.Mathlib.Omega.{arith}
 use mathlib.Core.Path.{_≡_, sym, subst}
@@ -9,7 +9,7 @@ use Rattle.pool.specs.declared.Counts.{Counts}
 use Rattle.pool.specs.declared.Added.{Added}
 use Rattle.format.specs.Parse.{stringOf}
 use Rattle.format.specs.declared.Part.{Part}
-use Rattle.parse.specs.CallLaws.{adds-full, adds-index, adds-none, adds-bad, adds-unfit}
+use Rattle.parse.specs.CallLaws.{adds-full, adds-after}
 use borrow.Author.Needs.{needs}
 use Rattle.parse.proofs.add_part.Statement.{statement}
 use Rattle.parse.proofs.add_part.Tie as tie
@@ -40,17 +40,8 @@ part-add-string-end c = search needs
 add-string-requires : tie.Need-add-string-requires
 add-string-requires c κs = search needs
 
-enum-known-index : tie.Need-enum-known-index
-enum-known-index c = search needs
-
-enum-told : tie.Need-enum-told
-enum-told c = search needs
-
-enum-told-2 : tie.Need-enum-told-2
-enum-told-2 c = search needs
-
-enum-told-3 : tie.Need-enum-told-3
-enum-told-3 c = search needs
+after-added-requires : tie.Need-after-added-requires
+after-added-requires c κs = search needs
 
 same-length : tie.Need-same-length
 same-length c = search needs
@@ -60,45 +51,10 @@ same-length-2 c = search needs
 
 returns-2 : tie.Need-returns-2
 returns-2 c =
-    let at-add = c .before .before .before .before .before .before .before in
+    let at-add = c .before .before .before .before .before in
     let start = at-add .before .before .before .before .before .before .before .before .before .before .args in
-    adds-index _ _ (at-add .before .before .before .before .before .if1 .left) (as-part (start .format .now) (start .part) (at-add .add-string .ensures)) (c .before .index .given .1)
-
-same-length-3 : tie.Need-same-length-3
-same-length-3 c = search needs
-
-same-length-4 : tie.Need-same-length-4
-same-length-4 c = search needs
-
-returns-3 : tie.Need-returns-3
-returns-3 c =
-    let at-add = c .before .before .before .before .before .before in
-    let start = at-add .before .before .before .before .before .before .before .before .before .before .args in
-    adds-none _ _ (at-add .before .before .before .before .before .if1 .left) (as-part (start .format .now) (start .part) (at-add .add-string .ensures)) (c .enum-told .given .1)
-
-same-length-5 : tie.Need-same-length-5
-same-length-5 c = search needs
-
-same-length-6 : tie.Need-same-length-6
-same-length-6 c = search needs
-
-returns-4 : tie.Need-returns-4
-returns-4 c =
-    let at-add = c .before .before .before .before .before .before in
-    let start = at-add .before .before .before .before .before .before .before .before .before .before .args in
-    adds-bad _ _ (at-add .before .before .before .before .before .if1 .left) (as-part (start .format .now) (start .part) (at-add .add-string .ensures)) (c .enum-told2 .given .1)
-
-same-length-7 : tie.Need-same-length-7
-same-length-7 c = search needs
-
-same-length-8 : tie.Need-same-length-8
-same-length-8 c = search needs
-
-returns-5 : tie.Need-returns-5
-returns-5 c =
-    let at-add = c .before .before .before .before .before .before in
-    let start = at-add .before .before .before .before .before .before .before .before .before .before .args in
-    adds-unfit _ _ (at-add .before .before .before .before .before .if1 .left) (as-part (start .format .now) (start .part) (at-add .add-string .ensures)) (c .enum-told3 .given .1)
+    adds-after (start .adding) (stringOf (start .format .now) (start .part)) (at-add .before .before .before .before .before .before .if1 .left)
+    (as-part (start .format .now) (start .part) (at-add .add-string .ensures)) (c .after-added .ensures)
 
 pub add-part-spec : {M : Type 1} → statement M
 add-part-spec =
@@ -110,19 +66,7 @@ add-part-spec =
     part-add-string-start
     part-add-string-end
     add-string-requires
-    enum-known-index
-    enum-told
-    enum-told-2
-    enum-told-3
+    after-added-requires
     same-length
     same-length-2
-    returns-2
-    same-length-3
-    same-length-4
-    returns-3
-    same-length-5
-    same-length-6
-    returns-4
-    same-length-7
-    same-length-8
-    returns-5)
+    returns-2)

@@ -1,62 +1,23 @@
--- `parse::parse` meets its contract: the code takes the tests of `call` in its order. Assumes nothing.
+-- `parse::parse` meets its contract: what `read` refuses, and then an unfit pool, is refused, and else the two stages are the one pass (`two-stages`).
+-- Assumes nothing.
 use mathlib.Core.Path.{sym, _∙_}
-use Rattle.utf8.specs.CharsLaws.{well-of-fine}
-use Rattle.parse.specs.CallLaws.{parses-long, parses-table, parses-bad, parses-cut}
+use borrow.Author.Tests.{not-true, not-false}
+use Rattle.parse.specs.CallLaws.{added-read, parses-refused, read-unfit, parses-fine}
 use borrow.Author.Needs.{needs}
 use Rattle.parse.proofs.parse.Statement.{statement}
 use Rattle.parse.proofs.parse.Tie as tie
 
-returns : tie.Need-returns
-returns c = parses-long (c .if1 .taken)
+read-requires : tie.Need-read-requires
+read-requires c κs = search needs
 
-check-table-requires : tie.Need-check-table-requires
-check-table-requires c κs = search needs
+enum-known-answer : tie.Need-enum-known-answer
+enum-known-answer c = search needs
 
-enum-known-i : tie.Need-enum-known-i
-enum-known-i c = search needs
+enum-known-read : tie.Need-enum-known-read
+enum-known-read c = search needs
 
-enum-told : tie.Need-enum-told
-enum-told c = search needs
-
-check-utf8-requires : tie.Need-check-utf8-requires
-check-utf8-requires c κs = search needs
-
-enum-known-i-2 : tie.Need-enum-known-i-2
-enum-known-i-2 c = search needs
-
-enum-known-i-3 : tie.Need-enum-known-i-3
-enum-known-i-3 c = search needs
-
-enum-told-2 : tie.Need-enum-told-2
-enum-told-2 c = search needs
-
-parse-fine-requires : tie.Need-parse-fine-requires
-parse-fine-requires c κs =
-    let bytes = c .before .before .before .before in
-    let table = bytes .before .before .before in (
-      well-of-fine 0 _ (sym (bytes .check-utf8 .ensures) ∙ c .before .before .enum-told2 .given .1),
-      table .before .if1 .left,
-      sym (table .check-table .ensures) ∙ bytes .before .enum-told .given .1,
-    )
-
-returns-2 : tie.Need-returns-2
-returns-2 c =
-    let table = c .before .before .before in
-    parses-table (table .before .if1 .left) (sym (table .check-table .ensures) ∙ c .before .i .given .1)
-
-returns-3 : tie.Need-returns-3
-returns-3 c =
-    let bytes = c .before .before .before in
-    let table = bytes .before .before .before in
-    parses-bad (table .before .if1 .left) (sym (table .check-table .ensures) ∙ bytes .before .enum-told .given .1)
-    (sym (bytes .check-utf8 .ensures) ∙ c .before .i2 .given .1)
-
-returns-4 : tie.Need-returns-4
-returns-4 c =
-    let bytes = c .before .before .before in
-    let table = bytes .before .before .before in
-    parses-cut (table .before .if1 .left) (sym (table .check-table .ensures) ∙ bytes .before .enum-told .given .1)
-    (sym (bytes .check-utf8 .ensures) ∙ c .before .i3 .given .1)
+is-pool-fit-requires : tie.Need-is-pool-fit-requires
+is-pool-fit-requires c κs = search needs
 
 same-length : tie.Need-same-length
 same-length c = search needs
@@ -64,25 +25,53 @@ same-length c = search needs
 same-length-2 : tie.Need-same-length-2
 same-length-2 c = search needs
 
-returns-5 : tie.Need-returns-5
-returns-5 c = search needs
+returns : tie.Need-returns
+returns c = read-unfit (sym (c .before .before .before .before .before .before .before .read .ensures) ∙ c .before .before .before .before .before .read2 .given .1) (sym (c .before .is-pool-fit .ensures) ∙ not-true _ (c .if1 .taken))
+
+add-fill-requires : tie.Need-add-fill-requires
+add-fill-requires c κs =
+    let format = c .before .before .before .before .before .before .before .before .before .before .before .before .before .before .before .before .args .format .now in
+    added-read format _ (sym (c .before .before .before .before .before .before .before .before .before .before .before .read .ensures) ∙ c .before .before .before .before .before .before .before .before .before .read2 .given .1) .first
+
+add-fill-requires-2 : tie.Need-add-fill-requires-2
+add-fill-requires-2 c κs =
+    let format = c .before .before .before .before .before .before .before .before .before .before .before .before .before .before .before .before .before .before .before .before .before .before .before .args .format .now in
+    added-read format _ (sym (c .before .before .before .before .before .before .before .before .before .before .before .before .before .before .before .before .before .before .read .ensures) ∙ c .before .before .before .before .before .before .before .before .before .before .before .before .before .before .before .before .read2 .given .1) .second
+
+answer-of-requires : tie.Need-answer-of-requires
+answer-of-requires c κs = search needs
+
+returns-2 : tie.Need-returns-2
+returns-2 c = parses-refused (sym (c .before .before .before .read .ensures) ∙ c .before .answer .given .1)
+
+same-length-3 : tie.Need-same-length-3
+same-length-3 c = search needs
+
+same-length-4 : tie.Need-same-length-4
+same-length-4 c = search needs
+
+returns-3 : tie.Need-returns-3
+returns-3 c =
+    let fit = c .before .before .before .before .before .before .before .before .before .before .before .before .before .before .before .before .before .before .before in
+    parses-fine (sym (c .before .before .before .before .before .before .before .before .before .before .before .before .before .before .before .before .before .before .before .before .before .before .before .before .before .read .ensures) ∙ c .before .before .before .before .before .before .before .before .before .before .before .before .before .before .before .before .before .before .before .before .before .before .before .read2 .given .1)
+    (sym (fit .is-pool-fit .ensures) ∙ not-false _ (c .before .before .before .before .before .before .before .before .before .before .before .before .before .before .before .before .before .before .if1 .left))
+    (c .before .before .before .before .before .before .before .before .before .before .before .before .before .add-fill .ensures) (c .before .before .before .before .before .before .add-fill2 .ensures) (c .answer-of .ensures)
 
 pub parse-spec : {M : Type 1} → statement M
 parse-spec =
     tie.close
     (tie.spec
-    returns
-    check-table-requires
-    enum-known-i
-    enum-told
-    check-utf8-requires
-    enum-known-i-2
-    enum-known-i-3
-    enum-told-2
-    parse-fine-requires
-    returns-2
-    returns-3
-    returns-4
+    read-requires
+    enum-known-answer
+    enum-known-read
+    is-pool-fit-requires
     same-length
     same-length-2
-    returns-5)
+    returns
+    add-fill-requires
+    add-fill-requires-2
+    answer-of-requires
+    returns-2
+    same-length-3
+    same-length-4
+    returns-3)

@@ -1,0 +1,109 @@
+-- What the calls of `is_pool_fit` and of `add_row` come to, over lists and numbers.
+--     fit-is                        the test on numbers is that of the flat pool
+--     bytes-fit                     what `add_bytes` asks of a fit pool
+--     free                          where a new index is handed out, an entry is free and the string's length is a number of 32 bits
+--     settled-old, settled-new      a return: nothing is written to the entries, or the new one
+-- Assumes nothing.
+use Prim.Native.Nat.{ℕ, _+_, _*_, _/_, _<_, _≤_, _^_}
+use native.Mathlib.Omega.{arith}
+use mathlib.Core.Path.{_≡_, refl, sym, ap, _∙_}
+use mathlib.Core.Bool.{Bool, true, false}
+use mathlib.Core.List.{List}
+use lib.ListN.{length, set}
+use Rattle.base.specs.Pick.{pick}
+use borrow.Author.Tests.{lt-ltb, le-ltb}
+use Rattle.base.specs.PickLaws.{split-lt}
+use Rattle.utf8.specs.Chars.{checkFrom}
+use Rattle.utf8.specs.declared.Utf8Check.{Utf8Check}
+use Rattle.utf8.specs.declared.Utf8Check.the-variants as utf8
+use Rattle.pool.specs.Pool.{indexOf, stringsOf, roomOf, byteRoom, entryRoom, runsTo, fitIn, fitPool, onUtf8, placed, addedToFit, added, isNew}
+use Rattle.pool.specs.Pool.{entered, bytesAfter, entriesAfter, AddsString}
+use Rattle.pool.specs.FitLaws.{room-within, fit-of}
+use Rattle.pool.specs.PoolLaws.{placed-same, old-entries, new-entries}
+use Rattle.pool.specs.declared.Counts.{Counts}
+use Rattle.pool.specs.declared.Added.{Added}
+use Rattle.pool.specs.declared.Added.the-variants.{BadState}
+use Rattle.pool.proofs.Answers.{settled}
+use Rattle.pool_lent.specs.Entries.{numbersOf, entryOf, least, EndsAt, fitAt, answerAt}
+use Rattle.pool_lent.specs.EntriesLaws.{numbers-long, numbers-set}
+use Rattle.pool_lent.specs.declared.Entry.{Entry}
+use Rattle.pool_lent.proofs.Numbers.{least-is, new-room}
+
+room-is : (es : List Entry) → entryRoom (numbersOf es) ≡ roomOf (length es)
+room-is es = ap roomOf (omega (arith, numbers-long es))
+
+module _ (bytes : List ℕ) (es : List Entry) (counts : Counts) (n : ℕ) (n-is : n ≡ least (counts .entries) (length es)) where
+  -- counts that the row has room for are those that the code goes by
+  within-row : counts .entries ≤ roomOf (length es) → n ≡ counts .entries
+  within-row h = n-is ∙ least-is (counts .entries) (length es) (omega (arith, room-within (length es) .0))
+
+  pub fit-is : (end : ℕ) → EndsAt es n end → fitAt (length bytes) (length es) counts end ≡ fitPool bytes (numbersOf es) counts
+  unfolding fitAt fitIn
+  fit-is end ends =
+      rw (room-is es)
+      (split-lt (roomOf (length es)) (counts .entries)
+      (λ h. rw (lt-ltb (roomOf (length es)) (counts .entries) h))
+      (λ h. rw (le-ltb (roomOf (length es)) (counts .entries) h)
+      (split-lt (byteRoom bytes) (counts .bytes)
+      (λ k. rw (lt-ltb (byteRoom bytes) (counts .bytes) k))
+      (λ k. rw (le-ltb (byteRoom bytes) (counts .bytes) k)
+      (ends (counts .bytes) (omega (arith, room-within (length bytes) .1))
+      ∙ ap (λ (m : ℕ). runsTo (numbersOf es) 0 m 0 (counts .bytes)) (within-row h))))))
+
+  module _ (string : List ℕ) (fit : Bool) (fit-as : fit ≡ fitPool bytes (numbersOf es) counts) where
+    -- a fit pool, part by part
+    parts : fit ≡ true → (counts .entries ≤ roomOf (length es)) × (counts .bytes ≤ byteRoom bytes)
+    parts e =
+        let f = fit-of (numbersOf es) counts (entryRoom (numbersOf es)) (byteRoom bytes) (sym fit-as ∙ e) in
+        (omega (arith, f .entries-fit, room-is es), f .bytes-fit)
+
+    pub bytes-fit : fit ≡ true → counts .bytes ≤ byteRoom bytes
+    bytes-fit e = parts e .1
+
+    module _ (found : ℕ) (found-as : found ≡ indexOf string (stringsOf bytes (numbersOf es) n))
+        (r : Added) (r-as : r ≡ answerAt string bytes (length es) counts fit found) where
+      -- the answer is that for the flat rows
+      answer-is : r ≡ added string bytes (numbersOf es) counts
+      unfolding answerAt added
+      answer-is = r-as ∙ ap (onUtf8 (checkFrom 0 string)) (rw (sym fit-as) (go fit refl))
+        where
+          go : (t : Bool) → fit ≡ t
+              → pick t (placed (length string) found counts (roomOf (length es)) (byteRoom bytes)) BadState
+              ≡ pick t (addedToFit string bytes (numbersOf es) counts) BadState
+          go true e =
+              placed-same _ _ _ _ _ _ _ _
+              (found-as ∙ ap (λ (m : ℕ). indexOf string (stringsOf bytes (numbersOf es) m)) (within-row (parts e .0)))
+              (sym (room-is es)) refl
+          go false e = refl
+
+      -- a new index is handed out in a fit pool with room alone
+      new-fit : isNew counts r ≡ true → (fit ≡ true) × ((counts .entries < roomOf (length es)) × (counts .bytes + length string ≤ byteRoom bytes))
+      unfolding answerAt
+      new-fit e = go (checkFrom 0 string) fit refl (ap (isNew counts) (sym r-as) ∙ e)
+        where
+          go : (u : Utf8Check) (t : Bool) → fit ≡ t
+              → isNew counts (onUtf8 u (pick t (placed (length string) found counts (roomOf (length es)) (byteRoom bytes)) BadState)) ≡ true
+              → (fit ≡ true) × ((counts .entries < roomOf (length es)) × (counts .bytes + length string ≤ byteRoom bytes))
+          go utf8.Fine true f e = (f, new-room (length string) found counts (roomOf (length es)) (byteRoom bytes) e)
+          go utf8.Fine false f e = absurd (let z : _≡_ {A = ℕ} 0 1 = cc in omega arith)
+          go (utf8.BadAt i) t f e = absurd (let z : _≡_ {A = ℕ} 0 1 = cc in omega arith)
+          go (utf8.CutAt i) t f e = absurd (let z : _≡_ {A = ℕ} 0 1 = cc in omega arith)
+
+      pub free : isNew counts r ≡ true → (n < length es) × (length string < 2 ^ 32)
+      free e =
+          let p = new-fit e in
+          let q = within-row (parts (p .0) .0) in
+          (omega (arith, p .1 .0, room-within (length es) .0), omega (arith, p .1 .1, room-within (length bytes) .1))
+
+      module _ (newBytes : List ℕ) (bytes-as : newBytes ≡ bytesAfter string counts r bytes) where
+        pub settled-old : isNew counts r ≡ false → AddsString string counts bytes (numbersOf es) newBytes (numbersOf es) r
+        settled-old e = settled _ _ _ _ _ _ _ answer-is bytes-as (sym (old-entries string counts r e (numbersOf es)))
+
+        pub settled-new : (ds : List Entry) → ds ≡ set es n (entryOf (counts .bytes) (length string)) → isNew counts r ≡ true
+            → AddsString string counts bytes (numbersOf es) newBytes (numbersOf ds) r
+        settled-new ds ds-as e =
+            settled _ _ _ _ _ _ _ answer-is bytes-as
+            (ap numbersOf ds-as
+            ∙ numbers-set es n (counts .bytes) (length string)
+            ∙ ap (λ (m : ℕ). entered (numbersOf es) m (counts .bytes) (length string)) (within-row (parts (new-fit e .0) .0))
+            ∙ sym (new-entries string counts r e (numbersOf es)))
