@@ -19,3 +19,4 @@ pub mod Lookahead
 pub mod LookaheadLaws
 pub mod Parse
 pub mod ParseLaws
+pub mod LentLaws
