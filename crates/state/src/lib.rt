@@ -53,10 +53,10 @@ pub struct Modes {
 // What the read step takes and hands back: all of the state but the stack, with copies of its depth and of the code on top.
 pub struct Lexer {
     pub place: Place,
-    pub indent: u32,
-    pub previous_token: u8,
     pub depth: usize,
+    pub indent: u32,
     pub mode: u16,
+    pub previous_token: u8,
 }
 
 // The state as a whole.

@@ -1,15 +1,16 @@
 -- Laws of the turns, at a place of the bytes.
 --     plain-at, comment-at, escape-at, literal-at, raw-at     the turn by tests of the bytes there, in the order of the code
+--     printable-at                                             the arms in common, at a printable ASCII character
 --     newline-at, comment-from                                 the same of `consume_newline` and of the start of `consume_comment`
 -- Assumes nothing.
-use Prim.Native.Nat.{ℕ, _+_, _%_, _<_}
+use Prim.Native.Nat.{ℕ, _+_, _%_, _≤_, _<_}
 use native.Mathlib.Omega.{arith}
 use mathlib.Core.Path.{_≡_, refl, sym, ap, _∙_}
 use mathlib.Core.Bool.{Bool, true, false, _&&_}
 use mathlib.Core.List.{List}
 use lib.Dec.{eqb}
 use lib.ListN.{length, drop}
-use borrow.Author.Tests.{eqb-true}
+use borrow.Author.Tests.{eqb-true, ne-eqb, le-leb}
 use Rattle.base.specs.Pick.{pick}
 use Rattle.base.specs.PickLaws.{by-eq}
 use Rattle.position.specs.Place.{alongBy, lineBy}
@@ -25,12 +26,12 @@ use Rattle.property.specs.Ascii.{isPrintable}
 use Rattle.property.specs.SmallLaws.{ascii-width}
 use Rattle.token.specs.Kind.{newLine, commentSingle}
 use Rattle.text.specs.Bytes.{byteAt}
-use Rattle.text.specs.Tests.{cr, lf, hash, minus, backslash, letterU, curlyOpen}
+use Rattle.text.specs.Tests.{cr, lf, space, hash, minus, backslash, letterU, curlyOpen, tilde}
 use Rattle.text.specs.Count.{lenUtf8, runTest}
 use Rattle.text.specs.CountLaws.{skip-one}
 use Rattle.text.specs.Follow.{nextIs, turnAt}
 use Rattle.text.specs.Stands.{charsFrom}
-use Rattle.text.specs.FollowLaws.{here, head-is, next-is, turn-char}
+use Rattle.text.specs.FollowLaws.{here, ascii-head, head-is, next-is, turn-char}
 use Rattle.text.specs.declared.Turn.{Turn}
 use Rattle.text.specs.declared.Turn.the-variants.{Pass, Line, Close, Stuck}
 use Rattle.state.specs.Modes.{quoteOf, hashCountOf}
@@ -160,6 +161,15 @@ module _ (s : List ℕ) (i : ℕ) (w : WellFormed (drop i s)) (h : i < length s)
         (when (eqb (c .code) hash && nextIs minus rest) _ (λ e. two Pass (c .code) hash (both _ _ e .0) (omega arith) refl)
         ∙ ap (λ (t : Turn). pick (eqb (c .code) hash && nextIs minus rest) (Pass 2 2) t)
         (when (eqb (c .code) minus && nextIs hash rest) _ (λ e. two Close (c .code) minus (both _ _ e .0) (omega arith) refl)))
+
+    -- lexer.rs, the arms in common, at a printable ASCII character
+    pub printable-at : (b : ℕ) → byteAt s i ≡ b → space ≤ b → b ≤ tilde → turnAt (plainTurn (propertiesAt table)) (chars (drop i s)) ≡ Pass 1 1
+    printable-at b e low high =
+        let k : b < 128 = omega arith in
+        let p : isPrintable b ≡ true = rw (le-leb space b low, le-leb b tilde high) in
+        let wide : widthOf (propertiesAt table b) ≡ 1 = ascii-width table fit b k ∙ ap (λ (t : Bool). pick t 1 0) p in
+        plain-at (propertiesAt table) s i b 1 (ascii-head s i b e k) (skip-one s i b w e k .well)
+        ∙ rw (ne-eqb b cr (λ x. omega arith), ne-eqb b lf (λ x. omega arith), wide)
 
 -- a backslash at i
 pub escape-at : (s : List ℕ) (i quote : ℕ) → WellFormed (drop (i + 1) s) → quote < 128

@@ -32,6 +32,8 @@ const LF: u32 = 10;
 
 const CR: u32 = 13;
 
+const SPACE: u32 = 32;
+
 const HASH: u32 = 35;
 
 const MINUS: u32 = 45;
@@ -41,6 +43,8 @@ const BACKSLASH: u32 = 92;
 const U: u32 = 117;
 
 const CURLY_OPEN: u32 = 123;
+
+const TILDE: u32 = 126;
 
 // lexer.rs `consume_newline`. A "\r" or a "\n" has been matched.
 pub fn consume_newline(source: &[u8], lexer: Lexer) -> Taken
@@ -63,8 +67,8 @@ pub fn consume_newline(source: &[u8], lexer: Lexer) -> Taken
     lexer.stuck()
 }
 
-// The arms that all loops have in common: only newlines count.
-fn plain_turn(source: &[u8], table: &[u32], at: usize) -> Turn
+// The arms that all loops have in common, for any character: only newlines count.
+fn char_turn(source: &[u8], table: &[u32], at: usize) -> Turn
     requires { ⌜ WellFormed (drop at (now source)) × (at < length (now source)) ⌝ }
     requires { ⌜ FitTable (now table) ⌝ }
     ensures { λ r. ⌜ r ≡ turnAt (plainTurn (propertiesAt (now (table .entry)))) (chars (drop at (now (source .entry)))) ⌝ }
@@ -81,6 +85,22 @@ fn plain_turn(source: &[u8], table: &[u32], at: usize) -> Turn
         return Turn::Line(1);
     }
     Turn::Pass(c.len, property::width_of(c.properties))
+}
+
+// The same. A printable ASCII character has one byte and one column, so its properties need not be asked for.
+fn plain_turn(source: &[u8], table: &[u32], at: usize) -> Turn
+    requires { ⌜ WellFormed (drop at (now source)) × (at < length (now source)) ⌝ }
+    requires { ⌜ FitTable (now table) ⌝ }
+    ensures { λ r. ⌜ r ≡ turnAt (plainTurn (propertiesAt (now (table .entry)))) (chars (drop at (now (source .entry)))) ⌝ }
+{
+    let b = byte_at(source, at);
+    if b < SPACE {
+        return char_turn(source, table, at);
+    }
+    if TILDE < b {
+        return char_turn(source, table, at);
+    }
+    Turn::Pass(1, 1)
 }
 
 // One turn in a multi-line comment: "#-" is passed over as a pair, and does not nest.

@@ -1,6 +1,7 @@
 -- What the loops of `run_end` and `run_utf8` keep, on plain values: what is found from here is what was to be found from the start.
 --     Counting     of `run_end`: `counting` where it begins, `counts-on` a turn, `counts-stop` and `counts-end` the ways out
---     Running      of `run_utf8`: `running`, `runs-fit` and `runs-on` a turn, `runs-stop` and `runs-end` the ways out
+--     Running      of `run_utf8`: `running`, `runs-fit` and `runs-on` a turn, `once-on` one at once, `runs-stop` and `runs-end`
+--                  the ways out
 -- Assumes nothing.
 use Prim.Native.Nat.{ℕ, _+_, _-_, _≤_, _<_}
 use native.Mathlib.Omega.{arith}
@@ -14,13 +15,15 @@ use Rattle.position.specs.Place.{alongBy}
 use Rattle.position.specs.declared.Reach.{Reach}
 use Rattle.utf8.specs.Encode.{WellFormed}
 use Rattle.utf8.specs.Chars.{chars}
+use Rattle.utf8.specs.CharsLaws.{at-char, rest-at, ascii-at}
 use Rattle.property.specs.Parts.{widthOf}
 use Rattle.property.specs.Table.{propertiesAt}
-use Rattle.text.specs.Tests.{testOf, testUtf8Of}
+use Rattle.property.specs.FitLaws.{FitTable}
+use Rattle.text.specs.Tests.{testOf, testUtf8Of, atOnce}
 use Rattle.text.specs.Count.{countWhile, runUtf8}
 use Rattle.text.specs.Stands.{Stands}
 use Rattle.text.specs.Chars.{CharIs}
-use Rattle.text.specs.CountLaws.{test-ascii, count-more, count-stop, count-end, run-more, run-stop, run-end, along-stands, width-most}
+use Rattle.text.specs.CountLaws.{test-ascii, count-more, count-stop, count-end, run-more, run-stop, run-end, along-stands, width-most, once-ascii, Once, at-once}
 use Rattle.text.specs.declared.Char.{Char}
 
 module _ (test : ℕ) (s : List ℕ) where
@@ -98,3 +101,22 @@ module _ (test : ℕ) (s table : List ℕ) where
       runs-fall q e =
           let k : q .byte .0 ≡ r .byte .0 + c .len = ap (λ (x : Reach). x .byte .0) e in
           omega (arith, there .at .some, there .at .fits, g .at)
+
+    -- a character that passes at once
+    module _ (fit : FitTable table) (h : i < length s) (t : atOnce test (getD s i 0) ≡ true) where
+      once : Once table test (getD s i 0)
+      once = at-once table fit test (getD s i 0) (once-ascii (getD s i 0) test t) t
+
+      here : CharIs s table i (record { code = getD s i 0; len = 1; properties = propertiesAt table (getD s i 0) })
+      here =
+          let r = ascii-at s i h (once-ascii (getD s i 0) test t) in
+          record { at = at-char s i _ _ r; properties = refl; well = rest-at s i _ _ runs-well r }
+
+      along : {q : Reach} → q ≡ alongBy 1 1 r → q ≡ alongBy 1 (widthOf (propertiesAt table (getD s i 0))) r
+      along e = e ∙ ap (λ (w : ℕ). alongBy 1 w r) (sym (once .wide))
+
+      pub once-on : (q : Reach) → q ≡ alongBy 1 1 r → Running start q (q .byte .0)
+      once-on q e = runs-on _ here (once .passes) q (along e)
+
+      pub once-fall : (q : Reach) → q ≡ alongBy 1 1 r → length s - q .byte .0 < length s - i
+      once-fall q e = runs-fall _ here q (along e)

@@ -1,6 +1,7 @@
 -- Laws of the runs of characters that pass a test, at a place of the bytes.
 --     ascii-properties         the tests of `Ascii` give what a fit table gives
 --     test-ascii               only ASCII characters pass a numbered test
+--     once-ascii, at-once      what passes at once is ASCII, passes, and takes one column
 --     count-more, count-stop, count-end     one turn of `run_end`, and its ways out
 --     run-more, run-stop, run-end           the same of `run_utf8`
 --     Skips, skip-none, skip-one, skip-run  ASCII characters that are passed are so many bytes too
@@ -9,7 +10,7 @@
 use Prim.Native.Nat.{ℕ, zero, suc, _+_, _*_, _-_, _≤_, _<_}
 use native.Mathlib.Omega.{arith}
 use mathlib.Core.Path.{_≡_, refl, sym, ap, subst, _∙_}
-use mathlib.Core.Bool.{Bool, true, false, _||_}
+use mathlib.Core.Bool.{Bool, true, false, not, _&&_, _||_}
 use mathlib.Core.List.{List, _∷_}
 use lib.Dec.{eqb}
 use lib.ListN.{length, getD, drop}
@@ -23,13 +24,13 @@ use Rattle.utf8.specs.Read.{readAt}
 use Rattle.utf8.specs.Chars.{chars}
 use Rattle.utf8.specs.CharsLaws.{At, at-char, rest-at, ascii-at, ascii-byte}
 use Rattle.utf8.specs.declared.Read.the-variants.{Char}
-use Rattle.property.specs.Parts.{widthOf}
+use Rattle.property.specs.Parts.{xidContinue, widthOf}
 use Rattle.property.specs.Table.{lastFrom, propertiesAt}
 use Rattle.property.specs.Small.{smallTable}
 use Rattle.property.specs.First.{firstBad}
 use Rattle.property.specs.FitLaws.{FitTable, ascii-rule}
 use Rattle.text.specs.Bytes.{byteAt}
-use Rattle.text.specs.Tests.{inRange, isWhitespace, isBinaryDigit, isOctalDigit, isDecimalDigit, isHexDigit, testOf}
+use Rattle.text.specs.Tests.{inRange, isWhitespace, isBinaryDigit, isOctalDigit, isDecimalDigit, isHexDigit, isLineEnd, isWord, testOf, testUtf8, testUtf8Of, atOnce}
 use Rattle.text.specs.Ascii.{asciiProperties}
 use Rattle.text.specs.Count.{lenUtf8, countWhile, runUtf8}
 use Rattle.text.specs.Stands.{Stands}
@@ -69,6 +70,42 @@ module _ (c : ℕ) where
       (either (inRange c 97 102) _ (in-range 97 102 (omega arith))
       (either (inRange c 65 70) (eqb c 95) (in-range 65 70 (omega arith)) (is-char 95 (omega arith)))))
       (λ _. is-char 35 (omega arith))))))
+
+  pub once-ascii : (test : ℕ) → atOnce test c ≡ true → c < 128
+  unfolding atOnce isWord
+  once-ascii test =
+      by-eq Narrow test 1
+      (λ _. either (inRange c 97 122) _ (in-range 97 122 (omega arith))
+      (either (inRange c 65 90) _ (in-range 65 90 (omega arith))
+      (either (inRange c 48 57) (eqb c 95) (in-range 48 57 (omega arith)) (is-char 95 (omega arith)))))
+      (λ _. in-range 32 126 (omega arith))
+
+-- what passes at once passes, and takes one column
+pub record Once (table : List ℕ) (test c : ℕ) : Type 0 where
+  pub passes : testUtf8Of (propertiesAt table) test c ≡ true
+  pub wide : widthOf (propertiesAt table c) ≡ 1
+
+-- a rule that is asked only of some
+abbrev asked : Bool → Bool → ℕ → Bool
+asked true t w = t && eqb w 1
+asked false t w = true
+
+told : (s t : Bool) (w : ℕ) → asked s t w ≡ true → s ≡ true → (t ≡ true) × (w ≡ 1)
+told true true w e f = (refl, eqb-true w 1 e)
+told true false w e f = let z : _≡_ {A = ℕ} 0 1 = cc in absurd (omega arith)
+told false t w e f = let z : _≡_ {A = ℕ} 0 1 = cc in absurd (omega arith)
+
+pub at-once : (table : List ℕ) → FitTable table → (test c : ℕ) → c < 128 → atOnce test c ≡ true → Once table test c
+unfolding atOnce testUtf8 isWord isLineEnd inRange firstBad lastFrom smallTable
+at-once table fit test c h e = go (eqb test 1) refl
+  where
+    go : (t : Bool) → eqb test 1 ≡ t → Once table test c
+    go true q =
+        let k = told _ _ _ (ascii-rule table fit c (λ k p. asked (isWord k) (xidContinue p) (widthOf p)) refl h) (rw q at e) in
+        record { passes = rw q (k .0); wide = k .1 }
+    go false q =
+        let k = told _ _ _ (ascii-rule table fit c (λ k p. asked (inRange k 32 126) (not (isLineEnd k)) (widthOf p)) refl h) (rw q at e) in
+        record { passes = rw q (k .0); wide = k .1 }
 
 -- ---- a run of characters that pass a test which only ASCII passes
 

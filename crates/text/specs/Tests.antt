@@ -78,6 +78,9 @@ curlyOpen = 123
 abbrev pub curlyClose : ℕ
 curlyClose = 125
 
+abbrev pub tilde : ℕ
+tilde = 126
+
 -- ---- the predicates
 
 -- lo ≤ c ≤ hi
@@ -127,3 +130,11 @@ testUtf8 test c properties = pick (eqb test 1) (xidContinue properties) (not (is
 
 abbrev pub testUtf8Of : (ℕ → ℕ) → ℕ → ℕ → Bool
 testUtf8Of look test c = testUtf8 test c (look c)
+
+-- a letter, a digit or the underscore
+unfoldable pub isWord : ℕ → Bool
+isWord c = inRange c 97 122 || (inRange c 65 90 || (inRange c 48 57 || eqb c underscore))
+
+-- an ASCII character that passes the test of this number and takes one column, whatever the table (`CountLaws`)
+unfoldable pub atOnce : ℕ → ℕ → Bool
+atOnce test c = pick (eqb test 1) (isWord c) (inRange c space tilde)

@@ -9,7 +9,7 @@ ghost use Rattle.utf8.specs.Chars.{chars};
 ghost use Rattle.property.specs.Table.{propertiesAt};
 ghost use Rattle.property.specs.FitLaws.{FitTable};
 ghost use Rattle.text.specs.Bytes.{byteAt};
-ghost use Rattle.text.specs.Tests.{inRange, isWhitespace, isBinaryDigit, isOctalDigit, isDecimalDigit, isHexDigit, isLineEnd, testOf, testUtf8};
+ghost use Rattle.text.specs.Tests.{inRange, isWhitespace, isBinaryDigit, isOctalDigit, isDecimalDigit, isHexDigit, isLineEnd, isWord, testOf, testUtf8, atOnce};
 ghost use Rattle.text.specs.Ascii.{asciiProperties};
 ghost use Rattle.text.specs.Count.{countWhile, runTest};
 ghost use Rattle.text.specs.Stands.{Stands};
@@ -219,6 +219,23 @@ fn passes_utf8(test: u8, code: u32, properties: u32) -> bool
     !is_line_end(code)
 }
 
+// A letter, a digit or the underscore.
+fn is_word(b: u8) -> bool
+    ensures { λ r. ⌜ r ≡ isWord b ⌝ }
+{
+    between(b, b'a', b'z') || (between(b, b'A', b'Z') || (between(b, b'0', b'9') || b == b'_'))
+}
+
+// An ASCII character that passes the test of this number and takes one column, whatever the table.
+fn passes_at_once(test: u8, b: u8) -> bool
+    ensures { λ r. ⌜ r ≡ atOnce test b ⌝ }
+{
+    if test == ID_CONTINUE {
+        return is_word(b);
+    }
+    between(b, b' ', b'~')
+}
+
 // lexer.rs `consume_and_count_utf8`: how far the run of characters from `start` on that pass the test reaches.
 pub fn run_utf8(source: &[u8], table: &[u32], start: Reach, test: u8) -> Reach
     requires { ⌜ Stands (now source) start × FitTable (now table) ⌝ }
@@ -227,6 +244,11 @@ pub fn run_utf8(source: &[u8], table: &[u32], start: Reach, test: u8) -> Reach
     let mut reach = start;
     let mut i = reach.byte.0;
     while i < source.len() {
+        if passes_at_once(test, source[i]) {
+            reach = reach.along_ascii(1);
+            i = reach.byte.0;
+            continue;
+        }
         let c = char_at(source, table, i);
         if !passes_utf8(test, c.code, c.properties) {
             return reach;

@@ -1,54 +1,31 @@
--- `strings::plain_turn` meets its contract: it takes the tests of `plain-at` in their order. Assumes nothing.
+-- `strings::plain_turn` meets its contract: a printable ASCII character by `printable-at`, any other by the call. Assumes nothing.
 use borrow.Author.Needs.{needs}
-use mathlib.Core.Path.{sym, ap, _∙_}
-use Rattle.base.specs.Cases.{cases}
-use Rattle.property.specs.Parts.{widthOf}
-use Rattle.strings.specs.TurnLaws.{plain-at}
+use mathlib.Core.Path.{sym}
+use native.Mathlib.Omega.{arith}
+use Rattle.strings.specs.TurnLaws.{printable-at}
 use Rattle.strings.proofs.plain_turn.Statement.{statement}
 use Rattle.strings.proofs.plain_turn.Tie as tie
-
-char-at-requires : tie.Need-char-at-requires
-char-at-requires c κs = search needs
-
-add-byte-at : tie.Need-add-byte-at
-add-byte-at c = search needs
 
 byte-at-requires : tie.Need-byte-at-requires
 byte-at-requires c κs = search needs
 
+char-turn-requires : tie.Need-char-turn-requires
+char-turn-requires c κs = search needs
+
 returns : tie.Need-returns
-returns c =
-    let d = c .before .before .before .char-at .ensures in
-    sym (plain-at _ _ _ _ _ (d .at) (d .well) ∙ search cases)
+returns c = search needs
+
+char-turn-requires-2 : tie.Need-char-turn-requires-2
+char-turn-requires-2 c κs = search needs
 
 returns-2 : tie.Need-returns-2
-returns-2 c =
-    let d = c .before .before .before .char-at .ensures in
-    sym (plain-at _ _ _ _ _ (d .at) (d .well) ∙ search cases)
+returns-2 c = search needs
 
 returns-3 : tie.Need-returns-3
 returns-3 c =
-    let d = c .before .before .char-at .ensures in
-    sym (plain-at _ _ _ _ _ (d .at) (d .well) ∙ search cases)
-
-width-of-requires : tie.Need-width-of-requires
-width-of-requires c κs = search needs
-
-returns-4 : tie.Need-returns-4
-returns-4 c =
-    let d = c .before .before .before .char-at .ensures in
-    let e = sym (c .width-of .ensures ∙ ap widthOf (d .properties)) in
-    sym (plain-at _ _ _ _ _ (d .at) (d .well) ∙ search cases)
+    let b = c .before .before in
+    let p = b .before .before .before .pre in
+    sym (printable-at _ _ (p .0 .0) (p .0 .1) _ (p .1) _ (sym (b .byte-at .ensures)) (omega (arith, c .before .if1 .left)) (omega (arith, c .if2 .left)))
 
 pub plain-turn-spec : {M : Type 1} → statement M
-plain-turn-spec =
-    tie.close
-    (tie.spec
-    char-at-requires
-    add-byte-at
-    byte-at-requires
-    returns
-    returns-2
-    returns-3
-    width-of-requires
-    returns-4)
+plain-turn-spec = tie.close (tie.spec byte-at-requires char-turn-requires returns char-turn-requires-2 returns-2 returns-3)

@@ -2,6 +2,7 @@
 -- Assumes nothing.
 use borrow.Author.Needs.{needs}
 use borrow.Author.Tests.{not-true, not-false}
+use native.Mathlib.Omega.{arith}
 use Prim.Native.Nat.{ℕ, _-_}
 use mathlib.Core.Path.{_≡_, sym, ap, _∙_}
 use lib.ListN.{length}
@@ -9,7 +10,7 @@ use Rattle.position.specs.Place.{alongBy}
 use Rattle.property.specs.Parts.{widthOf}
 use Rattle.text.specs.Tests.{testUtf8}
 use Rattle.text.specs.CountLaws.{width-most}
-use Rattle.text.proofs.Runs.{Running, running, runs-well, runs-fit, runs-on, runs-fall, runs-stop, runs-end}
+use Rattle.text.proofs.Runs.{Running, running, runs-well, runs-fit, runs-on, runs-fall, runs-stop, runs-end, once-on, once-fall}
 use Rattle.text.proofs.run_utf8.Statement.{statement}
 use Rattle.text.proofs.run_utf8.Tie as tie
 
@@ -19,13 +20,38 @@ Inv-loop source table test reach₀ i₀ reach i = Running test source table rea
 abbrev μ-loop : tie.MeasureT-loop
 μ-loop source table test reach₀ i₀ reach i = length source - i
 
+-- from a turn to where the loop stands
+abbrev turn : tie.After-passes-at-once Inv-loop μ-loop → tie.At-loop Inv-loop μ-loop
+turn c = c .before .before .before
+
 loop-holds : tie.Need-loop-holds Inv-loop μ-loop
 loop-holds c = running _ _ _ _ (c .before .before .pre .0)
 
+shared-slice-read-passes-at-once : tie.Need-shared-slice-read-passes-at-once Inv-loop μ-loop
+shared-slice-read-passes-at-once c = search needs
+
+passes-at-once-requires : tie.Need-passes-at-once-requires Inv-loop μ-loop
+passes-at-once-requires c κs = search needs
+
+along-ascii-requires : tie.Need-along-ascii-requires Inv-loop μ-loop
+along-ascii-requires c κs = omega (arith, turn (c .before) .loop .inv .stands)
+
+loop-less : tie.Need-loop-less Inv-loop μ-loop
+loop-less c =
+    let at = c .before .before in
+    once-fall _ _ _ (turn at .loop .inv) (turn at .before .before .before .pre .1) (at .before .before .loop-test .taken)
+    (sym (at .passes-at-once .ensures) ∙ c .before .if1 .taken) _ (c .along-ascii .ensures)
+
+loop-again : tie.Need-loop-again Inv-loop μ-loop
+loop-again c =
+    let at = c .before .before in
+    once-on _ _ _ (turn at .loop .inv) (turn at .before .before .before .pre .1) (at .before .before .loop-test .taken)
+    (sym (at .passes-at-once .ensures) ∙ c .before .if1 .taken) _ (c .along-ascii .ensures)
+
 char-at-requires : tie.Need-char-at-requires Inv-loop μ-loop
 char-at-requires c κs =
-    let l = c .before in
-    ((runs-well _ _ _ (l .loop .inv), c .loop-test .taken), l .before .before .before .pre .1)
+    let at = c .before in
+    ((runs-well _ _ _ (turn at .loop .inv), at .before .before .loop-test .taken), turn at .before .before .before .pre .1)
 
 passes-utf8-requires : tie.Need-passes-utf8-requires Inv-loop μ-loop
 passes-utf8-requires c κs = search needs
@@ -33,8 +59,8 @@ passes-utf8-requires c κs = search needs
 returns : tie.Need-returns Inv-loop μ-loop
 returns c =
     let d = c .before .before in
-    runs-stop _ _ _ (d .before .before .loop .inv) _ (d .char-at .ensures)
-    (ap (testUtf8 _ _) (sym (d .char-at .ensures .properties)) ∙ sym (c .before .passes-utf8 .ensures) ∙ not-true _ (c .if1 .taken))
+    runs-stop _ _ _ (turn (d .before .before) .loop .inv) _ (d .char-at .ensures)
+    (ap (testUtf8 _ _) (sym (d .char-at .ensures .properties)) ∙ sym (c .before .passes-utf8 .ensures) ∙ not-true _ (c .if2 .taken))
 
 width-of-requires : tie.Need-width-of-requires Inv-loop μ-loop
 width-of-requires c κs = search needs
@@ -42,30 +68,29 @@ width-of-requires c κs = search needs
 along-requires : tie.Need-along-requires Inv-loop μ-loop
 along-requires c κs =
     let d = c .before .before .before in
-    runs-fit _ _ _ (d .before .before .loop .inv) _ (d .char-at .ensures) _ (rw (c .width-of .ensures) (width-most _))
+    runs-fit _ _ _ (turn (d .before .before) .loop .inv) _ (d .char-at .ensures) _ (rw (c .width-of .ensures) (width-most _))
 
 -- the reach after a turn
 after : (c : tie.After-along Inv-loop μ-loop)
-    → c .along .result
-    ≡ alongBy (c .before .before .before .before .char-at .result .len) (widthOf (c .before .before .before .before .char-at .result .properties))
-    (c .before .before .before .before .before .before .loop .reach)
+    → let d = c .before .before .before .before in
+    c .along .result ≡ alongBy (d .char-at .result .len) (widthOf (d .char-at .result .properties)) (turn (d .before .before) .loop .reach)
 after c =
     let d = c .before .before .before .before in
     c .along .ensures
-    ∙ ap (λ (w : ℕ). alongBy (d .char-at .result .len) w (d .before .before .loop .reach)) (c .before .width-of .ensures)
+    ∙ ap (λ (w : ℕ). alongBy (d .char-at .result .len) w (turn (d .before .before) .loop .reach)) (c .before .width-of .ensures)
 
-loop-less : tie.Need-loop-less Inv-loop μ-loop
-loop-less c =
+loop-less-2 : tie.Need-loop-less-2 Inv-loop μ-loop
+loop-less-2 c =
     let d = c .before .before .before .before in
-    runs-fall _ _ _ (d .before .before .loop .inv) _ (d .char-at .ensures) _ (after c)
+    runs-fall _ _ _ (turn (d .before .before) .loop .inv) _ (d .char-at .ensures) _ (after c)
 
-loop-again : tie.Need-loop-again Inv-loop μ-loop
-loop-again c =
+loop-again-2 : tie.Need-loop-again-2 Inv-loop μ-loop
+loop-again-2 c =
     let d = c .before .before .before .before in
-    runs-on _ _ _ (d .before .before .loop .inv) _ (d .char-at .ensures)
+    runs-on _ _ _ (turn (d .before .before) .loop .inv) _ (d .char-at .ensures)
     (ap (testUtf8 _ _) (sym (d .char-at .ensures .properties))
     ∙ sym (c .before .before .before .passes-utf8 .ensures)
-    ∙ not-false _ (c .before .before .if1 .left))
+    ∙ not-false _ (c .before .before .if2 .left))
     _ (after c)
 
 returns-2 : tie.Need-returns-2 Inv-loop μ-loop
@@ -78,11 +103,16 @@ run-utf8-spec =
     Inv-loop
     μ-loop
     loop-holds
+    shared-slice-read-passes-at-once
+    passes-at-once-requires
+    along-ascii-requires
+    loop-less
+    loop-again
     char-at-requires
     passes-utf8-requires
     returns
     width-of-requires
     along-requires
-    loop-less
-    loop-again
+    loop-less-2
+    loop-again-2
     returns-2)

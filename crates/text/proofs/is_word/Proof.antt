@@ -1,0 +1,45 @@
+-- `text::is_word` meets its contract: each return is a case of `isWord`.
+-- Assumes nothing.
+use borrow.Author.Needs.{needs}
+use mathlib.Core.Path.{sym}
+use Rattle.base.specs.Cases.{cases}
+use Rattle.text.specs.Tests.{isWord}
+use Rattle.text.proofs.is_word.Statement.{statement}
+use Rattle.text.proofs.is_word.Tie as tie
+
+between-requires : tie.Need-between-requires
+between-requires c κs = search needs
+
+between-requires-2 : tie.Need-between-requires-2
+between-requires-2 c κs = search needs
+
+between-requires-3 : tie.Need-between-requires-3
+between-requires-3 c κs = search needs
+
+returns : tie.Need-returns
+unfolding isWord
+returns c = sym (search cases)
+
+returns-2 : tie.Need-returns-2
+unfolding isWord
+returns-2 c = sym (search cases)
+
+returns-3 : tie.Need-returns-3
+unfolding isWord
+returns-3 c = sym (search cases)
+
+returns-4 : tie.Need-returns-4
+unfolding isWord
+returns-4 c = sym (search cases)
+
+pub is-word-spec : {M : Type 1} → statement M
+is-word-spec =
+    tie.close
+    (tie.spec
+    between-requires
+    between-requires-2
+    between-requires-3
+    returns
+    returns-2
+    returns-3
+    returns-4)
