@@ -271,8 +271,8 @@ fn name_end(source: &[u8], table: &[u32], lexer: Lexer) -> Reach
     ensures { λ r. ⌜ r ≡ nameEnd (propertiesAt (now (table .entry))) (charsFrom (now (source .entry)) (reachOf lexer)) lexer ⌝ }
 {
     let reach = lexer.reach();
-    let c = text::char_at(source, table, reach.byte.0);
-    text::run_utf8(source, table, reach.along(c.len, 1), text::ID_CONTINUE)
+    let len = text::char_len(source, reach.byte.0);
+    text::run_utf8(source, table, reach.along(len, 1), text::ID_CONTINUE)
 }
 
 // lexer.rs `consume_id_or_keyword`. The first character has already been matched.

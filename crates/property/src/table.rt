@@ -31,7 +31,7 @@ pub fn lookup(table: &[u32], code: u32) -> u32
     let mut lo = 0;
     let mut hi = table.len();
     while lo + 1 < hi {
-        let mid = lo + (hi - lo) / 2;
+        let mid = (lo + hi) / 2;
         if code < table[mid] / 2048 {
             hi = mid;
         } else {

@@ -2,8 +2,8 @@
 // does at one of them. It carries over `consume_and_count` and `consume_and_count_utf8` of lexer.rs, whose predicates are numbered
 // tests here, and the ASCII predicates beside them. It knows no tokens.
 ghost use mathlib.Core.Path.{_≡_};
-ghost use Prim.Native.Nat.{_+_, _<_};
-ghost use lib.ListN.{length, drop};
+ghost use Prim.Native.Nat.{_+_, _≤_, _<_};
+ghost use lib.ListN.{length, getD, drop};
 ghost use Rattle.utf8.specs.Encode.{WellFormed};
 ghost use Rattle.utf8.specs.Chars.{chars};
 ghost use Rattle.property.specs.Table.{propertiesAt};
@@ -13,7 +13,7 @@ ghost use Rattle.text.specs.Tests.{inRange, isWhitespace, isBinaryDigit,
 ghost use Rattle.text.specs.Ascii.{asciiProperties};
 ghost use Rattle.text.specs.Count.{countWhile, runTest};
 ghost use Rattle.text.specs.Stands.{Stands};
-ghost use Rattle.text.specs.Chars.{CharIs};
+ghost use Rattle.text.specs.Chars.{CharIs, WideIs, LenIs};
 use position::Reach;
 
 // What a loop does at a character.
@@ -170,6 +170,64 @@ fn ascii_properties(b: u8) -> u32
     4
 }
 
+// A character without its properties: its code point and its bytes.
+struct Wide {
+    code: u32,
+    len: usize,
+}
+
+// The character at `at`, for a byte that is not ASCII. The bytes are well formed, so the lead byte says how many follow, and none needs a
+// test.
+fn wide_at(source: &[u8], at: usize) -> Wide
+    requires { ⌜ WellFormed (drop at (now source)) × (at < length (now source)) ⌝ }
+    requires { ⌜ 0x80 ≤ getD (now source) at 0 ⌝ }
+    ensures { λ r. ⌜ WideIs (now (source .entry)) at r ⌝ }
+{
+    let a = source[at];
+    if a < 0xe0 {
+        return Wide {
+            code: utf8::join2(a, source[at + 1]),
+            len: 2,
+        };
+    }
+    if a < 0xf0 {
+        return Wide {
+            code: utf8::join3(a, source[at + 1], source[at + 2]),
+            len: 3,
+        };
+    }
+    Wide {
+        code: utf8::join4(a, source[at + 1], source[at + 2], source[at + 3]),
+        len: 4,
+    }
+}
+
+// How many bytes the character at `at` has.
+pub fn char_len(source: &[u8], at: usize) -> usize
+    requires { ⌜ WellFormed (drop at (now source)) × (at < length (now source)) ⌝ }
+    ensures { λ r. ⌜ LenIs (now (source .entry)) at r ⌝ }
+{
+    if source[at] < 0x80 {
+        return 1;
+    }
+    let c = wide_at(source, at);
+    c.len
+}
+
+// The character at `at`, for a byte that is not ASCII, with its properties.
+fn wide_char(source: &[u8], table: &[u32], at: usize) -> Char
+    requires { ⌜ WellFormed (drop at (now source)) × (at < length (now source)) ⌝ }
+    requires { ⌜ FitTable (now table) × (0x80 ≤ getD (now source) at 0) ⌝ }
+    ensures { λ r. ⌜ CharIs (now (source .entry)) (now (table .entry)) at r ⌝ }
+{
+    let c = wide_at(source, at);
+    Char {
+        code: c.code,
+        len: c.len,
+        properties: property::lookup(table, c.code),
+    }
+}
+
 // The character at `at`.
 pub fn char_at(source: &[u8], table: &[u32], at: usize) -> Char
     requires { ⌜ WellFormed (drop at (now source)) × (at < length (now source)) ⌝ }
@@ -184,18 +242,7 @@ pub fn char_at(source: &[u8], table: &[u32], at: usize) -> Char
             properties: ascii_properties(b),
         };
     }
-    let utf8::Read::Char { code, len } = utf8::read_char(source, at) else {
-        return Char {
-            code: 0,
-            len: 1,
-            properties: 0,
-        };
-    };
-    Char {
-        code,
-        len,
-        properties: property::lookup(table, code),
-    }
+    wide_char(source, table, at)
 }
 
 fn is_line_end(code: u32) -> bool

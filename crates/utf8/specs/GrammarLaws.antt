@@ -150,15 +150,15 @@ seq1 : (a : ℕ) → a < 0x80 → seqLen a ≡ 1
 unfolding seqLen
 seq1 a h = rw (lt-ltb a 0x80 h)
 
-seq2 : (a : ℕ) → 0xc2 ≤ a → a < 0xe0 → seqLen a ≡ 2
+pub seq2 : (a : ℕ) → 0xc2 ≤ a → a < 0xe0 → seqLen a ≡ 2
 unfolding seqLen
 seq2 a h k = rw (le-ltb a 0x80 (omega arith), le-ltb a 0xc2 h, lt-ltb a 0xe0 k)
 
-seq3 : (a : ℕ) → 0xe0 ≤ a → a < 0xf0 → seqLen a ≡ 3
+pub seq3 : (a : ℕ) → 0xe0 ≤ a → a < 0xf0 → seqLen a ≡ 3
 unfolding seqLen
 seq3 a h k = rw (le-ltb a 0x80 (omega arith), le-ltb a 0xc2 (omega arith), le-ltb a 0xe0 h, lt-ltb a 0xf0 k)
 
-seq4 : (a : ℕ) → 0xf0 ≤ a → a < 0xf5 → seqLen a ≡ 4
+pub seq4 : (a : ℕ) → 0xf0 ≤ a → a < 0xf5 → seqLen a ≡ 4
 unfolding seqLen
 seq4 a h k =
     rw (le-ltb a 0x80 (omega arith), le-ltb a 0xc2 (omega arith), le-ltb a 0xe0 (omega arith), le-ltb a 0xf0 h, lt-ltb a 0xf5 k)

@@ -6,5 +6,7 @@ pub mod Answer
 pub mod EncodeLaws
 pub mod GrammarLaws
 pub mod ReadLaws
+pub mod Lengths
+pub mod LengthsLaws
 pub mod CharsLaws
 pub mod MeaningLaws

@@ -85,10 +85,10 @@ module _ (l : List ℕ) where
   bytes1 : 1 ≤ length l → at 0 ∷ drop 1 l ≡ l
   bytes1 h = sym (drop-cons l 0 0 h)
 
-  bytes2 : 2 ≤ length l → at 0 ∷ at 1 ∷ drop 2 l ≡ l
+  pub bytes2 : 2 ≤ length l → at 0 ∷ at 1 ∷ drop 2 l ≡ l
   bytes2 h = ap {B = List ℕ} (λ r. at 0 ∷ r) (sym (drop-cons l 1 0 h)) ∙ bytes1 (omega arith)
 
-  bytes3 : 3 ≤ length l → at 0 ∷ at 1 ∷ at 2 ∷ drop 3 l ≡ l
+  pub bytes3 : 3 ≤ length l → at 0 ∷ at 1 ∷ at 2 ∷ drop 3 l ≡ l
   bytes3 h = ap {B = List ℕ} (λ r. at 0 ∷ at 1 ∷ r) (sym (drop-cons l 2 0 h)) ∙ bytes2 (omega arith)
 
   bytes4 : 4 ≤ length l → at 0 ∷ at 1 ∷ at 2 ∷ at 3 ∷ drop 4 l ≡ l

@@ -3,6 +3,10 @@
 // Left out: byte order marks, and any repair of what is ill-formed.
 ghost use mathlib.Core.Path.{_≡_};
 ghost use Rattle.utf8.specs.Read.{seqLen, inside, secondOk, code2, code3, code4, fourth, third, second, decodeHead, readAt};
+ghost use mathlib.Core.Bool.{true};
+ghost use Prim.Native.Nat.{_<_};
+ghost use lib.ListN.{length};
+ghost use Rattle.utf8.specs.Lengths.{TwoAt, ThreeAt};
 ghost use Rattle.utf8.specs.Chars.{checkFrom};
 
 // What stands at a place.
@@ -81,19 +85,19 @@ fn second_ok(a: u8, b: u8) -> bool
 }
 
 // The code points of two, three and four bytes.
-fn join2(a: u8, b: u8) -> u32
+pub fn join2(a: u8, b: u8) -> u32
     ensures { λ r. ⌜ r ≡ code2 a b ⌝ }
 {
     ((a % 32) as u32) * 64 + ((b % 64) as u32)
 }
 
-fn join3(a: u8, b: u8, c: u8) -> u32
+pub fn join3(a: u8, b: u8, c: u8) -> u32
     ensures { λ r. ⌜ r ≡ code3 a b c ⌝ }
 {
     ((a % 16) as u32) * 4096 + ((b % 64) as u32) * 64 + ((c % 64) as u32)
 }
 
-fn join4(a: u8, b: u8, c: u8, d: u8) -> u32
+pub fn join4(a: u8, b: u8, c: u8, d: u8) -> u32
     ensures { λ r. ⌜ r ≡ code4 a b c d ⌝ }
 {
     ((a % 8) as u32) * 262144
@@ -187,6 +191,40 @@ pub fn read_char(s: &[u8], at: usize) -> Read
     read_head(&s[at..])
 }
 
+// Do two bytes make a character at a place of s? Then it need not be read: `read_char` would find it.
+fn is_two(s: &[u8], at: usize) -> bool
+    requires { ⌜ at < length (now s) ⌝ }
+    ensures { λ r. ⌜ (r ≡ true → TwoAt (now (s .entry)) at) ⌝ }
+{
+    if !between(s[at], 0xc2, 0xdf) {
+        return false;
+    }
+    if s.len() - at < 2 {
+        return false;
+    }
+    between(s[at + 1], 0x80, 0xbf)
+}
+
+// The same of three bytes, but for E0 and ED: these bound their second byte more narrowly, and are left to `read_char`.
+fn is_three(s: &[u8], at: usize) -> bool
+    requires { ⌜ at < length (now s) ⌝ }
+    ensures { λ r. ⌜ (r ≡ true → ThreeAt (now (s .entry)) at) ⌝ }
+{
+    if !between(s[at], 0xe1, 0xef) {
+        return false;
+    }
+    if s[at] == 0xed {
+        return false;
+    }
+    if s.len() - at < 3 {
+        return false;
+    }
+    if !between(s[at + 1], 0x80, 0xbf) {
+        return false;
+    }
+    between(s[at + 2], 0x80, 0xbf)
+}
+
 // Whether all of s is well formed; if not, where the longest well-formed beginning ends, and whether the bytes there are wrong or cut.
 pub fn check_utf8(s: &[u8]) -> Utf8Check
     ensures { λ r. ⌜ r ≡ checkFrom 0 (now (s .entry)) ⌝ }
@@ -196,6 +234,14 @@ pub fn check_utf8(s: &[u8]) -> Utf8Check
         // A byte below 80 is a character by itself.
         if s[i] < 0x80 {
             i += 1;
+            continue;
+        }
+        if is_three(s, i) {
+            i += 3;
+            continue;
+        }
+        if is_two(s, i) {
+            i += 2;
             continue;
         }
         match read_char(s, i) {

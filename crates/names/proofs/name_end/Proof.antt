@@ -11,28 +11,28 @@ use Rattle.names.proofs.name_end.Tie as tie
 reach-requires : tie.Need-reach-requires
 reach-requires c κs = search needs
 
-char-at-requires : tie.Need-char-at-requires
-char-at-requires c κs =
+char-len-requires : tie.Need-char-len-requires
+char-len-requires c κs =
     let pre = c .before .before .before .pre in
-    rw (c .reach .ensures) ((pre .0 .0 .well, pre .1), pre .0 .1)
+    rw (c .reach .ensures) (pre .0 .0 .well, pre .1)
 
 along-requires : tie.Need-along-requires
 along-requires c κs =
     let o = stands-there (c .before .reach .ensures) (c .before .before .before .before .pre .0 .0) in
-    omega (arith, o .small, o .inside, o .columns, c .char-at .ensures .at .fits)
+    omega (arith, o .small, o .inside, o .columns, c .char-len .ensures .at .fits)
 
 run-utf8-requires : tie.Need-run-utf8-requires
 run-utf8-requires c κs =
     let pre = c .before .before .before .before .before .pre in
     let o = stands-there (c .before .before .reach .ensures) (pre .0 .0) in
-    let d = c .before .char-at .ensures in
+    let d = c .before .char-len .ensures in
     (rw (c .along .ensures) (along-stands _ _ _ _ _ o (d .at) (d .well) (omega arith)), pre .0 .1)
 
 returns : tie.Need-returns
 returns c =
     c .run-utf8 .ensures
-    ∙ name-end-at _ _ _ (c .before .before .before .reach .ensures) (c .before .before .char-at .ensures .at) (c .before .along .ensures)
+    ∙ name-end-at _ _ _ (c .before .before .before .reach .ensures) (c .before .before .char-len .ensures .at) (c .before .along .ensures)
 
 pub name-end-spec : {M : Type 1} → statement M
 name-end-spec =
-    tie.close (tie.spec reach-requires char-at-requires along-requires run-utf8-requires returns)
+    tie.close (tie.spec reach-requires char-len-requires along-requires run-utf8-requires returns)

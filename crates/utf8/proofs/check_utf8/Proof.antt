@@ -3,7 +3,7 @@
 -- Assumes nothing.
 use borrow.Author.Needs.{needs}
 use native.Mathlib.Omega.{arith}
-use Prim.Native.Nat.{ℕ, _-_, _≤_}
+use Prim.Native.Nat.{ℕ, _+_, _-_, _≤_}
 use mathlib.Core.Path.{_≡_, refl, sym, _∙_}
 use mathlib.Core.List.{List}
 use lib.ListN.{length, drop}
@@ -33,11 +33,60 @@ add-i c = search needs
 loop-less : tie.Need-loop-less Inv-loop μ-loop
 loop-less c = omega arith
 
+-- the bytes, and the place where a turn begins
+abbrev src : tie.In-loop Inv-loop μ-loop → List ℕ
+src t = now (t .before .before .before .args .s)
+
+abbrev pos : tie.In-loop Inv-loop μ-loop → ℕ
+pos t = t .before .loop .i
+
+-- a character is passed
+on : (s : List ℕ) (i c n : ℕ) → (i ≤ length s) × (checkFrom i (drop i s) ≡ checkFrom 0 s) → readAt s i ≡ Char c n
+    → (i + n ≤ length s) × (checkFrom (i + n) (drop (i + n) s) ≡ checkFrom 0 s)
+on s i c n k e = (at-char s i c n e .fits, sym (check-at s i c n e) ∙ k .1)
+
 loop-again : tie.Need-loop-again Inv-loop μ-loop
 loop-again c =
     let test = c .before .before in
-    let loop = test .before in
-    (omega arith, sym (check-at _ _ _ _ (ascii-at _ _ (test .loop-test .taken) (c .if1 .taken))) ∙ loop .loop .inv .1)
+    on _ _ _ _ (test .before .loop .inv) (ascii-at _ _ (test .loop-test .taken) (c .if1 .taken))
+
+is-three-requires : tie.Need-is-three-requires Inv-loop μ-loop
+is-three-requires c κs = search needs
+
+-- where three bytes are passed
+abbrev test3 : tie.Then2 Inv-loop μ-loop → tie.In-loop Inv-loop μ-loop
+test3 c = c .before .before .before .before
+
+room3 : (c : tie.Then2 Inv-loop μ-loop) → pos (test3 c) + 3 ≤ length (src (test3 c))
+room3 c = at-char (src (test3 c)) (pos (test3 c)) _ 3 (c .before .is-three .ensures (c .if2 .taken)) .fits
+
+add-i-2 : tie.Need-add-i-2 Inv-loop μ-loop
+add-i-2 c = omega (arith, room3 c)
+
+loop-less-2 : tie.Need-loop-less-2 Inv-loop μ-loop
+loop-less-2 c = omega (arith, room3 c)
+
+loop-again-2 : tie.Need-loop-again-2 Inv-loop μ-loop
+loop-again-2 c = on _ _ _ _ (test3 c .before .loop .inv) (c .before .is-three .ensures (c .if2 .taken))
+
+is-two-requires : tie.Need-is-two-requires Inv-loop μ-loop
+is-two-requires c κs = search needs
+
+-- where two bytes are
+abbrev test2 : tie.Then3 Inv-loop μ-loop → tie.In-loop Inv-loop μ-loop
+test2 c = c .before .before .before .before .before .before
+
+room2 : (c : tie.Then3 Inv-loop μ-loop) → pos (test2 c) + 2 ≤ length (src (test2 c))
+room2 c = at-char (src (test2 c)) (pos (test2 c)) _ 2 (c .before .is-two .ensures (c .if3 .taken)) .fits
+
+add-i-3 : tie.Need-add-i-3 Inv-loop μ-loop
+add-i-3 c = omega (arith, room2 c)
+
+loop-less-3 : tie.Need-loop-less-3 Inv-loop μ-loop
+loop-less-3 c = omega (arith, room2 c)
+
+loop-again-3 : tie.Need-loop-again-3 Inv-loop μ-loop
+loop-again-3 c = on _ _ _ _ (test2 c .before .loop .inv) (c .before .is-two .ensures (c .if3 .taken))
 
 read-char-requires : tie.Need-read-char-requires Inv-loop μ-loop
 read-char-requires c κs = search needs
@@ -50,34 +99,22 @@ abbrev Turn : Type 0
 Turn = tie.After-known-told Inv-loop μ-loop
 
 abbrev test : Turn → tie.In-loop Inv-loop μ-loop
-test c = c .before .before .before .before .before .before
+test c = c .before .before .before .before .before .before .before .before .before .before
 
-abbrev src : Turn → List ℕ
-src c = now (test c .before .before .before .args .s)
-
-abbrev pos : Turn → ℕ
-pos c = test c .before .loop .i
-
-abbrev code : Turn → ℕ
-code c = c .before .len .given .0 .0
-
-abbrev len : Turn → ℕ
-len c = c .before .len .given .0 .1 .0
-
-found : (c : Turn) → readAt (src c) (pos c) ≡ Char (code c) (len c)
+found : (c : Turn) → readAt (src (test c)) (pos (test c)) ≡ Char (c .before .len .given .0 .0) (c .before .len .given .0 .1 .0)
 found c = sym (c .before .before .before .read-char .ensures) ∙ c .before .len .given .1
 
-here : (c : Turn) → At (src c) (pos c) (code c) (len c)
-here c = at-char (src c) (pos c) (code c) (len c) (found c)
+here : (c : Turn) → At (src (test c)) (pos (test c)) (c .before .len .given .0 .0) (c .before .len .given .0 .1 .0)
+here c = at-char (src (test c)) (pos (test c)) _ _ (found c)
 
-add-i-2 : tie.Need-add-i-2 Inv-loop μ-loop
-add-i-2 c = omega (arith, here c)
+add-i-4 : tie.Need-add-i-4 Inv-loop μ-loop
+add-i-4 c = omega (arith, here c)
 
-loop-less-2 : tie.Need-loop-less-2 Inv-loop μ-loop
-loop-less-2 c = omega (arith, here c)
+loop-less-4 : tie.Need-loop-less-4 Inv-loop μ-loop
+loop-less-4 c = omega (arith, here c)
 
-loop-again-2 : tie.Need-loop-again-2 Inv-loop μ-loop
-loop-again-2 c = (here c .fits, sym (check-at (src c) (pos c) (code c) (len c) (found c)) ∙ test c .before .loop .inv .1)
+loop-again-4 : tie.Need-loop-again-4 Inv-loop μ-loop
+loop-again-4 c = on _ _ _ _ (test c .before .loop .inv) (found c)
 
 enum-told : tie.Need-enum-told Inv-loop μ-loop
 enum-told c = search needs
@@ -85,7 +122,7 @@ enum-told c = search needs
 returns : tie.Need-returns Inv-loop μ-loop
 returns c =
     let read = c .before .before in
-    let test = read .before .before .before in
+    let test = read .before .before .before .before .before .before .before in
     sym (bad-at _ _ (test .loop-test .taken) (sym (read .read-char .ensures) ∙ c .enum-told .given .1)) ∙ test .before .loop .inv .1
 
 enum-told-2 : tie.Need-enum-told-2 Inv-loop μ-loop
@@ -94,7 +131,7 @@ enum-told-2 c = search needs
 returns-2 : tie.Need-returns-2 Inv-loop μ-loop
 returns-2 c =
     let read = c .before .before in
-    let test = read .before .before .before in
+    let test = read .before .before .before .before .before .before .before in
     sym (cut-at _ _ (test .loop-test .taken) (sym (read .read-char .ensures) ∙ c .enum-told2 .given .1)) ∙ test .before .loop .inv .1
 
 returns-3 : tie.Need-returns-3 Inv-loop μ-loop
@@ -111,11 +148,19 @@ check-utf8-spec =
     add-i
     loop-less
     loop-again
-    read-char-requires
-    enum-known-len
+    is-three-requires
     add-i-2
     loop-less-2
     loop-again-2
+    is-two-requires
+    add-i-3
+    loop-less-3
+    loop-again-3
+    read-char-requires
+    enum-known-len
+    add-i-4
+    loop-less-4
+    loop-again-4
     enum-told
     returns
     enum-told-2

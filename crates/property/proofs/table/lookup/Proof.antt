@@ -19,9 +19,6 @@ loop-holds c = whole _ _ (c .pre)
 add-loop : tie.Need-add-loop Inv-loop μ-loop
 add-loop c = search needs
 
-sub-mid : tie.Need-sub-mid Inv-loop μ-loop
-sub-mid c = search needs
-
 add-mid : tie.Need-add-mid Inv-loop μ-loop
 add-mid c = search needs
 
@@ -62,7 +59,6 @@ lookup-spec =
     μ-loop
     loop-holds
     add-loop
-    sub-mid
     add-mid
     mul-if1
     shared-slice-read-if1
