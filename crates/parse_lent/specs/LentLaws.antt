@@ -30,7 +30,8 @@ use Rattle.parse.specs.declared.After.{After}
 use Rattle.parse.specs.declared.Parsed.{Parsed}
 use Rattle.parse.specs.declared.Reading.{Reading}
 use Rattle.parse.specs.declared.Reading.the-variants.{Refused, Read}
-use Rattle.parse_lent.specs.Lent.{ParsesEntries, withPool, planOf, addPlan, isAdding, fillString, endBy}
+use Rattle.parse_lent.specs.Lent.{ParsesEntries}
+use Rattle.parse_lent.specs.Decided.{withPool, planOf, addPlan, isAdding, fillString, endBy}
 use Rattle.parse_lent.specs.declared.Plan.{Plan}
 
 -- ---- one fill

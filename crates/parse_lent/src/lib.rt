@@ -1,13 +1,14 @@
 // Format options with their pool, the long form: `parse` with a record for each entry of the pool in place of two numbers, and with the
 // counts lent. The answers, the bytes and the numbers of the entries are those of the flat call (the crate `parse`). Covered functions decide
-// everything; `add_fill`, `parse_row` and `parse`, which hold a `&mut [Entry]` or a `&mut Counts`, only read, call and store.
+// everything; the functions over `&mut [Entry]` and `&mut Counts` only read, call and store.
 ghost use mathlib.Core.Path.{_≡_};
 ghost use Rattle.format.specs.Parse.{addFill};
 ghost use Rattle.format.specs.ReadLaws.{addPart, FillIn};
+ghost use Rattle.pool.specs.Pool.{fitPool};
 ghost use Rattle.pool_lent.specs.Entries.{numbersOf};
 ghost use Rattle.parse.specs.Call.{pooled, addTo, readingOf, Parses};
-ghost use Rattle.parse_lent.specs.Lent.{ParsesEntries, withPool, planOf, addPlan, isAdding, fillString, endBy};
-
+ghost use Rattle.parse_lent.specs.Lent.{ParsesEntries};
+ghost use Rattle.parse_lent.specs.Decided.{withPool, planOf, addPlan, isAdding, fillString, endBy};
 use format::Fill;
 use format::Given;
 use parse::Adding;
@@ -34,6 +35,7 @@ fn with_pool(fit: bool, reading: Reading) -> Reading
     }
 }
 
+// The reading of a format string without its pool, and then what is known of the pool.
 fn reading_of(format: &[u8], table: &[u32], fit: bool) -> Reading
     ensures { λ r. ⌜ r ≡ withPool fit (readingOf (now (format .entry)) (now (table .entry))) ⌝ }
 {
@@ -151,7 +153,27 @@ fn add_both(format: &[u8], plan: Plan, bytes: &mut [u8], entries: &mut [Entry]) 
     add_fill(format, plan.second, bytes, entries, one)
 }
 
-// Parses a format string, with the counts by value: its options, with the fill's index in the pool. It refuses and writes as `parse::parse` does.
+// Parses a format string with a pool of which it is known whether it is fit. After a refusal the plan is empty, so nothing is written.
+fn parse_with(
+    format: &[u8],
+    table: &[u32],
+    fit: bool,
+    bytes: &mut [u8],
+    entries: &mut [Entry],
+    counts: Counts,
+) -> After
+    requires { ⌜ fit ≡ fitPool (now bytes) (numbersOf (now entries)) counts ⌝ }
+    ensures { λ r. ⌜ Parses (now (format .entry)) (now (table .entry)) (now (bytes .entry)) (numbersOf (now (entries .entry))) counts
+        (now (bytes .exit)) (numbersOf (now (entries .exit))) r ⌝ }
+{
+    let reading = reading_of(format, table, fit);
+    let plan = plan_of(reading, counts);
+    let two = add_both(format, plan, bytes, entries);
+    end_by(reading, two)
+}
+
+// Parses a format string, with the counts by value: its options, with the fill's index in the pool. It refuses and writes as `parse::parse`
+// does. Whether the pool is fit is asked first, which writes nothing, and told after refusals 1, 2, 3 (`with_pool`).
 pub fn parse_row(
     format: &[u8],
     table: &[u32],
@@ -163,10 +185,7 @@ pub fn parse_row(
         (now (bytes .exit)) (numbersOf (now (entries .exit))) r ⌝ }
 {
     let fit = pool_lent::is_pool_fit(bytes, entries, counts);
-    let reading = reading_of(format, table, fit);
-    let plan = plan_of(reading, counts);
-    let two = add_both(format, plan, bytes, entries);
-    end_by(reading, two)
+    parse_with(format, table, fit, bytes, entries, counts)
 }
 
 // Parses a format string: its options, with the fill's index in the pool, whose counts are those after the additions.

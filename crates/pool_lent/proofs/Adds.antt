@@ -4,7 +4,7 @@
 --     free                          where a new index is handed out, an entry is free and the string's length is a number of 32 bits
 --     settled-old, settled-new      a return: nothing is written to the entries, or the new one
 -- Assumes nothing.
-use Prim.Native.Nat.{ℕ, _+_, _*_, _/_, _<_, _≤_, _^_}
+use Prim.Native.Nat.{ℕ, _+_, _<_, _≤_, _^_}
 use native.Mathlib.Omega.{arith}
 use mathlib.Core.Path.{_≡_, refl, sym, ap, _∙_}
 use mathlib.Core.Bool.{Bool, true, false}
@@ -16,15 +16,16 @@ use Rattle.base.specs.PickLaws.{split-lt}
 use Rattle.utf8.specs.Chars.{checkFrom}
 use Rattle.utf8.specs.declared.Utf8Check.{Utf8Check}
 use Rattle.utf8.specs.declared.Utf8Check.the-variants as utf8
-use Rattle.pool.specs.Pool.{indexOf, stringsOf, roomOf, byteRoom, entryRoom, runsTo, fitIn, fitPool, onUtf8, placed, addedToFit, added, isNew}
-use Rattle.pool.specs.Pool.{entered, bytesAfter, entriesAfter, AddsString}
+use Rattle.pool.specs.Pool.{indexOf, stringsOf, roomOf, byteRoom, entryRoom, runsTo, fitIn, fitPool, onUtf8, placed, addedToFit, added}
+use Rattle.pool.specs.Pool.{isNew, entered, bytesAfter, AddsString}
 use Rattle.pool.specs.FitLaws.{room-within, fit-of}
 use Rattle.pool.specs.PoolLaws.{placed-same, old-entries, new-entries}
 use Rattle.pool.specs.declared.Counts.{Counts}
 use Rattle.pool.specs.declared.Added.{Added}
 use Rattle.pool.specs.declared.Added.the-variants.{BadState}
 use Rattle.pool.proofs.Answers.{settled}
-use Rattle.pool_lent.specs.Entries.{numbersOf, entryOf, least, EndsAt, fitAt, answerAt}
+use Rattle.pool_lent.specs.Entries.{numbersOf, entryOf}
+use Rattle.pool_lent.specs.Decided.{least, EndsAt, fitAt, answerAt}
 use Rattle.pool_lent.specs.EntriesLaws.{numbers-long, numbers-set}
 use Rattle.pool_lent.specs.declared.Entry.{Entry}
 use Rattle.pool_lent.proofs.Numbers.{least-is, new-room}
@@ -77,7 +78,8 @@ module _ (bytes : List ℕ) (es : List Entry) (counts : Counts) (n : ℕ) (n-is 
           go false e = refl
 
       -- a new index is handed out in a fit pool with room alone
-      new-fit : isNew counts r ≡ true → (fit ≡ true) × ((counts .entries < roomOf (length es)) × (counts .bytes + length string ≤ byteRoom bytes))
+      new-fit : isNew counts r ≡ true
+          → (fit ≡ true) × ((counts .entries < roomOf (length es)) × (counts .bytes + length string ≤ byteRoom bytes))
       unfolding answerAt
       new-fit e = go (checkFrom 0 string) fit refl (ap (isNew counts) (sym r-as) ∙ e)
         where

@@ -3,7 +3,7 @@
 use Rattle.pool_lent.proofs.Walk.{_≡_, refl, ℕ, _<_, _^_, [], _∷_, URA, w64, vint, SProp, ent, emp, snd∗, exE, Memory, Routine}
 use Rattle.pool_lent.proofs.Walk.{Heap, Atoms, sem, Fun, fact, Given, _$_, _∵_, !, qed, join, fjoin, frame, done, Is, uint-makes}
 use Rattle.pool_lent.proofs.Walk.{usize, nothing, owned, tripleOf, mem, ensured, lasts, Contract}
-use Rattle.pool_lent.specs.Entries.{least as smaller}
+use Rattle.pool_lent.specs.Decided.{least as smaller}
 use Rattle.pool_lent.proofs.least as least
 
 module _ {M : Type 1} (𝓤 : URA M) (H : Heap 𝓤) (A : Atoms 𝓤) (mem : Memory → SProp 𝓤) (run : Routine → Fun 𝓤) where

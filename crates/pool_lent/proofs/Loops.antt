@@ -3,18 +3,18 @@
 --     Ran: ran-none, ran-one, ran-all          `ends`: the first i entries run to a byte, or they do not run at all
 --     string-is, here, further                 `find_string`: what `is_string` says of entry i, and what that says of the search
 -- Assumes nothing.
-use Prim.Native.Nat.{ℕ, _+_, _-_, _<_, _≤_, _^_}
+use Prim.Native.Nat.{ℕ, _+_, _<_, _≤_, _^_}
 use native.Mathlib.Omega.{arith}
-use mathlib.Core.Path.{_≡_, refl, sym, subst, _∙_}
+use mathlib.Core.Path.{_≡_, sym, _∙_}
 use mathlib.Core.Bool.{true, false}
 use mathlib.Core.List.{List}
-use lib.Dec.{eqb}
-use lib.ListN.{length, take, drop}
+use lib.ListN.{take, drop}
 use borrow.Author.Tests.{ne-eqb}
 use Rattle.base.specs.PickLaws.{by-eq, split-lt}
-use Rattle.pool.specs.Pool.{startOf, lengthOf, stringAt, stringsOf, same, indexOf, roomMost, runsTo}
+use Rattle.pool.specs.Pool.{stringAt, stringsOf, same, indexOf, runsTo}
 use Rattle.pool.proofs.Loops.{Running, run, broken, one-run, all-run, Searching, found-here, not-here}
-use Rattle.pool_lent.specs.Entries.{numbersOf, nowhere, endOf, EndsAt}
+use Rattle.pool_lent.specs.Entries.{numbersOf}
+use Rattle.pool_lent.specs.Decided.{nowhere, endOf, EndsAt}
 use Rattle.pool_lent.specs.EntriesLaws.{entryAt, start-is, length-is}
 use Rattle.pool_lent.specs.declared.Entry.{Entry}
 
@@ -29,7 +29,8 @@ module _ (es : List Entry) (n : ℕ) where
   ran-none = (λ e. absurd (omega arith), λ _ to. run (numbersOf es) n to)
 
   module _ (end i : ℕ) (h : Ran end i) (small : end < 2 ^ 64) where
-    pub ran-one : i < n → entryAt es i .start < 2 ^ 32 → entryAt es i .len < 2 ^ 32 → Ran (endOf end (entryAt es i .start) (entryAt es i .len)) (i + 1)
+    pub ran-one : i < n → entryAt es i .start < 2 ^ 32 → entryAt es i .len < 2 ^ 32
+        → Ran (endOf end (entryAt es i .start) (entryAt es i .len)) (i + 1)
     unfolding endOf
     ran-one l a b =
         let s = start-is es i in
@@ -56,8 +57,10 @@ module _ (string bytes : List ℕ) (es : List Entry) (i : ℕ) where
   string-is = rw (start-is es i, length-is es i)
 
   module _ (n : ℕ) (h : Searching string bytes (numbersOf es) n i) (l : i < n) where
-    pub here : same (take (entryAt es i .len) (drop (entryAt es i .start) bytes)) string ≡ true → i ≡ indexOf string (stringsOf bytes (numbersOf es) n)
+    pub here : same (take (entryAt es i .len) (drop (entryAt es i .start) bytes)) string ≡ true
+        → i ≡ indexOf string (stringsOf bytes (numbersOf es) n)
     here t = found-here string bytes (numbersOf es) n i h l (rw string-is t)
 
-    pub further : same (take (entryAt es i .len) (drop (entryAt es i .start) bytes)) string ≡ false → Searching string bytes (numbersOf es) n (i + 1)
+    pub further : same (take (entryAt es i .len) (drop (entryAt es i .start) bytes)) string ≡ false
+        → Searching string bytes (numbersOf es) n (i + 1)
     further t = not-here string bytes (numbersOf es) n i h l (rw string-is t)

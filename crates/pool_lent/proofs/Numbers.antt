@@ -2,20 +2,23 @@
 --     least-within, least-is    the smaller of two numbers
 --     clipped                   the part of a row that `is_string` lends is what the row has of the entry's string
 --     new-room                  where a new index is handed out, there is room
+--     answer-fit                the answer for a well-formed string in a fit pool
 -- Assumes nothing.
 use Prim.Native.Nat.{ℕ, _+_, _-_, _<_, _≤_}
 use native.Mathlib.Omega.{arith}
 use mathlib.Core.Path.{_≡_, refl, sym, _∙_}
-use mathlib.Core.Bool.{true}
+use mathlib.Core.Bool.{Bool, true}
 use mathlib.Core.List.{List, [], _∷_}
 use lib.ListN.{length, take, drop, length-drop}
 use lib.Seq.{take-all, take-nil}
 use borrow.Author.Tests.{eqb-true, lt-ltb, le-ltb}
 use Rattle.base.specs.PickLaws.{by-lt, split-lt}
-use Rattle.pool.specs.Pool.{placed, isNew}
+use Rattle.utf8.specs.Chars.{checkFrom}
+use Rattle.utf8.specs.declared.Utf8Check.the-variants as utf8
+use Rattle.pool.specs.Pool.{roomOf, byteRoom, placed, isNew}
 use Rattle.pool.specs.declared.Counts.{Counts}
 use Rattle.pool.specs.declared.Added.{Added}
-use Rattle.pool_lent.specs.Entries.{least}
+use Rattle.pool_lent.specs.Decided.{least, answerAt}
 
 pub least-within : (a b : ℕ) → (least a b ≤ a) × (least a b ≤ b)
 least-within a b = by-lt (λ (r : ℕ). (r ≤ a) × (r ≤ b)) b a (λ h. (omega arith, omega arith)) (λ h. (omega arith, omega arith))
@@ -48,7 +51,8 @@ clipped l start long first end e f =
     (λ k.
     let b : end ≡ length l = f ∙ rw (lt-ltb (length l) (first + long) k) in
     let rest = length-drop start l in
-    (omega arith, omega arith, rw a (take-all (end - start) (drop start l) (omega arith) ∙ sym (take-all long (drop start l) (omega arith)))))
+    let all = take-all (end - start) (drop start l) (omega arith) in
+    (omega arith, omega arith, rw a (all ∙ sym (take-all long (drop start l) (omega arith)))))
     (λ k.
     let b : end ≡ first + long = f ∙ least-is (first + long) (length l) k in
     let z : end - first ≡ long = omega arith in
@@ -67,3 +71,9 @@ module _ (long found : ℕ) (counts : Counts) (forEntries forBytes : ℕ) where
       (λ l. by-lt Claim forBytes (counts .bytes + long)
       (λ m e. let z : _≡_ {A = ℕ} 0 1 = cc in absurd (omega arith))
       (λ m e. (omega arith, omega arith))))
+
+pub answer-fit : (string bytes : List ℕ) (entries : ℕ) (counts : Counts) (fit : Bool) (found : ℕ) → checkFrom 0 string ≡ utf8.Fine
+    → fit ≡ true
+    → answerAt string bytes entries counts fit found ≡ placed (length string) found counts (roomOf entries) (byteRoom bytes)
+unfolding answerAt
+answer-fit string bytes entries counts fit found e f = rw (e, f)

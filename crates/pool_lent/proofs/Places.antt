@@ -30,7 +30,8 @@ module _ {M : Type 1} {𝓤 : URA M} {H : Heap 𝓤} {A : Atoms 𝓤} {K : Type 
   member t n e p = load t (from t (fld t e (stop t))) (look-in t n p)
 
   pub sets : K → {rv : RValue} {rest : Body} {v : Val} {C : Calls 𝓤 H} {Λ : Loops 𝓤 H} {q : Post 𝓤 H} → Rv K W Γ E rv v
-      → (n : ℕ) → nth 𝓤 H A n Γ ≡ ‵ (froom (spotOf 𝓤 H E i .0) (spotOf 𝓤 H E i .1) (spotOf 𝓤 H E i .2)) → Holds (hasTy (spotOf 𝓤 H E i .0) v) × WT v
+      → (n : ℕ) → nth 𝓤 H A n Γ ≡ ‵ (froom (spotOf 𝓤 H E i .0) (spotOf 𝓤 H E i .1) (spotOf 𝓤 H E i .2))
+      → Holds (hasTy (spotOf 𝓤 H E i .0) v) × WT v
       → Step K W (put 𝓤 H A n (‵ (fat fullShare (spotOf 𝓤 H E i .0) (spotOf 𝓤 H E i .1) (spotOf 𝓤 H E i .2) v)) Γ) (runs C Λ E rest q)
       Γ (runs C Λ E (seq (assign (place i []) rv) rest) q)
   sets t r n e typed = assigns t r (from t (stop t)) (init t n e typed)

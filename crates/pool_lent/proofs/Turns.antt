@@ -1,4 +1,4 @@
--- For the walks: what follows a statement, and how a test came out, and numbers.
+-- For the walks: what follows a statement, how a test came out, and facts of numbers.
 -- Assumes nothing.
 use Prim.Native.Nat.{ℕ, _+_, _-_, _<_, _≤_, _^_}
 use native.Mathlib.Omega.{arith}

@@ -69,10 +69,11 @@ same-numbers (x ∷ xs) (y ∷ ys) e =
     let head : x ≡ y = λ i. entryOf (s i) (l i) in
     cc
 
-pub one-outcome : {string bytes newBytes newBytes′ : List ℕ} {entries newEntries newEntries′ : List Entry} {counts newCounts newCounts′ : Counts} {r q : Added}
+pub one-outcome : {string bytes newBytes newBytes′ : List ℕ} {entries newEntries newEntries′ : List Entry}
+    {counts newCounts newCounts′ : Counts} {r q : Added}
     → AddsEntry string counts bytes entries newBytes newEntries newCounts r
     → AddsEntry string counts bytes entries newBytes′ newEntries′ newCounts′ q
     → (r ≡ q) × (newBytes ≡ newBytes′) × (newEntries ≡ newEntries′) × (newCounts ≡ newCounts′)
-one-outcome {newEntries} {newEntries′} {counts} v w =
+one-outcome {counts} v w =
     let p = one-answer (v .same) (w .same) in
     (p .0, p .1, same-numbers _ _ (p .2), v .counts-left ∙ ap (countsAfter counts) (p .0) ∙ sym (w .counts-left))

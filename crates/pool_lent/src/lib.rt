@@ -1,13 +1,13 @@
-// The pool's long forms: `pool` with a record for each entry in place of two numbers, and with the counts lent. The answers, the bytes and the
-// numbers of the entries are those of the flat pool (constant_pool.rs, `add_string`). Covered functions decide everything on bytes and numbers;
-// the functions over `&[Entry]`, `&mut [Entry]` and `&mut Counts` only read, call and store.
+// The pool's long forms: `pool` with a record for each entry in place of two numbers, and with the counts lent. The answers, the bytes and
+// the numbers of the entries are those of the flat pool (constant_pool.rs, `add_string`). What is decided is decided on bytes and numbers;
+// the functions over `&[Entry]`, `&mut [Entry]` and `&mut Counts`, which are proved by hand, only read, call and store.
 ghost use mathlib.Core.Path.{_≡_};
 ghost use mathlib.Core.Bool.{true};
 ghost use Prim.Native.Nat.{_≤_, _<_};
 ghost use lib.ListN.{length, set, take, drop};
 ghost use Rattle.pool.specs.Pool.{same, indexOf, stringsOf, roomOf, byteRoom, fitPool, placed, bytesAfter, countsAfter, AddsString};
-ghost use Rattle.pool_lent.specs.Entries.{numbersOf, entryOf, least, endOf, EndsAt, fitAt, answerAt, AddsEntry};
-
+ghost use Rattle.pool_lent.specs.Entries.{numbersOf, entryOf, AddsEntry};
+ghost use Rattle.pool_lent.specs.Decided.{least, endOf, EndsAt, fitAt, answerAt};
 use pool::Added;
 use pool::Counts;
 
@@ -64,9 +64,15 @@ fn is_string(string: &[u8], bytes: &[u8], start: u32, len: u32) -> bool
     pool::is_same(&bytes[first..end], string)
 }
 
-// The answer for a well-formed string in a fit pool with a row of so many entries, where the search found it at an index. A new string's bytes
-// are copied in.
-fn add_to_fit(string: &[u8], bytes: &mut [u8], entries: usize, counts: Counts, found: usize) -> Added
+// The answer for a well-formed string in a fit pool with a row of so many entries, where the search found it at an index. A new string's
+// bytes are copied in.
+fn add_to_fit(
+    string: &[u8],
+    bytes: &mut [u8],
+    entries: usize,
+    counts: Counts,
+    found: usize,
+) -> Added
     requires { ⌜ counts .bytes ≤ byteRoom (now bytes) ⌝ }
     ensures { λ r. ⌜ (r ≡ placed (length (now (string .entry))) found counts (roomOf entries) (byteRoom (now (bytes .entry))))
         × (now (bytes .exit) ≡ bytesAfter (now (string .entry)) counts r (now (bytes .entry))) ⌝ }
@@ -82,7 +88,14 @@ fn add_to_fit(string: &[u8], bytes: &mut [u8], entries: usize, counts: Counts, f
 }
 
 // The answer for any string, in a pool that is fit or not: refusals 3, 8, 13 in this order.
-fn add_bytes(string: &[u8], bytes: &mut [u8], entries: usize, counts: Counts, fit: bool, found: usize) -> Added
+fn add_bytes(
+    string: &[u8],
+    bytes: &mut [u8],
+    entries: usize,
+    counts: Counts,
+    fit: bool,
+    found: usize,
+) -> Added
     requires { ⌜ (fit ≡ true → counts .bytes ≤ byteRoom (now bytes)) ⌝ }
     ensures { λ r. ⌜ (r ≡ answerAt (now (string .entry)) (now (bytes .entry)) entries counts fit found)
         × (now (bytes .exit) ≡ bytesAfter (now (string .entry)) counts r (now (bytes .entry))) ⌝ }
@@ -104,7 +117,10 @@ fn counts_after(counts: Counts, answer: Added) -> Counts
     ensures { λ r. ⌜ r ≡ countsAfter counts answer ⌝ }
 {
     match answer {
-        Added::Index { index: _, counts: after } => after,
+        Added::Index {
+            index: _,
+            counts: after,
+        } => after,
         Added::BadUtf8(_) => counts,
         Added::BadState => counts,
         Added::PoolFull => counts,
@@ -180,7 +196,12 @@ pub fn add_row(string: &[u8], bytes: &mut [u8], entries: &mut [Entry], counts: C
 }
 
 // Adds a string to a pool whose counts are lent: they are those after the addition.
-pub fn add_string(string: &[u8], bytes: &mut [u8], entries: &mut [Entry], counts: &mut Counts) -> Added
+pub fn add_string(
+    string: &[u8],
+    bytes: &mut [u8],
+    entries: &mut [Entry],
+    counts: &mut Counts,
+) -> Added
     ensures { λ r. ⌜ AddsEntry (now (string .entry)) (now (counts .entry)) (now (bytes .entry)) (now (entries .entry))
         (now (bytes .exit)) (now (entries .exit)) (now (counts .exit)) r ⌝ }
 {

@@ -4,7 +4,8 @@ use mathlib.Core.Path.{refl, sym, _∙_}
 use borrow.Author.Needs.{needs}
 use borrow.Author.Tests.{not-true, not-false}
 use Rattle.pool.specs.PoolLaws.{old-bytes}
-use Rattle.pool_lent.specs.Entries.{answerAt}
+use Rattle.pool_lent.specs.Decided.{answerAt}
+use Rattle.pool_lent.proofs.Numbers.{answer-fit}
 use Rattle.pool_lent.proofs.add_bytes.Statement.{statement}
 use Rattle.pool_lent.proofs.add_bytes.Tie as tie
 
@@ -25,7 +26,8 @@ unfolding answerAt
 returns c =
     let told = c .before in
     let fine = sym (told .before .before .check-utf8 .ensures) ∙ told .enum-told .given .1 in
-    (rw (fine, not-true (told .before .before .before .before .before .args .fit) (c .if1 .taken)), sym (old-bytes _ _ _ refl _))
+    let unfit = not-true (told .before .before .before .before .before .args .fit) (c .if1 .taken) in
+    (rw (fine, unfit), sym (old-bytes _ _ _ refl _))
 
 add-to-fit-requires : tie.Need-add-to-fit-requires
 add-to-fit-requires c κs = c .before .before .before .before .before .before .before .pre (not-false _ (c .before .if1 .left))
@@ -46,13 +48,12 @@ same-length : tie.Need-same-length
 same-length c = search needs
 
 returns-4 : tie.Need-returns-4
-unfolding answerAt
 returns-4 c =
     let done = c .before .before in
     let test = done .before .before in
     let told = test .before in
     let fine = sym (told .before .before .check-utf8 .ensures) ∙ told .enum-told .given .1 in
-    (done .add-to-fit .ensures .0 ∙ sym (rw (fine, not-false (told .before .before .before .before .before .args .fit) (test .if1 .left))), done .add-to-fit .ensures .1)
+    (done .add-to-fit .ensures .0 ∙ sym (answer-fit _ _ _ _ _ _ fine (not-false _ (test .if1 .left))), done .add-to-fit .ensures .1)
 
 pub add-bytes-spec : {M : Type 1} → statement M
 add-bytes-spec =

@@ -27,7 +27,8 @@ use Rattle.pool.proofs.Counts as C
 use Rattle.pool.proofs.Counts.Laws as C′
 use Rattle.pool.proofs.Added as Ad
 use Rattle.pool.proofs.Added.Laws as Ad′
-use Rattle.pool_lent.specs.Entries.{numbersOf, entryOf, least as smaller, answerAt}
+use Rattle.pool_lent.specs.Entries.{numbersOf, entryOf}
+use Rattle.pool_lent.specs.Decided.{least as smaller, answerAt}
 use Rattle.pool_lent.specs.declared.Entry.{Entry}
 use Rattle.pool_lent.proofs.Numbers.{least-within}
 use Rattle.pool_lent.proofs.Adds.{bytes-fit, free, settled-old, settled-new}
@@ -318,8 +319,16 @@ module _ {M : Type 1} (𝓤 : URA M) (H : Heap 𝓤) (A : Atoms 𝓤) (W : Given
   put-args n = (x₂, (n, (c .bytes, (length ws, tt))))
 
   abbrev to-put : ℕ → PutEntry 𝓤 H A mem run .Ghost
-  to-put n = (((κ₂, tt), (q₂, tt), tt, put-args n,
-      (v₂ ∷ [], (vint w64 n ∷ [], (vint w32 (c .bytes) ∷ [], (vint w32 (length ws) ∷ [], tt))))), tt)
+  to-put n = (
+    (
+      (κ₂, tt),
+      (q₂, tt),
+      tt,
+      put-args n,
+      (v₂ ∷ [], (vint w64 n ∷ [], (vint w32 (c .bytes) ∷ [], (vint w32 (length ws) ∷ [], tt)))),
+    ),
+    tt,
+  )
 
   asked-put : (n : ℕ) → n < 2 ^ 64 → length ws < 2 ^ 32 → n < length es → ent 𝓤 (sep 𝓤 (A .lft κ₂ q₂) (sem 𝓤 H A OwnE))
       (PutEntry 𝓤 H A mem run .pre (to-put n))
@@ -523,8 +532,10 @@ module _ {M : Type 1} (𝓤 : URA M) (H : Heap 𝓤) (A : Atoms 𝓤) (W : Given
       (λ κs. (slice-vals, (slice-vals, (slice-vals, (LL.vals C.the-type C′.the-laws, tt)))))
       (λ κs. (
         shr-slice-tells (named 0) (κs .0) u8,
-        (mut-slice-tells (named 1) (κs .1 .0) u8,
-        (mut-slice-tells (named 2) (κs .1 .1 .0) T.the-row, (LL.tells C.the-type C′.the-laws, tt))),
+        (
+          mut-slice-tells (named 1) (κs .1 .0) u8,
+          (mut-slice-tells (named 2) (κs .1 .1 .0) T.the-row, (LL.tells C.the-type C′.the-laws, tt)),
+        ),
       ))
       (λ κs qs bounds a g are. via 𝓤 _ (fst∗ 𝓤 _ (emp 𝓤))
       (walk 𝓤 H A W mem run (κs .0) (κs .1 .0) (κs .1 .1 .0) (qs .0) (qs .1 .0) (qs .1 .1 .0) (a .0) (a .1 .0) (a .1 .1 .0) (a .1 .1 .1 .0)
@@ -535,8 +546,10 @@ module _ {M : Type 1} (𝓤 : URA M) (H : Heap 𝓤) (A : Atoms 𝓤) (W : Given
   add-row-meets =
       walk-meets 𝓤 H A add-row.ended stayed W (
         goes-none-slice 𝓤 H A W 3 (0 ∷ []) tt (plain (λ _. u8)) yes,
-        (goes-gave-slice 𝓤 H A W 3 1 tt (plain (λ _. u8)),
-        (goes-gave-slice 𝓤 H A W 3 2 tt (plain (λ _. T.the-row)), (goes-none 𝓤 H A W 3 (λ _. C.the-row) yes (λ κs x f. refl), tt))),
+        (
+          goes-gave-slice 𝓤 H A W 3 1 tt (plain (λ _. u8)),
+          (goes-gave-slice 𝓤 H A W 3 2 tt (plain (λ _. T.the-row)), (goes-none 𝓤 H A W 3 (λ _. C.the-row) yes (λ κs x f. refl), tt)),
+        ),
       )
       (add-row.clauses 𝓤 H A mem run) (WpFn 𝓤 H (𝓣 .C) (𝓣 .Λ) code.function) (WpFn-mono 𝓤 H (W .laws) 𝓣 code.function) add-row-walks
 

@@ -43,8 +43,10 @@ use Rattle.pool_lent.proofs.add_string.Code as code
 abbrev stayed : Stays (add-string.ended .signature .params) (add-string.ended .kept)
 stayed = (
   stay-none-slice (0 ∷ []) tt (plain (λ _. u8)) yes,
-  (gave-slice (1 ∷ []) tt (plain (λ _. u8)),
-  (gave-slice (2 ∷ []) tt (plain (λ _. T.the-row)), (stay-ref (3 ∷ []) tt (plain (λ _. C.the-row)), tt))),
+  (
+    gave-slice (1 ∷ []) tt (plain (λ _. u8)),
+    (gave-slice (2 ∷ []) tt (plain (λ _. T.the-row)), (stay-ref (3 ∷ []) tt (plain (λ _. C.the-row)), tt)),
+  ),
 )
 
 -- the contracts that the proof cites
@@ -239,8 +241,10 @@ module _ {M : Type 1} (𝓤 : URA M) (H : Heap 𝓤) (A : Atoms 𝓤) (W : Given
       (λ κs. (slice-vals, (slice-vals, (slice-vals, (ptr-vals, tt)))))
       (λ κs. (
         shr-slice-tells (named 0) (κs .0) u8,
-        (mut-slice-tells (named 1) (κs .1 .0) u8,
-        (mut-slice-tells (named 2) (κs .1 .1 .0) T.the-row, (mut-tells (named 3) (κs .1 .1 .1 .0) C.the-row, tt))),
+        (
+          mut-slice-tells (named 1) (κs .1 .0) u8,
+          (mut-slice-tells (named 2) (κs .1 .1 .0) T.the-row, (mut-tells (named 3) (κs .1 .1 .1 .0) C.the-row, tt)),
+        ),
       ))
       (λ κs qs bounds a g are. via 𝓤 _ (fst∗ 𝓤 _ (emp 𝓤))
       (walk 𝓤 H A W at-mem run (κs .0) (κs .1 .0) (κs .1 .1 .0) (κs .1 .1 .1 .0) (qs .0) (qs .1 .0) (qs .1 .1 .0) (qs .1 .1 .1 .0)
@@ -251,8 +255,10 @@ module _ {M : Type 1} (𝓤 : URA M) (H : Heap 𝓤) (A : Atoms 𝓤) (W : Given
   add-string-meets =
       walk-meets 𝓤 H A add-string.ended stayed W (
         goes-none-slice 𝓤 H A W 4 (0 ∷ []) tt (plain (λ _. u8)) yes,
-        (goes-gave-slice 𝓤 H A W 4 1 tt (plain (λ _. u8)),
-        (goes-gave-slice 𝓤 H A W 4 2 tt (plain (λ _. T.the-row)), (goes-ref 𝓤 H A W 4 3 tt (plain (λ _. C.the-row)), tt))),
+        (
+          goes-gave-slice 𝓤 H A W 4 1 tt (plain (λ _. u8)),
+          (goes-gave-slice 𝓤 H A W 4 2 tt (plain (λ _. T.the-row)), (goes-ref 𝓤 H A W 4 3 tt (plain (λ _. C.the-row)), tt)),
+        ),
       )
       (add-string.clauses 𝓤 H A at-mem run) (WpFn 𝓤 H (𝓣 .C) (𝓣 .Λ) code.function) (WpFn-mono 𝓤 H (W .laws) 𝓣 code.function)
       add-string-walks

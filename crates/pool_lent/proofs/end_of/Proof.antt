@@ -2,7 +2,7 @@
 use mathlib.Core.Path.{sym}
 use borrow.Author.Needs.{needs}
 use Rattle.base.specs.Cases.{cases}
-use Rattle.pool_lent.specs.Entries.{endOf}
+use Rattle.pool_lent.specs.Decided.{endOf}
 use Rattle.pool_lent.proofs.end_of.Statement.{statement}
 use Rattle.pool_lent.proofs.end_of.Tie as tie
 

@@ -22,7 +22,7 @@ use Rattle.pool_lent.proofs.Walk.{lasts, Contract, Triple, WellFounded,
 use Rattle.pool_lent.proofs.Places.{local, member, sets}
 use lib.Dec.{T as Holds, ltb, ltb→lt, nltb→le, lit<}
 use denote.Struct.Laws as LL
-use Rattle.pool_lent.specs.Entries.{endOf, EndsAt}
+use Rattle.pool_lent.specs.Decided.{endOf, EndsAt}
 use Rattle.pool_lent.specs.EntriesLaws.{none}
 use Rattle.pool_lent.specs.declared.Entry.{Entry}
 use Rattle.pool_lent.proofs.Loops.{Ran, ran-none, ran-one, ran-all}
@@ -54,8 +54,8 @@ word = tyInt w64
 abbrev s0 : Ty
 s0 = sliceTy (tyRef (named 0) imm (pointee (T.the-row .written)))
 
-module _ {M : Type 1} (𝓤 : URA M) (H : Heap 𝓤) (A : Atoms 𝓤) (W : Given 𝓤 H A) (mem : Memory → SProp 𝓤) (run : Routine
-    → Fun 𝓤) (κ : Lft) (q : Share) (x₀ : RefT (List Entry)) (n : ℕ) (g₀ : Room T.the-row (length (x₀ .now))) (gn : n < 2 ^ 64)
+module _ {M : Type 1} (𝓤 : URA M) (H : Heap 𝓤) (A : Atoms 𝓤) (W : Given 𝓤 H A) (mem : Memory → SProp 𝓤)
+    (run : Routine → Fun 𝓤) (κ : Lft) (q : Share) (x₀ : RefT (List Entry)) (n : ℕ) (g₀ : Room T.the-row (length (x₀ .now))) (gn : n < 2 ^ 64)
     (l : n ≤ length (x₀ .now)) where
   abbrev b : ℕ
   b = x₀ .ptr .0
@@ -205,11 +205,12 @@ module _ {M : Type 1} (𝓤 : URA M) (H : Heap 𝓤) (A : Atoms 𝓤) (W : Given
             subst (λ (k : ℕ). Ran ys n k (i + 1)) (sym e) (ran-one ys n d i ran ge (ltb→lt i n less) (owed .0 .1) (owed .1 .0 .1))
 
   walk : (𝓣 : Tables 𝓤 H) → FmC 𝓤 H (W .laws) (𝓣 .C) → Triple 𝓤 (𝓣 .C #end-of) (EndOf 𝓤 H A mem run)
-      → ent 𝓤 (onEntry 𝓤 H A ends.signature (κ, tt) (q, tt) (x₀, (n, tt)) at) (WpFn 𝓤 H (𝓣 .C) (𝓣 .Λ) code.function (v₀ ∷ vint w64 n
-      ∷ []) Post)
+      → ent 𝓤 (onEntry 𝓤 H A ends.signature (κ, tt) (q, tt) (x₀, (n, tt)) at)
+      (WpFn 𝓤 H (𝓣 .C) (𝓣 .Λ) code.function (v₀ ∷ vint w64 n ∷ []) Post)
   walk 𝓣 fm known =
-      qed W ((‵ (flft κ q) ⊛ ‵ ftrue) ∷ ‵ (owns (ShrSlice (named 0) κ T.the-row ∷ usize ∷ []) (x₀, (n, tt)) at) ∷ []) ∵ enter ! (𝓣 .C)
-      (𝓣 .Λ) code.function (v₀ ∷ vint w64 n ∷ []) _ $ alloc1 ! (λ l₀. alloc1 ! (λ l₁. alloc1 ! (λ l₂. alloc1 ! (λ l₃. alloc1 ! (λ l₄.
+      qed W ((‵ (flft κ q) ⊛ ‵ ftrue) ∷ ‵ (owns (ShrSlice (named 0) κ T.the-row ∷ usize ∷ []) (x₀, (n, tt)) at) ∷ []) ∵
+      enter ! (𝓣 .C) (𝓣 .Λ) code.function (v₀ ∷ vint w64 n ∷ []) _ $
+      alloc1 ! (λ l₀. alloc1 ! (λ l₁. alloc1 ! (λ l₂. alloc1 ! (λ l₃. alloc1 ! (λ l₄.
       alloc1 ! (λ l₅. alloc1 ! (λ l₆. alloc1 ! (λ l₇. alloc1 ! (λ l₈. alloc1 ! (λ l₉. alloc0 ! $ params1 ! $
       pass1 ! (init ! 16 refl (tt, (tt, (record { fits = g₀ .0 }, tt)))) $ pass1 ! (init ! 14 refl (tt, record { fits = gn })) $
       pass0 ! $ sets ! (of-opd ! (lit ! tt)) 12 refl (tt, record { fits = lit< tt }) $
@@ -219,8 +220,8 @@ module _ {M : Type 1} (𝓤 : URA M) (H : Heap 𝓤) (A : Atoms 𝓤) (W : Given
       loops ! 𝓣 Nearer Nearer-wf (At 𝓣 fm known l₀ l₁ l₂ l₃ l₄ l₅ l₆ l₇ l₈ l₉) (turns 𝓣 fm known l₀ l₁ l₂ l₃ l₄ l₅ l₆ l₇ l₈ l₉)
       (0, (0, (omega arith, (lit< tt, ran-none ys n))))))))))))))
 
-module _ {M : Type 1} (𝓤 : URA M) (H : Heap 𝓤) (A : Atoms 𝓤) (W : Given 𝓤 H A) (mem : Memory → SProp 𝓤) (run : Routine
-    → Fun 𝓤) (𝓣 : Tables 𝓤 H) (known : Triple 𝓤 (𝓣 .C #end-of) (EndOf 𝓤 H A mem run)) where
+module _ {M : Type 1} (𝓤 : URA M) (H : Heap 𝓤) (A : Atoms 𝓤) (W : Given 𝓤 H A) (mem : Memory → SProp 𝓤)
+    (run : Routine → Fun 𝓤) (𝓣 : Tables 𝓤 H) (known : Triple 𝓤 (𝓣 .C #end-of) (EndOf 𝓤 H A mem run)) where
   ends-walks : Walks 𝓤 H A ends.ended stayed (WpFn 𝓤 H (𝓣 .C) (𝓣 .Λ) code.function) (ends.clauses 𝓤 H A mem run)
   ends-walks = walked 𝓤 H A ends.ended stayed (ends.clauses 𝓤 H A mem run) (WpFn 𝓤 H (𝓣 .C) (𝓣 .Λ) code.function)
       (λ κs. (slice-vals, (uint-vals w64, tt))) (λ κs. (shr-slice-tells (named 0) (κs .0) T.the-row, (uint-tells w64, tt)))
@@ -229,8 +230,10 @@ module _ {M : Type 1} (𝓤 : URA M) (H : Heap 𝓤) (A : Atoms 𝓤) (W : Given
 
   ends-meets : Meets 𝓤 H A ends.signature (WpFn 𝓤 H (𝓣 .C) (𝓣 .Λ) code.function) (ends.spec 𝓤 H A mem run)
   ends-meets =
-      walk-meets 𝓤 H A ends.ended stayed W (goes-none-slice 𝓤 H A W 1 (0
-      ∷ []) tt (plain (λ _. T.the-row)) yes, (goes-none 𝓤 H A W 1 (λ _. usize) yes (λ κs x f. refl), tt))
+      walk-meets 𝓤 H A ends.ended stayed W (
+        goes-none-slice 𝓤 H A W 1 (0 ∷ []) tt (plain (λ _. T.the-row)) yes,
+        (goes-none 𝓤 H A W 1 (λ _. usize) yes (λ κs x f. refl), tt),
+      )
       (ends.clauses 𝓤 H A mem run) (WpFn 𝓤 H (𝓣 .C) (𝓣 .Λ) code.function) (WpFn-mono 𝓤 H (W .laws) 𝓣 code.function) ends-walks
 
 pub ends-spec : {M : Type 1} → stated.statement M
@@ -239,5 +242,5 @@ ends-spec 𝓤 H 𝓜 𝓖 𝓡 =
     entered 𝓤 H (tripleOf 𝓤 H (𝓖 .A) ends.signature (ends.spec 𝓤 H (𝓖 .A) (𝓜 .mem) (𝓡 .run)))
     (tables 𝓤 H 𝓜 𝓡 code.env .C) (tables 𝓤 H 𝓜 𝓡 code.env .Λ) #ends code.function (code.unfolded 𝓤 H 𝓜 𝓡)
     (ends-meets 𝓤 H (𝓖 .A) (givenOf 𝓤 H 𝓜 𝓖) (𝓜 .mem) (𝓡 .run) (tablesOf 𝓤 H 𝓜 (tables 𝓤 H 𝓜 𝓡 code.env))
-    (cited 𝓤 H (EndOf 𝓤 H (𝓖 .A) (𝓜 .mem)
-    (𝓡 .run)) 𝓜 𝓡 code.env #end-of end-of-def.routine code.calls-pool-lent·end-of (end-of-thm.met 𝓤 H 𝓜 𝓖 𝓡)))
+    (cited 𝓤 H (EndOf 𝓤 H (𝓖 .A) (𝓜 .mem) (𝓡 .run)) 𝓜 𝓡 code.env #end-of end-of-def.routine code.calls-pool-lent·end-of
+    (end-of-thm.met 𝓤 H 𝓜 𝓖 𝓡)))

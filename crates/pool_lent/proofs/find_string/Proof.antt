@@ -46,8 +46,13 @@ use Rattle.pool_lent.proofs.find_string.Code.Mir as part
 abbrev stayed : Stays (find-string.ended .signature .params) (find-string.ended .kept)
 stayed = (
   stay-none-slice (0 ∷ []) tt (plain (λ _. u8)) yes,
-  (stay-none-slice (1 ∷ []) tt (plain (λ _. u8)) yes, (stay-none-slice (2
-  ∷ []) tt (plain (λ _. T.the-row)) yes, (stay-none (λ _. usize) yes, tt))),
+  (
+    stay-none-slice (1 ∷ []) tt (plain (λ _. u8)) yes,
+    (
+      stay-none-slice (2 ∷ []) tt (plain (λ _. T.the-row)) yes,
+      (stay-none (λ _. usize) yes, tt),
+    ),
+  ),
 )
 
 -- the contract that the proof cites
@@ -151,8 +156,25 @@ module _ {M : Type 1} (𝓤 : URA M) (H : Heap 𝓤) (A : Atoms 𝓤) (W : Given
 
   abbrev to : ℕ → IsString 𝓤 H A mem run .Ghost
   to i = (
-    ((κ₀, (κ₁, tt)), (q₀, (q₁, tt)), tt, passed i, (v₀ ∷ [], (v₁ ∷ [], (vint w32 (elem i .start) ∷ [], (vint w32 (elem i .len)
-    ∷ [], tt))))),
+    (
+      (κ₀, (κ₁, tt)),
+      (q₀, (q₁, tt)),
+      tt,
+      passed i,
+      (
+        v₀ ∷ [],
+        (
+          v₁ ∷ [],
+          (
+            vint w32 (elem i .start) ∷ [],
+            (
+              vint w32 (elem i .len) ∷ [],
+              tt,
+            ),
+          ),
+        ),
+      ),
+    ),
     tt,
   )
 
@@ -266,8 +288,10 @@ module _ {M : Type 1} (𝓤 : URA M) (H : Heap 𝓤) (A : Atoms 𝓤) (W : Given
         assigns-last ! (bin ! (local ! 18 refl) (lit ! tt) (record { fits = next-fits i n gn less })) (from ! (stop !))
         (store ! 18 refl (tt, record { fits = next-fits i n gn less })) $ forget ! 6 refl $ forget ! 8 refl $ forget ! 10 refl $
         forget ! 12 refl $ forget ! 14 refl $ forget ! 16 refl $ move ! (3 ∷ 2 ∷ 0 ∷ 4 ∷ 5 ∷ 1 ∷ []) $
-        again ! Nearer At (i, (le, seeks)) (i + 1,
-        (next-in i n gn less, further (x₀ .now) (x₁ .now) ys i n seeks (ltb→lt i n less) (sym e ∙ is-false r no)))
+        again ! Nearer At (i, (le, seeks)) (
+          i + 1,
+          (next-in i n gn less, further (x₀ .now) (x₁ .now) ys i n seeks (ltb→lt i n less) (sym e ∙ is-false r no)),
+        )
         (falls i n gn less))))))))
         -- the loop is left
         (λ over. jumps ! $ exec ! C Λ En part.t-3 (atRet En Post) $
@@ -316,15 +340,16 @@ module _ {M : Type 1} (𝓤 : URA M) (H : Heap 𝓤) (A : Atoms 𝓤) (W : Given
       ))
       (λ κs qs bounds a g are. needs 𝓤 _ _
       (λ l. walk 𝓤 H A W mem run (κs .0) (κs .1 .0) (κs .1 .1 .0) (qs .0) (qs .1 .0) (qs .1 .1 .0) (a .0) (a .1 .0) (a .1 .1 .0)
-      (a .1 .1 .1 .0)
-      (are .0 .0 .1) (are .1 .0 .0 .1) (are .1 .1 .0 .0 .1) (are .1 .1 .1 .0 .1) l 𝓣 (fmOf 𝓤 H (W .laws) 𝓣) known))
+      (a .1 .1 .1 .0) (are .0 .0 .1) (are .1 .0 .0 .1) (are .1 .1 .0 .0 .1) (are .1 .1 .1 .0 .1) l 𝓣 (fmOf 𝓤 H (W .laws) 𝓣) known))
 
   find-string-meets : Meets 𝓤 H A find-string.signature (WpFn 𝓤 H (𝓣 .C) (𝓣 .Λ) code.function) (find-string.spec 𝓤 H A mem run)
   find-string-meets =
       walk-meets 𝓤 H A find-string.ended stayed W (
         goes-none-slice 𝓤 H A W 3 (0 ∷ []) tt (plain (λ _. u8)) yes,
-        (goes-none-slice 𝓤 H A W 3 (1 ∷ []) tt (plain (λ _. u8)) yes,
-        (goes-none-slice 𝓤 H A W 3 (2 ∷ []) tt (plain (λ _. T.the-row)) yes, (goes-none 𝓤 H A W 3 (λ _. usize) yes (λ κs x f. refl), tt))),
+        (
+          goes-none-slice 𝓤 H A W 3 (1 ∷ []) tt (plain (λ _. u8)) yes,
+          (goes-none-slice 𝓤 H A W 3 (2 ∷ []) tt (plain (λ _. T.the-row)) yes, (goes-none 𝓤 H A W 3 (λ _. usize) yes (λ κs x f. refl), tt)),
+        ),
       )
       (find-string.clauses 𝓤 H A mem run) (WpFn 𝓤 H (𝓣 .C) (𝓣 .Λ) code.function) (WpFn-mono 𝓤 H (W .laws) 𝓣 code.function) find-string-walks
 
@@ -334,5 +359,5 @@ find-string-spec 𝓤 H 𝓜 𝓖 𝓡 =
     entered 𝓤 H (tripleOf 𝓤 H (𝓖 .A) find-string.signature (find-string.spec 𝓤 H (𝓖 .A) (𝓜 .mem) (𝓡 .run)))
     (tables 𝓤 H 𝓜 𝓡 code.env .C) (tables 𝓤 H 𝓜 𝓡 code.env .Λ) #find-string code.function (code.unfolded 𝓤 H 𝓜 𝓡)
     (find-string-meets 𝓤 H (𝓖 .A) (givenOf 𝓤 H 𝓜 𝓖) (𝓜 .mem) (𝓡 .run) (tablesOf 𝓤 H 𝓜 (tables 𝓤 H 𝓜 𝓡 code.env))
-    (cited 𝓤 H (IsString 𝓤 H (𝓖 .A) (𝓜 .mem)
-    (𝓡 .run)) 𝓜 𝓡 code.env #is-string is-string-def.routine code.calls-pool-lent·is-string (is-string-thm.met 𝓤 H 𝓜 𝓖 𝓡)))
+    (cited 𝓤 H (IsString 𝓤 H (𝓖 .A) (𝓜 .mem) (𝓡 .run)) 𝓜 𝓡 code.env #is-string is-string-def.routine code.calls-pool-lent·is-string
+    (is-string-thm.met 𝓤 H 𝓜 𝓖 𝓡)))

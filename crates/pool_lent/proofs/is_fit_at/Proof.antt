@@ -1,9 +1,7 @@
 -- `pool_lent::is_fit_at` meets its contract: the code takes the tests of `fitAt` in its order. Assumes nothing.
-use mathlib.Core.Path.{sym}
 use borrow.Author.Needs.{needs}
 use borrow.Author.Tests.{lt-ltb, le-ltb}
-use native.Mathlib.Omega.{arith}
-use Rattle.pool_lent.specs.Entries.{fitAt}
+use Rattle.pool_lent.specs.Decided.{fitAt}
 use Rattle.pool_lent.proofs.is_fit_at.Statement.{statement}
 use Rattle.pool_lent.proofs.is_fit_at.Tie as tie
 
@@ -21,7 +19,12 @@ returns-2 : tie.Need-returns-2
 unfolding fitAt
 returns-2 c =
     let first = c .before .before .before in
-    rw (← first .before .before .room-of .ensures, ← c .before .before .room-of2 .ensures, le-ltb _ _ (first .if1 .left), lt-ltb _ _ (c .if2 .taken))
+    rw (
+      ← first .before .before .room-of .ensures,
+      ← c .before .before .room-of2 .ensures,
+      le-ltb _ _ (first .if1 .left),
+      lt-ltb _ _ (c .if2 .taken),
+    )
 
 cast-result : tie.Need-cast-result
 cast-result c = search needs
@@ -31,7 +34,12 @@ unfolding fitAt
 returns-3 c =
     let second = c .before in
     let first = second .before .before .before in
-    rw (← first .before .before .room-of .ensures, ← second .before .before .room-of2 .ensures, le-ltb _ _ (first .if1 .left), le-ltb _ _ (second .if2 .left))
+    rw (
+      ← first .before .before .room-of .ensures,
+      ← second .before .before .room-of2 .ensures,
+      le-ltb _ _ (first .if1 .left),
+      le-ltb _ _ (second .if2 .left),
+    )
 
 pub is-fit-at-spec : {M : Type 1} → statement M
 is-fit-at-spec =

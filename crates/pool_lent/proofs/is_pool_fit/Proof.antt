@@ -19,7 +19,8 @@ use Rattle.pool.specs.Pool.{fitPool}
 use Rattle.pool.specs.declared.Counts.{Counts}
 use Rattle.pool.proofs.Counts as C
 use Rattle.pool.proofs.Counts.Laws as C′
-use Rattle.pool_lent.specs.Entries.{numbersOf, least as smaller, EndsAt, fitAt}
+use Rattle.pool_lent.specs.Entries.{numbersOf}
+use Rattle.pool_lent.specs.Decided.{least as smaller, EndsAt, fitAt}
 use Rattle.pool_lent.specs.declared.Entry.{Entry}
 use Rattle.pool_lent.proofs.Numbers.{least-within}
 use Rattle.pool_lent.proofs.Adds.{fit-is}
@@ -232,15 +233,16 @@ module _ {M : Type 1} (𝓤 : URA M) (H : Heap 𝓤) (A : Atoms 𝓤) (W : Given
       ))
       (λ κs qs bounds a g are. via 𝓤 _ (fst∗ 𝓤 _ (emp 𝓤))
       (walk 𝓤 H A W mem run (κs .0) (κs .1 .0) (qs .0) (qs .1 .0) (a .0) (a .1 .0) (a .1 .1 .0) (are .0 .0 .1) (are .1 .0 .0 .1)
-      (are .1 .1 .0)
-      (𝓣 .C) (𝓣 .Λ) (fmOf 𝓤 H (W .laws) 𝓣) known-least known-ends known-fit))
+      (are .1 .1 .0) (𝓣 .C) (𝓣 .Λ) (fmOf 𝓤 H (W .laws) 𝓣) known-least known-ends known-fit))
 
   is-pool-fit-meets : Meets 𝓤 H A is-pool-fit.signature (WpFn 𝓤 H (𝓣 .C) (𝓣 .Λ) code.function) (is-pool-fit.spec 𝓤 H A mem run)
   is-pool-fit-meets =
       walk-meets 𝓤 H A is-pool-fit.ended stayed W (
         goes-none-slice 𝓤 H A W 2 (0 ∷ []) tt (plain (λ _. u8)) yes,
-        (goes-none-slice 𝓤 H A W 2 (1 ∷ []) tt (plain (λ _. T.the-row)) yes,
-        (goes-none 𝓤 H A W 2 (λ _. C.the-row) yes (λ κs x f. refl), tt)),
+        (
+          goes-none-slice 𝓤 H A W 2 (1 ∷ []) tt (plain (λ _. T.the-row)) yes,
+          (goes-none 𝓤 H A W 2 (λ _. C.the-row) yes (λ κs x f. refl), tt),
+        ),
       )
       (is-pool-fit.clauses 𝓤 H A mem run) (WpFn 𝓤 H (𝓣 .C) (𝓣 .Λ) code.function) (WpFn-mono 𝓤 H (W .laws) 𝓣 code.function) is-pool-fit-walks
 

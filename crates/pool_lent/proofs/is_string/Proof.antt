@@ -15,7 +15,8 @@ use Rattle.pool_lent.proofs.is_string.Tie as tie
 part : (c : tie.After-least2)
     → let a = c .before .before .before .before .args in
     (c .before .least .result ≤ c .least2 .result) × (c .least2 .result ≤ length (now (a .bytes)))
-    × (take (c .least2 .result - c .before .least .result) (drop (c .before .least .result) (now (a .bytes))) ≡ take (a .len) (drop (a .start) (now (a .bytes))))
+    × (take (c .least2 .result - c .before .least .result) (drop (c .before .least .result) (now (a .bytes)))
+    ≡ take (a .len) (drop (a .start) (now (a .bytes))))
 part c =
     let a = c .before .before .before .before .args in
     clipped (now (a .bytes)) (a .start) (a .len) _ _ (c .before .least .ensures) (c .least2 .ensures)
@@ -24,7 +25,9 @@ least-requires : tie.Need-least-requires
 least-requires c κs = search needs
 
 add-least : tie.Need-add-least
-add-least c = omega (arith, c .least .ensures, least-within (c .before .before .before .args .start) (length (now (c .before .before .before .args .bytes))))
+add-least c =
+    let a = c .before .before .before .args in
+    omega (arith, c .least .ensures, least-within (a .start) (length (now (a .bytes))))
 
 least-requires-2 : tie.Need-least-requires-2
 least-requires-2 c κs = search needs
@@ -42,7 +45,9 @@ is-same-requires : tie.Need-is-same-requires
 is-same-requires c κs = search needs
 
 returns : tie.Need-returns
-returns c = c .is-same .ensures ∙ ap (λ (l : List ℕ). same l (now (c .before .before .before .before .before .before .args .string))) (part (c .before .before) .2)
+returns c =
+    let a = c .before .before .before .before .before .before .args in
+    c .is-same .ensures ∙ ap (λ (l : List ℕ). same l (now (a .string))) (part (c .before .before) .2)
 
 pub is-string-spec : {M : Type 1} → statement M
 is-string-spec =

@@ -28,11 +28,13 @@ use Rattle.pool_lent.proofs.put_entry.Statement as stated
 use Rattle.pool_lent.proofs.put_entry.Code as code
 
 abbrev stayed : Stays (put-entry.ended .signature .params) (put-entry.ended .kept)
-stayed = (stay-slice (0 ∷ []) tt (plain (λ _. T.the-row)), (stay-none (λ _. usize) yes, (stay-none (λ _. u32) yes, (stay-none
-    (λ _. u32) yes, tt))))
+stayed = (
+  stay-slice (0 ∷ []) tt (plain (λ _. T.the-row)),
+  (stay-none (λ _. usize) yes, (stay-none (λ _. u32) yes, (stay-none (λ _. u32) yes, tt))),
+)
 
-module _ {M : Type 1} (𝓤 : URA M) (H : Heap 𝓤) (A : Atoms 𝓤) (W : Given 𝓤 H A) (mem : Memory → SProp 𝓤) (run : Routine
-    → Fun 𝓤) (κ : Lft) (q : Share) (b o : ℕ) (γ : GName) (ys : List Entry) (i s n : ℕ) where
+module _ {M : Type 1} (𝓤 : URA M) (H : Heap 𝓤) (A : Atoms 𝓤) (W : Given 𝓤 H A) (mem : Memory → SProp 𝓤)
+    (run : Routine → Fun 𝓤) (κ : Lft) (q : Share) (b o : ℕ) (γ : GName) (ys : List Entry) (i s n : ℕ) where
   abbrev Arg : Type 0
   Arg = RefT (List Entry) × (ℕ × (ℕ × (ℕ × Unit {0})))
 
@@ -119,18 +121,26 @@ module _ {M : Type 1} (𝓤 : URA M) (H : Heap 𝓤) (A : Atoms 𝓤) (W : Given
   put-entry-walks : (C : Calls 𝓤 H) (Λ : Loops 𝓤 H)
       → Walks 𝓤 H A put-entry.ended stayed (WpFn 𝓤 H C Λ code.function) (put-entry.clauses 𝓤 H A mem run)
   put-entry-walks C Λ = walked 𝓤 H A put-entry.ended stayed (put-entry.clauses 𝓤 H A mem run) (WpFn 𝓤 H C Λ code.function)
-      (λ κs. (slice-vals, (uint-vals w64, (uint-vals w32, (uint-vals w32, tt))))) (λ κs. (mut-slice-tells (named 0)
-      (κs .0) T.the-row, (uint-tells w64, (uint-tells w32, (uint-tells w32, tt)))))
+      (λ κs. (slice-vals, (uint-vals w64, (uint-vals w32, (uint-vals w32, tt)))))
+      (λ κs. (
+        mut-slice-tells (named 0) (κs .0) T.the-row,
+        (uint-tells w64, (uint-tells w32, (uint-tells w32, tt))),
+      ))
       (λ κs qs bounds a g are. needs 𝓤 _ _
       (walk 𝓤 H A W mem run (κs .0) (qs .0) (a .0 .ptr .0) (a .0 .ptr .1) (a .0 .name) (a .0 .now) (a .1 .0) (a .1 .1 .0)
       (a .1 .1 .1 .0) C Λ (are .0 .0 .1) (are .1 .0 .1) (are .1 .1 .0 .1) (are .1 .1 .1 .0 .1)))
 
-put-entry-meets : {M : Type 1} (𝓤 : URA M) (H : Heap 𝓤) (A : Atoms 𝓤) → Given 𝓤 H A → (mem : Memory → SProp 𝓤) (run : Routine
-    → Fun 𝓤) (𝓣 : Tables 𝓤 H)
+put-entry-meets : {M : Type 1} (𝓤 : URA M) (H : Heap 𝓤) (A : Atoms 𝓤) → Given 𝓤 H A → (mem : Memory → SProp 𝓤)
+    (run : Routine → Fun 𝓤) (𝓣 : Tables 𝓤 H)
     → Meets 𝓤 H A put-entry.signature (WpFn 𝓤 H (𝓣 .C) (𝓣 .Λ) code.function) (put-entry.spec 𝓤 H A mem run)
 put-entry-meets 𝓤 H A W mem run 𝓣 =
-    walk-meets 𝓤 H A put-entry.ended stayed W (goes-slice 𝓤 H A W 1 0 tt (plain (λ _. T.the-row)), (goes-none 𝓤 H A W 1 (λ _. usize) yes
-    (λ κs x f. refl), (goes-none 𝓤 H A W 1 (λ _. u32) yes (λ κs x f. refl), (goes-none 𝓤 H A W 1 (λ _. u32) yes (λ κs x f. refl), tt))))
+    walk-meets 𝓤 H A put-entry.ended stayed W (
+      goes-slice 𝓤 H A W 1 0 tt (plain (λ _. T.the-row)),
+      (
+        goes-none 𝓤 H A W 1 (λ _. usize) yes (λ κs x f. refl),
+        (goes-none 𝓤 H A W 1 (λ _. u32) yes (λ κs x f. refl), (goes-none 𝓤 H A W 1 (λ _. u32) yes (λ κs x f. refl), tt)),
+      ),
+    )
     (put-entry.clauses 𝓤 H A mem run)
     (WpFn 𝓤 H (𝓣 .C) (𝓣 .Λ) code.function) (WpFn-mono 𝓤 H (W .laws) 𝓣 code.function) (put-entry-walks 𝓤 H A W mem run (𝓣 .C) (𝓣 .Λ))
 
