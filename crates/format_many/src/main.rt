@@ -1,6 +1,4 @@
 // Prints of each format string what the format program prints of it: standard input has a format string in hex on each line, `-` for no bytes.
-use libc::STDIN_FILENO;
-use libc::STDOUT_FILENO;
 
 // A format string of more bytes than this buffer has is cut, and is too long for the format program with or without them.
 fn print_line(text: &[u8], at: usize) {
@@ -19,10 +17,6 @@ fn print_lines(text: &[u8]) {
 
 fn main() {
     let mut text = lines::text_buffer();
-    let n = io::read_full(STDIN_FILENO, &mut text);
-    if n == text.len() {
-        io::write_all(STDOUT_FILENO, b"does not fit\n");
-        return;
-    }
+    let n = lines::read_input(&mut text);
     print_lines(&text[..n]);
 }

@@ -2,6 +2,7 @@
 // bytes, and prints the options and the pool. It is a library, so that the program for many format strings prints of each what the
 // program for one does.
 ghost use mathlib.Core.Path.{_≡_};
+ghost use Rattle.format.specs.Options.{alignmentNumber, representationNumber};
 use format::Alignment;
 use format::Fill;
 use format::Given;
@@ -16,7 +17,9 @@ use pool::Counts;
 const TEXT_MOST: usize = 1024;
 
 // `StringAlignment as u8`
-fn alignment_number(alignment: Alignment) -> u64 {
+pub fn alignment_number(alignment: Alignment) -> u32
+    ensures { λ r. ⌜ r ≡ alignmentNumber alignment ⌝ }
+{
     match alignment {
         Alignment::Default => 0,
         Alignment::Left => 1,
@@ -26,7 +29,9 @@ fn alignment_number(alignment: Alignment) -> u64 {
 }
 
 // `StringFormatRepresentation as u8`
-fn representation_number(representation: Representation) -> u64 {
+pub fn representation_number(representation: Representation) -> u32
+    ensures { λ r. ⌜ r ≡ representationNumber representation ⌝ }
+{
     match representation {
         Representation::Debug => 0,
         Representation::HexLower => 1,
@@ -58,7 +63,7 @@ fn print_given(given: Given) {
 
 fn print_shown(shown: Shown) {
     match shown {
-        Shown::As(representation) => print_number(representation_number(representation)),
+        Shown::As(representation) => print_number(representation_number(representation) as u64),
         Shown::Plain => print_none(),
     }
 }
@@ -84,7 +89,7 @@ fn print_options(options: Options, index: Given) {
     let representation = options.representation;
     let fill = options.fill;
     io::write_all(STDOUT_FILENO, b"options");
-    print_number(alignment_number(alignment));
+    print_number(alignment_number(alignment) as u64);
     print_given(width);
     print_given(precision);
     print_shown(representation);

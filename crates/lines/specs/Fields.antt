@@ -39,6 +39,11 @@ numberFrom v (b ∷ rest) = pick (ltb (digitOf b) 10) (pick (ltb v more) (number
 unfoldable pub sameAt : List ℕ → ℕ → ℕ → ℕ
 sameAt s at v = pick (eqb at 0) 0 (pick (eqb (numberFrom 0 (drop at s)) v) (pastFrom 32 at (drop at s)) 0)
 
+-- the place after the fields at a place, where they have these values; 0 where one differs
+abbrev pub sameAll : List ℕ → ℕ → List ℕ → ℕ
+sameAll s at [] = at
+sameAll s at (v ∷ values) = sameAll s (sameAt s at v) values
+
 -- the byte that the two hex digits at a place say; 256 where there are no two
 unfoldable pub pairAt : List ℕ → ℕ → ℕ
 pairAt s at = pick (ltb (digitAt s at) 16) (pick (ltb (digitAt s (at + 1)) 16) (16 * digitAt s at + digitAt s (at + 1)) 256) 256

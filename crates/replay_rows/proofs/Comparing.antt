@@ -13,13 +13,14 @@ use native.Mathlib.Omega.{arith}
 use lib.ListN.{length, drop, getD, drop-of-length-le}
 use lib.Seq.{drop-cons}
 use borrow.Author.Tests.{eq-eqb, ne-eqb, lt-ltb, le-ltb}
+use Rattle.lines.specs.Fields.{sameAll}
 use Rattle.token.specs.Row.{room, rowWords, shownAt}
 use Rattle.token.specs.declared.rows.Row.{Row}
 use Rattle.token.specs.declared.rows.RowAt.{RowAt}
 use Rattle.token.specs.declared.rows.RowAt.the-variants.{Fit, Unfit}
 use Rattle.reading.specs.Scan.{countOf}
 use Rattle.reading.specs.declared.Scanned.{Scanned}
-use Rattle.replay_rows.specs.Rows.{mark, allMarks, answerOf, nineOf, sameAll, sameRow, sameRows, agreesAt}
+use Rattle.replay_rows.specs.Rows.{mark, allMarks, answerOf, nineOf, sameRow, sameRows, agreesAt}
 
 module _ (s : List ℕ) (i : ℕ) where
   -- the number at i stands in front

@@ -7,7 +7,7 @@ use mathlib.Core.List.{List, [], _∷_}
 use lib.Dec.{eqb, ltb}
 use lib.ListN.{drop}
 use Rattle.base.specs.Pick.{pick}
-use Rattle.lines.specs.Fields.{sameAt}
+use Rattle.lines.specs.Fields.{sameAll}
 use Rattle.token.specs.Row.{room, rowWords, shownAt}
 use Rattle.token.specs.declared.rows.Row.{Row}
 use Rattle.token.specs.declared.rows.RowAt.{RowAt}
@@ -53,12 +53,7 @@ nineOf r =
     ∷ r .indent
     ∷ []
 
--- the place after the fields at a place, where they have these values; 0 where one differs
-abbrev pub sameAll : List ℕ → ℕ → List ℕ → ℕ
-sameAll text at [] = at
-sameAll text at (v ∷ values) = sameAll text (sameAt text at v) values
-
--- the same of a record, if it may be shown
+-- the place after a record's fields, where one may be shown and they have its values; 0 where one differs
 abbrev pub sameShown : List ℕ → ℕ → RowAt → ℕ
 sameShown text at (Fit row) = sameAll text at (nineOf row)
 sameShown text at Unfit = 0

@@ -2,6 +2,8 @@
 // answers has, `STATUS COUNT BYTE` and the nine numbers of each record (tools/README.md). It knows nothing of how a scan comes about.
 use lines::same;
 use reading::Scanned;
+use scan::answer::count_of;
+use scan::answer::place_of;
 use token::rows;
 use token::rows::Row;
 use token::rows::RowAt;
@@ -9,8 +11,8 @@ ghost use mathlib.Core.Path.{_≡_};
 ghost use Prim.Native.Nat.{_≤_, _<_};
 ghost use lib.ListN.{length, drop, replicate};
 ghost use Rattle.token.specs.Row.{room};
-ghost use Rattle.reading.specs.Scan.{countOf, placeOf};
-ghost use Rattle.replay_rows.specs.Rows.{mark, allMarks, statusOf, answerOf, nineOf, sameAll, sameRow, sameRows, agreesAt};
+ghost use Rattle.lines.specs.Fields.{sameAll};
+ghost use Rattle.replay_rows.specs.Rows.{mark, allMarks, statusOf, answerOf, nineOf, sameRow, sameRows, agreesAt};
 
 // What stands in a list before a scan. As a record it would have kind 112, so no scan writes it.
 const MARK: u32 = 0xa5a5_a5f0;
@@ -55,38 +57,8 @@ fn status_of(said: Scanned) -> usize
     }
 }
 
-// How many records were written.
-fn count_of(said: Scanned) -> usize
-    ensures { λ r. ⌜ r ≡ countOf said ⌝ }
-{
-    match said {
-        Scanned::End { count, byte: _ } => count,
-        Scanned::Stuck { count, byte: _ } => count,
-        Scanned::TooLong => 0,
-        Scanned::BadTable(_) => 0,
-        Scanned::BadUtf8(_) => 0,
-        Scanned::ListFull { count, byte: _ } => count,
-        Scanned::ModesFull { count, byte: _ } => count,
-    }
-}
-
-// The current byte, or a refusal's place.
-fn place_of(said: Scanned) -> usize
-    ensures { λ r. ⌜ r ≡ placeOf said ⌝ }
-{
-    match said {
-        Scanned::End { count: _, byte } => byte,
-        Scanned::Stuck { count: _, byte } => byte,
-        Scanned::TooLong => 0,
-        Scanned::BadTable(place) => place,
-        Scanned::BadUtf8(place) => place,
-        Scanned::ListFull { count: _, byte } => byte,
-        Scanned::ModesFull { count: _, byte } => byte,
-    }
-}
-
 // The nine numbers of a record; answers the place after them, or 0 where one differs.
-fn same_fields(text: &[u8], at: usize, row: Row) -> usize
+pub fn same_fields(text: &[u8], at: usize, row: Row) -> usize
     ensures { λ r. ⌜ r ≡ sameAll (now (text .entry)) at (nineOf row) ⌝ }
 {
     let at = same(text, at, row.kind as usize);

@@ -81,20 +81,6 @@ fn row_of(file: &[u8], count: usize) -> [u32; ROOM]
     row
 }
 
-fn same(a: &[u32], b: &[u32]) -> bool {
-    if a.len() != b.len() {
-        return false;
-    }
-    let mut i = 0;
-    while i < a.len() {
-        if a[i] != b[i] {
-            return false;
-        }
-        i += 1;
-    }
-    true
-}
-
 fn file_agrees(case: Case, said: TableFile) -> bool {
     match said {
         TableFile::Read(count) => case.number == 0 && case.place == 0 && case.count == count,
@@ -142,7 +128,7 @@ fn agrees(text: &[u8], at: usize) -> bool {
     if !read_agrees(case, &bytes[..n], &mut row) {
         return false;
     }
-    if !same(&row, &row_of(&bytes[..n], case.count)) {
+    if !lines::same_numbers(&row, &row_of(&bytes[..n], case.count)) {
         return false;
     }
     table_agrees(case, &bytes[..n])

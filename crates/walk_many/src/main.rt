@@ -1,7 +1,5 @@
 // Prints of each walk what the walk program prints of it: standard input has the line of calls and the source of a walk on each line, both in
 // hex, `-` for no bytes, with a space between them.
-use libc::STDIN_FILENO;
-use libc::STDOUT_FILENO;
 
 // Calls or a source of more bytes than these buffers have are cut, and are too long for the walk program with or without them.
 fn print_line(text: &[u8], at: usize) {
@@ -22,10 +20,6 @@ fn print_lines(text: &[u8]) {
 
 fn main() {
     let mut text = lines::text_buffer();
-    let n = io::read_full(STDIN_FILENO, &mut text);
-    if n == text.len() {
-        io::write_all(STDOUT_FILENO, b"does not fit\n");
-        return;
-    }
+    let n = lines::read_input(&mut text);
     print_lines(&text[..n]);
 }

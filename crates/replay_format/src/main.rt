@@ -1,0 +1,103 @@
+// Replays recorded answers of the Rust with its real Unicode crates to format strings (data/formats.txt; tools/README.md says how it was
+// made), with the full table, over pools of any room that hold some strings already: the answer, the counts, and every byte and number of the
+// rows. Then a file with one wrong line, so that a difference is seen to be reported.
+mod answers;
+mod pools;
+
+ghost use mathlib.Core.Path.{_≡_};
+ghost use lib.ListN.{length, replicate};
+
+// Zeros, one more than a format string may have bytes, so that one too many is seen. The length, which follows, is what lending them as a
+// slice asks.
+fn format_buffer() -> [u8; 65536]
+    ensures { λ r. ⌜ r ≡ replicate 65536 0 ⌝ }
+    ensures { λ r. ⌜ 65536 ≡ length r ⌝ }
+{
+    [0; 65536]
+}
+
+// Parses with so many numbers of the row of entries, so much room for bytes and the pool that is in the rows, and compares what is said and
+// left with what follows that pool in the line.
+fn parse_agrees(
+    text: &[u8],
+    format: &[u8],
+    table: &[u32],
+    bytes: &mut [u8],
+    entries: &mut [u32],
+    numbers: usize,
+    room: usize,
+    pool: pools::Loaded,
+) -> bool {
+    if entries.len() < numbers {
+        return false;
+    }
+    if bytes.len() < room {
+        return false;
+    }
+    let before = pool.counts;
+    let after = parse::parse(
+        format,
+        table,
+        &mut bytes[..room],
+        &mut entries[..numbers],
+        before,
+    );
+    let answer = after.answer;
+    let counts = after.counts;
+    let at = answers::same_answer(text, pool.at, answer);
+    pools::agrees(text, at, bytes, entries, counts)
+}
+
+// Whether the fields `NUMBERS BYTES POOL ANSWER POOL` at a place of the text are what the parse of a format string says and leaves.
+fn format_agrees(text: &[u8], at: usize, format: &[u8], table: &[u32]) -> bool {
+    let bytes_at = lines::past(text, at, b' ');
+    let pool_at = lines::past(text, bytes_at, b' ');
+    let mut bytes = pools::byte_row();
+    let mut entries = pools::entry_row();
+    let pool = pools::load(text, pool_at, &mut bytes, &mut entries);
+    parse_agrees(
+        text,
+        format,
+        table,
+        &mut bytes,
+        &mut entries,
+        lines::number(text, at),
+        lines::number(text, bytes_at),
+        pool,
+    )
+}
+
+// Whether the line `HEX NUMBERS BYTES POOL ANSWER POOL` at a place of the text is what the parse says and leaves.
+fn agrees(text: &[u8], at: usize, table: &[u32]) -> bool {
+    let mut format = format_buffer();
+    let n = lines::hex(text, at, &mut format);
+    format_agrees(text, lines::past(text, at, b' '), &format[..n], table)
+}
+
+fn replay_lines(name: &[u8], text: &[u8], table: &[u32]) {
+    let mut tally = lines::Tally::new();
+    while tally.at < text.len() {
+        tally = tally.count(name, text, agrees(text, tally.at, table));
+    }
+    tally.print(name);
+}
+
+fn replay(name: &[u8], table: &[u32]) {
+    let mut text = lines::text_buffer();
+    let n = lines::read_file(name, &mut text);
+    replay_lines(name, &text[..n], table);
+}
+
+fn replay_both(table: &[u32]) {
+    replay(b"formats.txt", table);
+    replay(b"wrong.txt", table);
+}
+
+fn main() {
+    let mut row = tables::row_buffer();
+    let n = tables::full_table(b"full.kpt", &mut row);
+    if n == 0 {
+        return;
+    }
+    replay_both(&row[..n]);
+}
