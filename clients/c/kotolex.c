@@ -1,0 +1,221 @@
+/* kotolex: lists the tokens of a Koto script, by libkoto_lexer.a.
+ *
+ * It prints what the list program koto_list prints, for scripts of up to 1 MiB and with the full property table, and has an exit status of
+ * its own for each kind of failure.
+ */
+#include <stdbool.h>
+#include <stdint.h>
+#include <stdio.h>
+#include <stdlib.h>
+#include <string.h>
+#include <unistd.h>
+
+#include "koto_lexer.h"
+
+/* Exit statuses. */
+enum {
+    FINE = 0,
+    SCAN_REFUSED = 1,
+    BAD_USAGE = 2,
+    NO_SCRIPT = 3,
+    NO_TABLE = 4,
+    TABLE_REFUSED = 5,
+    NO_MEMORY = 6,
+    NO_OUTPUT = 7
+};
+
+/* The table's file, from the folder of the program. */
+#define TABLE_FILE "data/full.kpt"
+
+/* One byte more than the longest file that is read: a longer one is cut here, and then it is refused. */
+#define SCRIPT_ROOM ((size_t)KOTO_SOURCE_MOST + 1)
+/* A table file has 8 bytes and a count of 16 bits of numbers. */
+#define TABLE_FILE_ROOM ((size_t)8 + 4 * 65535 + 1)
+
+#define PATH_ROOM 4096
+
+static const char HELP[] =
+    "usage: kotolex FILE [--table FILE]\n"
+    "\n"
+    "Lists the tokens of a Koto script of at most 1,048,576 bytes, one on a line, by nine numbers: kind, detail, the bytes where it starts\n"
+    "and ends, the line and column where it starts, those where it ends, the indent of its line. Last comes how the scan ended: end or\n"
+    "stuck with the count of tokens and the current byte, or refused with the refusal's number and place.\n"
+    "\n"
+    "  --table FILE   the property table; without it, " TABLE_FILE " beside the program\n"
+    "  --help         this text\n"
+    "\n"
+    "exit status: 0 end or stuck, 1 the scan was refused, 2 bad usage, 3 the script can't be read, 4 the table can't be read,\n"
+    "             5 the table's file was refused, 6 no memory, 7 the output can't be written\n";
+
+typedef struct {
+    const char *script;
+    const char *table;
+    bool help;
+} options;
+
+typedef struct {
+    uint8_t *at;
+    size_t len;
+} bytes;
+
+typedef struct {
+    uint32_t *at;
+    size_t len;
+} words;
+
+static int fail(int status, const char *what, const char *name) {
+    fprintf(stderr, "kotolex: %s%s%s\n", what, name[0] == '\0' ? "" : ": ", name);
+    return status;
+}
+
+/* Reads the words of the command line. False for a line that is not as the help says. */
+static bool read_options(int argc, char **argv, options *to) {
+    for (int i = 1; i < argc; i++) {
+        if (strcmp(argv[i], "--help") == 0) {
+            to->help = true;
+        } else if (strcmp(argv[i], "--table") == 0) {
+            i++;
+            if (i == argc || to->table != NULL) {
+                return false;
+            }
+            to->table = argv[i];
+        } else if (argv[i][0] == '-' || to->script != NULL) {
+            return false;
+        } else {
+            to->script = argv[i];
+        }
+    }
+    return to->help || to->script != NULL;
+}
+
+/* The path of the table's file beside the program. False if it can't be told. */
+static bool path_beside(const char *program, char *path, size_t room) {
+    char self[PATH_ROOM];
+    /* A program found by the shell's search is called by its name alone. */
+    if (strchr(program, '/') == NULL) {
+        ssize_t len = readlink("/proc/self/exe", self, sizeof self - 1);
+        if (len < 0) {
+            return false;
+        }
+        self[len] = '\0';
+        program = self;
+    }
+    const char *last = strrchr(program, '/');
+    if (last == NULL) {
+        return false;
+    }
+    int folder = (int)(last - program);
+    int len = snprintf(path, room, "%.*s/%s", folder, program, TABLE_FILE);
+    return 0 < len && (size_t)len < room;
+}
+
+/* Reads a file, at most `room` bytes of it. `failed` is the status for a file that can't be read. */
+static int read_file(const char *path, size_t room, int failed, bytes *to) {
+    to->at = malloc(room);
+    if (to->at == NULL) {
+        return fail(NO_MEMORY, "no memory for the file", path);
+    }
+    FILE *file = fopen(path, "rb");
+    if (file == NULL) {
+        return fail(failed, "can't open", path);
+    }
+    to->len = fread(to->at, 1, room, file);
+    bool whole = ferror(file) == 0;
+    fclose(file);
+    return whole ? FINE : fail(failed, "can't read", path);
+}
+
+static int print_refused(uint32_t number, size_t place, int status) {
+    printf("refused %u %zu\n", (unsigned)number, place);
+    return status;
+}
+
+/* Reads the property table. */
+static int read_table(const char *path, words *to) {
+    bytes file = {NULL, 0};
+    int status = read_file(path, TABLE_FILE_ROOM, NO_TABLE, &file);
+    to->at = status == FINE ? calloc(KOTO_TABLE_MOST, sizeof *to->at) : NULL;
+    if (status == FINE && to->at == NULL) {
+        status = fail(NO_MEMORY, "no memory for the table", "");
+    }
+    if (status == FINE) {
+        size_t place;
+        uint32_t refused = koto_read_table(file.at, file.len, to->at, KOTO_TABLE_MOST, &to->len, &place);
+        status = refused == 0 ? FINE : print_refused(refused, place, TABLE_REFUSED);
+    }
+    free(file.at);
+    return status;
+}
+
+static void print_record(const koto_record *r) {
+    printf("%u %u %u %u %u %u %u %u %u\n", (unsigned)r->kind, (unsigned)r->detail, (unsigned)r->start, (unsigned)r->end,
+           (unsigned)r->start_line, (unsigned)r->start_column, (unsigned)r->end_line, (unsigned)r->end_column, (unsigned)r->indent);
+}
+
+/* Prints the records of a list. It is walked as one that ends, whatever the scan's status is, so that each record comes once. */
+static void print_records(words list, size_t count) {
+    size_t taken = 0, queued = 0, place;
+    uint32_t shown;
+    koto_record record;
+    while (koto_next(list.at, list.len, &taken, &queued, count, KOTO_END, &shown, &record, &place) == 0 && shown == 1) {
+        print_record(&record);
+    }
+}
+
+/* Scans the script and prints what was written and how it ended. */
+static int list_tokens(bytes script, words table) {
+    /* A script of n bytes has at most n + n/3 records (docs/PROMISES.md, `never-full`). */
+    words list = {NULL, KOTO_RECORD_WORDS * (script.len + script.len / 3)};
+    /* malloc may answer a request for nothing by nothing. */
+    list.at = malloc((list.len + 1) * sizeof *list.at);
+    if (list.at == NULL) {
+        return fail(NO_MEMORY, "no memory for the list", "");
+    }
+    uint32_t end;
+    size_t count, byte;
+    uint32_t refused = koto_scan(script.at, script.len, table.at, table.len, list.at, list.len, &end, &count, &byte);
+    print_records(list, count);
+    free(list.at);
+    if (refused != 0) {
+        return print_refused(refused, byte, SCAN_REFUSED);
+    }
+    printf("%s %zu %zu\n", end == KOTO_STUCK ? "stuck" : "end", count, byte);
+    return FINE;
+}
+
+static int run(const options *asked, const char *program) {
+    char beside[PATH_ROOM];
+    if (asked->table == NULL && !path_beside(program, beside, sizeof beside)) {
+        return fail(NO_TABLE, "where is the table? --table FILE says it", "");
+    }
+    bytes script = {NULL, 0};
+    words table = {NULL, 0};
+    int status = read_file(asked->script, SCRIPT_ROOM, NO_SCRIPT, &script);
+    if (status == FINE) {
+        status = read_table(asked->table != NULL ? asked->table : beside, &table);
+    }
+    if (status == FINE) {
+        status = list_tokens(script, table);
+    }
+    free(script.at);
+    free(table.at);
+    return status;
+}
+
+int main(int argc, char **argv) {
+    options asked = {NULL, NULL, false};
+    int status = FINE;
+    if (!read_options(argc, argv, &asked)) {
+        fputs(HELP, stderr);
+        return BAD_USAGE;
+    }
+    if (asked.help) {
+        fputs(HELP, stdout);
+    } else {
+        status = run(&asked, argv[0]);
+    }
+    if (fflush(stdout) != 0 || ferror(stdout) != 0) {
+        return fail(NO_OUTPUT, "the output can't be written", "");
+    }
+    return status;
+}

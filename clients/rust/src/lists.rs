@@ -1,0 +1,190 @@
+//! A source scanned into a list of records, and a cursor over that list.
+
+use crate::raw::{self, Record};
+
+/// The numbers of a record in a list
+pub const RECORD_WORDS: usize = 8;
+
+/// How a scan ended that wrote a list
+#[derive(Clone, Copy, Debug, PartialEq, Eq)]
+pub enum Status {
+    /// After the last record nothing comes.
+    End,
+    /// The last record comes for ever.
+    Stuck,
+}
+
+/// What a scan answers: the count of records written and the current byte, or a refusal with its place
+#[derive(Clone, Copy, Debug, PartialEq, Eq)]
+pub enum Scanned {
+    End {
+        count: usize,
+        byte: usize,
+    },
+    Stuck {
+        count: usize,
+        byte: usize,
+    },
+    /// Refusal 1
+    TooLong,
+    /// Refusal 2
+    BadTable(usize),
+    /// Refusal 3
+    BadUtf8(usize),
+    /// Refusal 4, after so many records
+    ListFull {
+        count: usize,
+        byte: usize,
+    },
+    /// Refusal 5, after so many records
+    ModesFull {
+        count: usize,
+        byte: usize,
+    },
+}
+
+/// Where a user of a list stands
+#[derive(Clone, Copy, Debug, PartialEq, Eq)]
+pub struct Cursor {
+    pub taken: usize,
+    pub queued: usize,
+    pub count: usize,
+    pub status: Status,
+}
+
+/// What `next` answers. A refusal leaves the cursor.
+#[derive(Clone, Copy, Debug, PartialEq, Eq)]
+pub enum Given {
+    Token(Record),
+    /// All tokens are taken.
+    Nothing,
+    /// Refusal 8
+    BadState,
+    /// Refusal 9, with the record's index
+    BadRecord(usize),
+}
+
+/// What `peek` answers. A refusal leaves the cursor.
+#[derive(Clone, Copy, Debug, PartialEq, Eq)]
+pub enum Peeked {
+    Token(Record),
+    /// No token n is queued.
+    Nothing,
+    /// Refusal 8
+    BadState,
+    /// Refusal 6
+    PeekTooFar,
+    /// Refusal 7
+    QueueFull,
+    /// Refusal 9, with the record's index
+    BadRecord(usize),
+}
+
+/// The numbers of a list that has room for every source of so many bytes (docs/PROMISES.md)
+pub const fn room_for(source_len: usize) -> usize {
+    RECORD_WORDS * (source_len + source_len / 3)
+}
+
+/// Writes the records of a source at the start of the list.
+pub fn scan(source: &[u8], table: &[u32], list: &mut [u32]) -> Scanned {
+    let (mut status, mut count, mut byte) = (0, 0, 0);
+    // SAFETY: the slices are lent for the call, the list to be written, and each answer word is a local.
+    let refused = unsafe {
+        raw::koto_scan(
+            source.as_ptr(),
+            source.len(),
+            table.as_ptr(),
+            table.len(),
+            list.as_mut_ptr(),
+            list.len(),
+            &mut status,
+            &mut count,
+            &mut byte,
+        )
+    };
+    match refused {
+        0 if status == raw::STUCK => Scanned::Stuck { count, byte },
+        0 => Scanned::End { count, byte },
+        1 => Scanned::TooLong,
+        2 => Scanned::BadTable(byte),
+        3 => Scanned::BadUtf8(byte),
+        4 => Scanned::ListFull { count, byte },
+        _ => Scanned::ModesFull { count, byte },
+    }
+}
+
+impl Scanned {
+    /// A cursor before the first record; none after a refusal
+    pub fn cursor(self) -> Option<Cursor> {
+        let (count, status) = match self {
+            Scanned::End { count, .. } => (count, Status::End),
+            Scanned::Stuck { count, .. } => (count, Status::Stuck),
+            _ => return None,
+        };
+        Some(Cursor { taken: 0, queued: 0, count, status })
+    }
+}
+
+impl Status {
+    fn number(self) -> u32 {
+        match self {
+            Status::End => raw::END,
+            Status::Stuck => raw::STUCK,
+        }
+    }
+}
+
+/// Hands out the next token.
+pub fn next(list: &[u32], cursor: &mut Cursor) -> Given {
+    let (mut shown, mut record, mut place) = (0, Record::default(), 0);
+    let status = cursor.status.number();
+    // SAFETY: the list is lent for the call, and each answer word is a local or the cursor's.
+    let refused = unsafe {
+        raw::koto_next(
+            list.as_ptr(),
+            list.len(),
+            &mut cursor.taken,
+            &mut cursor.queued,
+            cursor.count,
+            status,
+            &mut shown,
+            &mut record,
+            &mut place,
+        )
+    };
+    match refused {
+        0 if shown == 1 => Given::Token(record),
+        0 => Given::Nothing,
+        8 => Given::BadState,
+        _ => Given::BadRecord(place),
+    }
+}
+
+/// Shows queued token n, and queues one more before, as koto's `peek` does.
+pub fn peek(list: &[u32], cursor: &mut Cursor, n: usize) -> Peeked {
+    let (mut shown, mut record, mut place) = (0, Record::default(), 0);
+    let status = cursor.status.number();
+    // SAFETY: as in `next`
+    let refused = unsafe {
+        raw::koto_peek(
+            list.as_ptr(),
+            list.len(),
+            cursor.taken,
+            &mut cursor.queued,
+            cursor.count,
+            status,
+            n,
+            &mut shown,
+            &mut record,
+            &mut place,
+        )
+    };
+    match refused {
+        0 if shown == 1 => Peeked::Token(record),
+        0 => Peeked::Nothing,
+        6 => Peeked::PeekTooFar,
+        7 => Peeked::QueueFull,
+        8 => Peeked::BadState,
+        _ => Peeked::BadRecord(place),
+    }
+}

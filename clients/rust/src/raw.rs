@@ -1,0 +1,136 @@
+//! The calls of the static library, as include/koto_lexer.h has them.
+
+/// Where a string of a pool starts in its row of bytes, and how long it is
+#[repr(C)]
+#[derive(Clone, Copy, Debug, Default, PartialEq, Eq)]
+pub struct Entry {
+    pub start: u32,
+    pub len: u32,
+}
+
+/// How many entries and how many bytes of a pool are in use
+#[repr(C)]
+#[derive(Clone, Copy, Debug, Default, PartialEq, Eq)]
+pub struct Counts {
+    pub entries: u32,
+    pub bytes: u32,
+}
+
+/// A record that is shown
+#[repr(C)]
+#[derive(Clone, Copy, Debug, Default, PartialEq, Eq)]
+pub struct Record {
+    pub kind: u32,
+    pub detail: u32,
+    pub start: u32,
+    pub end: u32,
+    pub start_line: u32,
+    pub start_column: u32,
+    pub end_line: u32,
+    pub end_column: u32,
+    pub indent: u32,
+}
+
+/// The options of a format string; [`NONE`] for no number
+#[repr(C)]
+#[derive(Clone, Copy, Debug, Default, PartialEq, Eq)]
+pub struct Options {
+    pub alignment: u64,
+    pub width: u64,
+    pub precision: u64,
+    pub representation: u64,
+    pub fill_place: u64,
+    pub fill_len: u64,
+    pub fill_index: u64,
+}
+
+pub const NONE: u64 = u64::MAX;
+pub const END: u32 = 0;
+pub const STUCK: u32 = 1;
+
+extern "C" {
+    pub fn koto_read_char(
+        bytes: *const u8,
+        bytes_len: usize,
+        at: usize,
+        code: *mut u32,
+        len: *mut usize,
+        cut: *mut u32,
+    ) -> u32;
+    pub fn koto_check_utf8(bytes: *const u8, bytes_len: usize, place: *mut usize, cut: *mut u32) -> u32;
+    pub fn koto_check_table(table: *const u32, table_len: usize, place: *mut usize) -> u32;
+    pub fn koto_read_table(
+        file: *const u8,
+        file_len: usize,
+        row: *mut u32,
+        row_len: usize,
+        count: *mut usize,
+        place: *mut usize,
+    ) -> u32;
+    pub fn koto_first_cluster(
+        source: *const u8,
+        source_len: usize,
+        table: *const u32,
+        table_len: usize,
+        len: *mut usize,
+        place: *mut usize,
+    ) -> u32;
+    pub fn koto_scan(
+        source: *const u8,
+        source_len: usize,
+        table: *const u32,
+        table_len: usize,
+        list: *mut u32,
+        list_len: usize,
+        status: *mut u32,
+        count: *mut usize,
+        byte: *mut usize,
+    ) -> u32;
+    pub fn koto_next(
+        list: *const u32,
+        list_len: usize,
+        taken: *mut usize,
+        queued: *mut usize,
+        count: usize,
+        status: u32,
+        shown: *mut u32,
+        record: *mut Record,
+        place: *mut usize,
+    ) -> u32;
+    pub fn koto_peek(
+        list: *const u32,
+        list_len: usize,
+        taken: usize,
+        queued: *mut usize,
+        count: usize,
+        status: u32,
+        n: usize,
+        shown: *mut u32,
+        record: *mut Record,
+        place: *mut usize,
+    ) -> u32;
+    pub fn koto_add_string(
+        string: *const u8,
+        string_len: usize,
+        bytes: *mut u8,
+        bytes_len: usize,
+        entries: *mut Entry,
+        entries_len: usize,
+        counts: *mut Counts,
+        index: *mut u32,
+        place: *mut usize,
+    ) -> u32;
+    pub fn koto_parse(
+        format: *const u8,
+        format_len: usize,
+        table: *const u32,
+        table_len: usize,
+        bytes: *mut u8,
+        bytes_len: usize,
+        entries: *mut Entry,
+        entries_len: usize,
+        counts: *mut Counts,
+        options: *mut Options,
+        value: *mut u64,
+    ) -> u32;
+}

@@ -1,0 +1,173 @@
+//! Document 01's scripts, look-ahead, and each refusal of the calls without a pool.
+
+mod common;
+
+use common::{full_table, records};
+use koto_lexer::*;
+
+fn end(count: usize, byte: usize) -> Scanned {
+    Scanned::End { count, byte }
+}
+
+#[test]
+fn scripts_of_document_01() {
+    assert_eq!(records(b""), (vec![], end(0, 0)));
+    assert_eq!(records(b"\r"), (vec![[0, 0, 0, 0]], Scanned::Stuck { count: 1, byte: 0 }));
+    assert_eq!(records(b"#-#"), (vec![[4, 0, 0, 3]], end(1, 3)));
+    assert_eq!(records(b"#- #-#"), (vec![[0, 0, 0, 6]], end(1, 6)));
+    assert_eq!(records(b"r\"\""), (vec![[7, 2, 0, 2], [9, 0, 2, 2], [8, 0, 2, 3]], end(3, 3)));
+    assert_eq!(records(b"else iffy"), (vec![[54, 0, 0, 7], [6, 0, 7, 9]], end(2, 9)));
+    assert_eq!(records(b"x.if").0.last(), Some(&[6, 0, 2, 4]));
+    assert_eq!(records(b"x.else").0.last(), Some(&[53, 0, 2, 6]));
+    assert_eq!(records("\u{6F22}\u{5B57}".as_bytes()), (vec![[6, 0, 0, 6]], end(1, 6)));
+    assert_eq!(records("\u{20AC}".as_bytes()), (vec![[0, 0, 0, 1]], end(1, 1)));
+    assert_eq!(records(b"'{x:}>'").1, Scanned::Stuck { count: 5, byte: 4 });
+}
+
+#[test]
+fn hashes_of_raw_strings() {
+    let script = |n: usize| format!("r{0}'x'{0}", "#".repeat(n)).into_bytes();
+    assert_eq!(records(&script(255)).0[0], [7, 3 + 2 * 255, 0, 257]);
+    assert_eq!(records(&script(256)).0[0], [6, 0, 0, 1]);
+}
+
+#[test]
+fn the_list_programs_example() {
+    let (shown, scanned) = records(b"'{n:}' #-#\n");
+    let kinds: Vec<u32> = shown.iter().map(|r| r[0]).collect();
+    assert_eq!((kinds, scanned), (vec![7, 20, 6, 11, 9, 21, 8, 1, 4, 2], end(10, 11)));
+}
+
+#[test]
+fn a_record_has_its_lines_columns_and_indent() {
+    let source = "a\n  \u{6F22}\u{6F22}".as_bytes();
+    let mut list = vec![0; room_for(source.len())];
+    let mut cursor = scan(source, &full_table(), &mut list).cursor().unwrap();
+    cursor.taken = 3;
+    let wanted = Record {
+        kind: 6,
+        detail: 0,
+        start: 4,
+        end: 10,
+        start_line: 1,
+        start_column: 2,
+        end_line: 1,
+        end_column: 5,
+        indent: 2,
+    };
+    assert_eq!(next(&list, &mut cursor), Given::Token(wanted));
+}
+
+#[test]
+fn refusals_of_a_scan() {
+    let table = full_table();
+    let mut list = [7; 24];
+    assert_eq!(scan(&vec![b'a'; SOURCE_MOST + 1], &table, &mut list), Scanned::TooLong);
+    assert_eq!(scan(b"a", &[], &mut list), Scanned::BadTable(0));
+    assert_eq!(scan(b"a", &[48, 48], &mut list), Scanned::BadTable(1));
+    assert_eq!(scan(b"ab\xFF", &table, &mut list), Scanned::BadUtf8(2));
+    assert_eq!(list, [7; 24]);
+    assert_eq!(scan(b"a b c", &table, &mut list), Scanned::ListFull { count: 3, byte: 3 });
+    let deep = b"'{".repeat(32);
+    let mut list = vec![0; room_for(65)];
+    assert_eq!(scan(&deep, &table, &mut list), end(64, 64));
+    assert_eq!(scan(&[&deep[..], b"'"].concat(), &table, &mut list), Scanned::ModesFull { count: 64, byte: 64 });
+}
+
+#[test]
+fn a_scan_of_one_mebibyte() {
+    let source = vec![b'a'; SOURCE_MOST];
+    assert_eq!(records(&source), (vec![[6, 0, 0, SOURCE_MOST as u32]], end(1, SOURCE_MOST)));
+    let most = [b"'".as_slice(), &b"{:}".repeat(SOURCE_MOST / 3)].concat();
+    assert_eq!(records(&most).1, end(1 + 4 * (SOURCE_MOST / 3), SOURCE_MOST));
+}
+
+#[test]
+fn next_to_the_end() {
+    let mut list = [0; 64];
+    let mut cursor = scan(b"a b", &full_table(), &mut list).cursor().unwrap();
+    for taken in 1..=3 {
+        assert!(matches!(next(&list, &mut cursor), Given::Token(_)));
+        assert_eq!(cursor.taken, taken);
+    }
+    assert_eq!(next(&list, &mut cursor), Given::Nothing);
+    assert_eq!(cursor.taken, 3);
+}
+
+#[test]
+fn peek_as_koto_does() {
+    let mut list = [0; 64];
+    let mut cursor = scan(b"a b", &full_table(), &mut list).cursor().unwrap();
+    // On an empty queue `peek(1)` queues nothing (docs/DIFFERENCES.md).
+    assert_eq!((peek(&list, &mut cursor, 1), cursor.queued), (Peeked::Nothing, 0));
+    assert!(matches!(peek(&list, &mut cursor, 0), Peeked::Token(Record { kind: 6, start: 0, .. })));
+    assert!(matches!(peek(&list, &mut cursor, 1), Peeked::Token(Record { kind: 1, start: 1, .. })));
+    assert_eq!(cursor.queued, 2);
+    assert!(matches!(next(&list, &mut cursor), Given::Token(Record { kind: 6, start: 0, .. })));
+    assert_eq!((cursor.taken, cursor.queued), (1, 1));
+}
+
+#[test]
+fn refusals_of_a_cursor() {
+    let mut list = [0; 64];
+    let fit = scan(b"a b", &full_table(), &mut list).cursor().unwrap();
+    for unfit in [
+        Cursor { count: 9, ..fit },
+        Cursor { taken: 4, ..fit },
+        Cursor { queued: 4, ..fit },
+        Cursor { taken: 3, status: Status::Stuck, ..fit },
+        Cursor { queued: QUEUE_MOST + 1, status: Status::Stuck, ..fit },
+    ] {
+        let mut cursor = unfit;
+        assert_eq!(next(&list, &mut cursor), Given::BadState);
+        assert_eq!(peek(&list, &mut cursor, 0), Peeked::BadState);
+        assert_eq!(cursor, unfit);
+    }
+    let mut cursor = fit;
+    assert_eq!(peek(&list, &mut cursor, 2), Peeked::PeekTooFar);
+    let mut full = Cursor { queued: QUEUE_MOST, status: Status::Stuck, ..fit };
+    assert_eq!(peek(&list, &mut full, 0), Peeked::QueueFull);
+    list[0] = 81;
+    assert_eq!(next(&list, &mut cursor), Given::BadRecord(0));
+    assert_eq!(peek(&list, &mut cursor, 0), Peeked::BadRecord(0));
+    assert_eq!(cursor, fit);
+}
+
+#[test]
+fn characters() {
+    let bytes = "a\u{E9}\u{6F22}\u{1F600}".as_bytes();
+    assert_eq!(read_char(bytes, 0), Read::Char { code: 0x61, len: 1 });
+    assert_eq!(read_char(bytes, 6), Read::Char { code: 0x1F600, len: 4 });
+    assert_eq!(read_char(bytes, 2), Read::Bad);
+    assert_eq!(read_char(bytes, 10), Read::Cut);
+    assert_eq!(read_char(bytes, usize::MAX), Read::Cut);
+    assert_eq!(check_utf8(bytes), Utf8Check::Fine);
+    assert_eq!(check_utf8(&bytes[..8]), Utf8Check::CutAt(6));
+    assert_eq!(check_utf8(b"ab\xC0\x80"), Utf8Check::BadAt(2));
+}
+
+#[test]
+fn clusters() {
+    let table = full_table();
+    assert_eq!(first_cluster(b"", &table), Cluster::Length(0));
+    assert_eq!(first_cluster("e\u{301}x".as_bytes(), &table), Cluster::Length(3));
+    assert_eq!(first_cluster(b"\r\n", &table), Cluster::Length(2));
+    assert_eq!(first_cluster(&vec![b'a'; SOURCE_MOST + 1], &table), Cluster::TooLong);
+    assert_eq!(first_cluster(b"a", &[]), Cluster::BadTable(0));
+    assert_eq!(first_cluster(b"a\x80", &table), Cluster::BadUtf8(1));
+}
+
+#[test]
+fn tables_and_their_files() {
+    let table = full_table();
+    assert_eq!(check_table(&table), TableCheck::Fit);
+    assert_eq!(check_table(&[]), TableCheck::BadTable(0));
+    assert_eq!(check_table(&[48, 48]), TableCheck::BadTable(1));
+    assert_eq!(check_table(&[4]), TableCheck::BadTable(1));
+    let mut row = [9; 4];
+    assert_eq!(read_table(b"KPX", &mut row), TableFile::BadFile(2));
+    assert_eq!(read_table(b"KPT\x01\0\0\x05\0", &mut row), TableFile::BadFile(8));
+    assert_eq!(read_table(&[b"KPT\x01\0\0\x05\0".as_slice(), &[0; 20]].concat(), &mut row), TableFile::ListFull);
+    assert_eq!(read_table(b"KPT\x01\0\0\x01\0\x04\0\0\0", &mut row), TableFile::BadTable(1));
+    assert_eq!(row, [9; 4]);
+}

@@ -1,0 +1,208 @@
+//! Sources: the scan, a walk over its list, the first cluster, and the UTF-8 of each.
+
+use crate::calls::{Cursor, SOURCE_MOST, Table};
+use crate::damage::damaged;
+use crate::rich::Dice;
+use crate::{Run, kpt, scripts};
+use answers::{Call, Shown, Status};
+use koto_lexer::raw::Record;
+
+/// What stands in a list before a scan
+const OLD: u32 = 0xDEAD_BEEF;
+
+pub fn compare(run: &mut Run, dice: &mut Dice, count: usize) {
+    let mut done = [0; 4];
+    for source in scripts::long(dice) {
+        done[0] += one(run, dice, &source);
+    }
+    for source in scripts::limits() {
+        done[1] += one(run, dice, &source);
+    }
+    for source in scripts::short() {
+        done[2] += one(run, dice, &source);
+    }
+    while done.iter().sum::<usize>() < count {
+        let source = match dice.below(5) {
+            0 => run.kinds.text(dice, 200).into_bytes(),
+            1 => [
+                b"x = '".as_slice(),
+                run.kinds.text(dice, 60).as_bytes(),
+                b"{y:",
+                run.kinds.text(dice, 40).as_bytes(),
+                b"}'",
+            ]
+            .concat(),
+            _ => scripts::script(dice),
+        };
+        done[3] += one(run, dice, &source);
+        let source = damaged(dice, &source);
+        done[3] += one(run, dice, &source);
+    }
+    let [long, limits, short, random] = done;
+    println!(
+        "sources: {} ({long} of about 1 MiB, {limits} at other limits, {short} short, {random} random)",
+        done.iter().sum::<usize>()
+    );
+}
+
+/// 1 for a source that was not tried before, and now is
+fn one(run: &mut Run, dice: &mut Dice, source: &[u8]) -> usize {
+    if !run.tally.is_new("source", source) {
+        return 0;
+    }
+    run.library.source.fill(source);
+    // Most lists have room for every source, and some a few words more; others are short.
+    let room = match dice.below(8) {
+        0 => dice.below(8 * source.len().min(400) + 9),
+        1 => 8 * (source.len() + source.len() / 3) + dice.below(8),
+        _ => 8 * (source.len() + source.len() / 3),
+    };
+    let which = if dice.below(200) == 0 { bad_table(run, dice) } else { Table::Full };
+    scan(run, source, room, which, dice);
+    texts(run, source, which, dice);
+    1
+}
+
+/// Lends a damaged copy of the full table.
+fn bad_table(run: &mut Run, dice: &mut Dice) -> Table {
+    let mut table = run.table.clone();
+    match dice.below(4) {
+        0 => table.clear(),
+        1 => table[0] += 1,
+        2 => table.swap(100, 200),
+        _ => table.resize(8001, 0),
+    }
+    run.library.table.fill(&table);
+    Table::Lent
+}
+
+/// Refusals 1 to 3 in their order, or the text
+pub fn text<'a>(run: &Run, bytes: &'a [u8], most: usize, which: Table) -> Result<&'a str, (u32, usize)> {
+    if bytes.len() > most {
+        return Err((1, 0));
+    }
+    if let Some(place) = (which == Table::Lent).then(|| kpt::bad_table(run.library.table.get())).flatten() {
+        return Err((2, place));
+    }
+    std::str::from_utf8(bytes).map_err(|error| (3, error.valid_up_to()))
+}
+
+fn put(list: &mut [u32], records: &[answers::Record]) {
+    for (words, record) in list.chunks_exact_mut(8).zip(records) {
+        words[0] = record[0] + 128 * record[1];
+        words[1..].copy_from_slice(&record[2..]);
+    }
+}
+
+fn scan(run: &mut Run, source: &[u8], room: usize, which: Table, dice: &mut Dice) {
+    let mut list = vec![OLD; room];
+    run.library.list.fill(&list);
+    let said = run.library.scan(which);
+    let wanted = match text(run, source, SOURCE_MOST, which) {
+        Err((number, place)) => (number, (2, 0, place)),
+        Ok(text) => {
+            let scan = (koto_real::JUDGE.scan)(text, room / 8);
+            put(&mut list, &scan.records);
+            match scan.status {
+                Status::End => (0, (0, scan.records.len(), scan.place)),
+                Status::Stuck => (0, (1, scan.records.len(), scan.place)),
+                Status::Refused(number) => (number, (2, scan.records.len(), scan.place)),
+            }
+        }
+    };
+    run.tally.note("scan", said.number, &(said.number, said.answer), &wanted, source);
+    if !said.whole || run.library.source.get() != source {
+        run.tally.spoiled("scan", source);
+    }
+    if run.library.list.get() != list {
+        run.tally.note("scan", said.number, &"another list", &"the records, and the rest as before", source);
+    }
+    let (status, count, _) = said.answer;
+    if said.number == 0 && (source.len() < 10_000 && dice.below(3) == 0) {
+        walk(run, source, Cursor { taken: 0, queued: 0, count, status }, dice);
+    }
+}
+
+fn record_of(record: answers::Record) -> Record {
+    let [kind, detail, start, end, start_line, start_column, end_line, end_column, indent] = record;
+    Record { kind, detail, start, end, start_line, start_column, end_line, end_column, indent }
+}
+
+/// A place to look at is one that may be queued, or a little further.
+fn some_call(dice: &mut Dice, peeks: &mut usize) -> Call {
+    if dice.below(3) == 0 {
+        return Call::Next;
+    }
+    *peeks += 1;
+    Call::Peek(if dice.below(4) == 0 { dice.below(*peeks + 3) } else { dice.below(*peeks) })
+}
+
+/// Some calls of `next` and `peek` over the list of a scan, against koto's
+fn walk(run: &mut Run, source: &[u8], start: Cursor, dice: &mut Dice) {
+    let mut peeks = 0;
+    let calls: Vec<Call> = (0..dice.below(16)).map(|_| some_call(dice, &mut peeks)).collect();
+    let text = std::str::from_utf8(source).expect("a source that was scanned");
+    let (shown, queued) = (koto_real::JUDGE.walk)(text, &calls);
+    let list = run.library.list.get().to_vec();
+    let mut cursor = start;
+    for (call, shown) in calls.iter().zip(shown) {
+        let (name, said) = match call {
+            Call::Next => ("next", run.library.next(cursor)),
+            Call::Peek(n) => ("peek", run.library.peek(cursor, *n)),
+        };
+        let (is_shown, record, place, after) = said.answer;
+        let wanted = match shown {
+            Shown::Record(record) => (0, 1, record_of(record), 0),
+            Shown::Nothing => (0, 0, Record::default(), 0),
+            Shown::Refused(number) => (number, 0, Record::default(), 0),
+        };
+        run.tally.note(name, said.number, &(said.number, is_shown, record, place), &wanted, source);
+        if !said.whole {
+            run.tally.spoiled(name, source);
+        }
+        cursor = after;
+    }
+    if cursor.queued != queued || run.library.list.get() != list {
+        run.tally.spoiled("a walk's cursor or list", source);
+    }
+}
+
+/// The first cluster, the check of UTF-8, and one character
+fn texts(run: &mut Run, source: &[u8], which: Table, dice: &mut Dice) {
+    let said = run.library.first_cluster(which);
+    let wanted = match text(run, source, SOURCE_MOST, which) {
+        Err((number, place)) => (number, (0, place)),
+        Ok(text) => (0, ((koto_real::JUDGE.first_cluster)(text), 0)),
+    };
+    run.tally.note("first_cluster", said.number, &(said.number, said.answer), &wanted, source);
+    let is_whole = said.whole;
+
+    let said = run.library.check_utf8();
+    let wanted = match std::str::from_utf8(source) {
+        Ok(_) => (0, (0, 0)),
+        Err(error) => (3, (error.valid_up_to(), u32::from(error.error_len().is_none()))),
+    };
+    run.tally.note("check_utf8", said.number, &(said.number, said.answer), &wanted, source);
+    let is_whole = is_whole && said.whole;
+
+    let at = if dice.below(50) == 0 { usize::MAX - dice.below(3) } else { dice.below(source.len() + 2) };
+    let said = run.library.read_char(at);
+    let rest = source.get(at..).unwrap_or_default();
+    run.tally.note("read_char", said.number, &(said.number, said.answer), &first_char(rest), source);
+    if !(is_whole && said.whole) || run.library.source.get() != source {
+        run.tally.spoiled("first_cluster, check_utf8 or read_char", source);
+    }
+}
+
+/// The first character by Rust's `from_utf8`
+fn first_char(rest: &[u8]) -> (u32, (u32, usize, u32)) {
+    let rest = &rest[..rest.len().min(4)];
+    let (fine, is_cut) = match std::str::from_utf8(rest) {
+        Ok(text) => (text, true),
+        Err(error) => (std::str::from_utf8(&rest[..error.valid_up_to()]).expect("fine"), error.error_len().is_none()),
+    };
+    match fine.chars().next() {
+        Some(c) => (0, (c.into(), c.len_utf8(), 0)),
+        None => (3, (0, 0, u32::from(is_cut))),
+    }
+}

@@ -1,0 +1,87 @@
+//! What was asked, what was answered, and what differed.
+
+use std::collections::{BTreeMap, HashSet};
+use std::hash::{DefaultHasher, Hash, Hasher};
+
+/// Each call, and the answers that it must have given at least once
+const WANTED: [(&str, &[u32]); 10] = [
+    ("read_char", &[0, 3]),
+    ("check_utf8", &[0, 3]),
+    ("check_table", &[0, 2]),
+    ("read_table", &[0, 2, 4, 14]),
+    ("first_cluster", &[0, 1, 2, 3]),
+    ("scan", &[0, 1, 2, 3, 4, 5]),
+    ("next", &[0, 8, 9]),
+    ("peek", &[0, 6, 7, 8, 9]),
+    ("add_string", &[0, 3, 8, 13]),
+    ("parse", &[0, 1, 2, 3, 8, 10, 11, 12, 13]),
+];
+
+const SHOWN_MOST: usize = 10;
+
+#[derive(Default)]
+pub struct Tally {
+    answers: BTreeMap<(&'static str, u32), u64>,
+    seen: HashSet<u64>,
+    differences: usize,
+}
+
+impl Tally {
+    /// Is this input, of this group, the first of its kind?
+    pub fn is_new(&mut self, group: &str, input: &[u8]) -> bool {
+        let mut hasher = DefaultHasher::new();
+        (group, input).hash(&mut hasher);
+        self.seen.insert(hasher.finish())
+    }
+
+    /// Notes a call's answer, and whether all of it is as wanted.
+    pub fn note<T: PartialEq + std::fmt::Debug>(
+        &mut self,
+        call: &'static str,
+        number: u32,
+        got: &T,
+        wanted: &T,
+        input: &[u8],
+    ) {
+        *self.answers.entry((call, number)).or_default() += 1;
+        if got == wanted {
+            return;
+        }
+        self.differences += 1;
+        if self.differences <= SHOWN_MOST {
+            let cut = |text: String| text.chars().take(600).collect::<String>();
+            println!("{call} differs on {}", cut(hex(input)));
+            println!("    library {}", cut(format!("{got:?}")));
+            println!("    wanted  {}", cut(format!("{wanted:?}")));
+        }
+    }
+
+    /// Notes a buffer that was written where it must not be.
+    pub fn spoiled(&mut self, call: &str, input: &[u8]) {
+        self.differences += 1;
+        println!(
+            "{call} wrote beside a lent buffer, or into one that it may only read: {}",
+            hex(&input[..input.len().min(200)])
+        );
+    }
+
+    /// Prints the counts. Were all answers given, and all as wanted?
+    pub fn report(&self) -> bool {
+        let mut fine = self.differences == 0;
+        for (call, wanted) in WANTED {
+            let shown = wanted.iter().map(|number| {
+                let count = self.answers.get(&(call, *number)).copied().unwrap_or(0);
+                fine &= count > 0;
+                format!("{number}: {count}")
+            });
+            println!("koto_{call}: {}", shown.collect::<Vec<_>>().join(", "));
+        }
+        let calls: u64 = self.answers.values().sum();
+        println!("{calls} calls, {}", if fine { "no difference" } else { "DIFFERENT" });
+        fine
+    }
+}
+
+fn hex(bytes: &[u8]) -> String {
+    bytes.iter().map(|byte| format!("{byte:02x}")).collect()
+}
