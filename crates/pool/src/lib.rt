@@ -9,7 +9,8 @@ ghost use lib.ListN.{length, take, drop};
 ghost use Rattle.pool.specs.Pool.{same, indexOf, stringsOf, roomOf, runsTo, Within, fitIn, fitPool};
 ghost use Rattle.pool.specs.Pool.{placed, addedToFit, isNew, written, entered, bytesAfter, entriesAfter, AddsString};
 
-// How many entries and how many bytes of a pool are in use.
+// How many entries and how many bytes of a pool are in use. C may hold it.
+#[repr(C)]
 pub struct Counts {
     pub entries: u32,
     pub bytes: u32,

@@ -11,7 +11,8 @@ ghost use Rattle.pool_lent.specs.Decided.{least, endOf, EndsAt, fitAt, a
 use pool::Added;
 use pool::Counts;
 
-// An entry: where its string starts in the row of bytes, and how long it is.
+// An entry: where its string starts in the row of bytes, and how long it is. C may hold a row of them.
+#[repr(C)]
 pub struct Entry {
     pub start: u32,
     pub len: u32,

@@ -1,0 +1,29 @@
+-- `bytes::koto_check_utf8` meets its contract: each number is that of the check. Assumes nothing.
+use borrow.Author.Needs.{needs}
+use Rattle.koto_lexer.proofs.bytes.koto_check_utf8.Statement.{statement}
+use Rattle.koto_lexer.proofs.bytes.koto_check_utf8.Tie as tie
+
+check-utf8-requires : tie.Need-check-utf8-requires
+check-utf8-requires c κs = search needs
+
+check-place-requires : tie.Need-check-place-requires
+check-place-requires c κs = search needs
+
+check-cut-requires : tie.Need-check-cut-requires
+check-cut-requires c κs = search needs
+
+check-number-requires : tie.Need-check-number-requires
+check-number-requires c κs = search needs
+
+returns : tie.Need-returns
+returns c = record { number = cc; place-is = cc; cut-is = cc }
+
+pub koto-check-utf8-spec : {M : Type 1} → statement M
+koto-check-utf8-spec =
+    tie.close
+    (tie.spec
+    check-utf8-requires
+    check-place-requires
+    check-cut-requires
+    check-number-requires
+    returns)

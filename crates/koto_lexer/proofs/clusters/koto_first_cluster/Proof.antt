@@ -1,0 +1,24 @@
+-- `clusters::koto_first_cluster` meets its contract: each number is that of the answer. Assumes nothing.
+use borrow.Author.Needs.{needs}
+use Rattle.koto_lexer.proofs.clusters.koto_first_cluster.Statement.{statement}
+use Rattle.koto_lexer.proofs.clusters.koto_first_cluster.Tie as tie
+
+first-cluster-requires : tie.Need-first-cluster-requires
+first-cluster-requires c κs = search needs
+
+len-of-requires : tie.Need-len-of-requires
+len-of-requires c κs = search needs
+
+place-of-requires : tie.Need-place-of-requires
+place-of-requires c κs = search needs
+
+number-of-requires : tie.Need-number-of-requires
+number-of-requires c κs = search needs
+
+returns : tie.Need-returns
+returns c = record { number = cc; len-is = cc; place-is = cc }
+
+pub koto-first-cluster-spec : {M : Type 1} → statement M
+koto-first-cluster-spec =
+    tie.close
+    (tie.spec first-cluster-requires len-of-requires place-of-requires number-of-requires returns)

@@ -1,0 +1,37 @@
+-- `scans::koto_scan` meets its contract: each number is that of the scan's answer, and the list is as it left it. Assumes nothing.
+use borrow.Author.Needs.{needs}
+use Rattle.koto_lexer.proofs.scans.koto_scan.Statement.{statement}
+use Rattle.koto_lexer.proofs.scans.koto_scan.Tie as tie
+
+scan-requires : tie.Need-scan-requires
+scan-requires c κs = search needs
+
+status-of-requires : tie.Need-status-of-requires
+status-of-requires c κs = search needs
+
+count-of-requires : tie.Need-count-of-requires
+count-of-requires c κs = search needs
+
+place-of-requires : tie.Need-place-of-requires
+place-of-requires c κs = search needs
+
+number-of-requires : tie.Need-number-of-requires
+number-of-requires c κs = search needs
+
+same-length : tie.Need-same-length
+same-length c = search needs
+
+returns : tie.Need-returns
+returns c = record { number = cc; status-is = cc; count-is = cc; byte-is = cc; words = cc }
+
+pub koto-scan-spec : {M : Type 1} → statement M
+koto-scan-spec =
+    tie.close
+    (tie.spec
+    scan-requires
+    status-of-requires
+    count-of-requires
+    place-of-requires
+    number-of-requires
+    same-length
+    returns)

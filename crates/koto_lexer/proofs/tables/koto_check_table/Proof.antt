@@ -1,0 +1,20 @@
+-- `tables::koto_check_table` meets its contract: each number is that of the check. Assumes nothing.
+use borrow.Author.Needs.{needs}
+use Rattle.koto_lexer.proofs.tables.koto_check_table.Statement.{statement}
+use Rattle.koto_lexer.proofs.tables.koto_check_table.Tie as tie
+
+check-table-requires : tie.Need-check-table-requires
+check-table-requires c κs = search needs
+
+check-place-requires : tie.Need-check-place-requires
+check-place-requires c κs = search needs
+
+check-number-requires : tie.Need-check-number-requires
+check-number-requires c κs = search needs
+
+returns : tie.Need-returns
+returns c = record { number = cc; place-is = cc }
+
+pub koto-check-table-spec : {M : Type 1} → statement M
+koto-check-table-spec =
+    tie.close (tie.spec check-table-requires check-place-requires check-number-requires returns)

@@ -1,0 +1,130 @@
+-- That no second answer fits a call: two calls on the same input return the same number and leave the same words, every one of them.
+--     koto-read-char-has-one-answer, koto-check-utf8-has-one-answer, koto-check-table-has-one-answer
+--     koto-read-table-has-one-answer, koto-first-cluster-has-one-answer, koto-scan-has-one-answer
+--     koto-next-has-one-answer, koto-peek-has-one-answer, koto-add-string-has-one-answer, koto-parse-has-one-answer
+-- Assumes nothing.
+use Prim.Native.Nat.{ℕ}
+use mathlib.Core.Path.{_≡_, sym, _∙_}
+use mathlib.Core.List.{List}
+use Rattle.pool.specs.declared.Counts.{Counts}
+use Rattle.pool_lent.specs.EntriesLaws.{same-numbers}
+use Rattle.pool_lent.specs.declared.Entry.{Entry}
+use Rattle.koto_lexer.specs.Bytes.{ReadCharIs, CheckUtf8Is}
+use Rattle.koto_lexer.specs.Tables.{CheckTableIs, ReadTableIs}
+use Rattle.koto_lexer.specs.Clusters.{FirstClusterIs}
+use Rattle.koto_lexer.specs.Scans.{ScanIs}
+use Rattle.koto_lexer.specs.Cursors.{NextIs, PeekIs}
+use Rattle.koto_lexer.specs.Pools.{AddStringIs}
+use Rattle.koto_lexer.specs.Formats.{ParseIs}
+
+pub koto-read-char-has-one-answer : {bytes : List ℕ} {at code len cut r code′ len′ cut′ r′ : ℕ}
+    → ReadCharIs bytes at code len cut r → ReadCharIs bytes at code′ len′ cut′ r′
+    → (r ≡ r′) × (code ≡ code′) × (len ≡ len′) × (cut ≡ cut′)
+koto-read-char-has-one-answer p q = (
+  p .number ∙ sym (q .number),
+  p .code-is ∙ sym (q .code-is),
+  p .len-is ∙ sym (q .len-is),
+  p .cut-is ∙ sym (q .cut-is),
+)
+
+pub koto-check-utf8-has-one-answer : {bytes : List ℕ} {place cut r place′ cut′ r′ : ℕ}
+    → CheckUtf8Is bytes place cut r → CheckUtf8Is bytes place′ cut′ r′
+    → (r ≡ r′) × (place ≡ place′) × (cut ≡ cut′)
+koto-check-utf8-has-one-answer p q = (
+  p .number ∙ sym (q .number),
+  p .place-is ∙ sym (q .place-is),
+  p .cut-is ∙ sym (q .cut-is),
+)
+
+pub koto-check-table-has-one-answer : {table : List ℕ} {place r place′ r′ : ℕ}
+    → CheckTableIs table place r → CheckTableIs table place′ r′
+    → (r ≡ r′) × (place ≡ place′)
+koto-check-table-has-one-answer p q = (
+  p .number ∙ sym (q .number),
+  p .place-is ∙ sym (q .place-is),
+)
+
+pub koto-read-table-has-one-answer : {bytes old new new′ : List ℕ} {count place r count′ place′ r′ : ℕ}
+    → ReadTableIs bytes old new count place r → ReadTableIs bytes old new′ count′ place′ r′
+    → (r ≡ r′) × (new ≡ new′) × (count ≡ count′) × (place ≡ place′)
+koto-read-table-has-one-answer p q = (
+  p .number ∙ sym (q .number),
+  p .row ∙ sym (q .row),
+  p .count-is ∙ sym (q .count-is),
+  p .place-is ∙ sym (q .place-is),
+)
+
+pub koto-first-cluster-has-one-answer : {source table : List ℕ} {len place r len′ place′ r′ : ℕ}
+    → FirstClusterIs source table len place r → FirstClusterIs source table len′ place′ r′
+    → (r ≡ r′) × (len ≡ len′) × (place ≡ place′)
+koto-first-cluster-has-one-answer p q = (
+  p .number ∙ sym (q .number),
+  p .len-is ∙ sym (q .len-is),
+  p .place-is ∙ sym (q .place-is),
+)
+
+pub koto-scan-has-one-answer : {source table old new new′ : List ℕ} {status count byte r status′ count′ byte′ r′ : ℕ}
+    → ScanIs source table old new status count byte r → ScanIs source table old new′ status′ count′ byte′ r′
+    → (r ≡ r′) × (new ≡ new′) × (status ≡ status′) × (count ≡ count′) × (byte ≡ byte′)
+koto-scan-has-one-answer p q = (
+  p .number ∙ sym (q .number),
+  p .words ∙ sym (q .words),
+  p .status-is ∙ sym (q .status-is),
+  p .count-is ∙ sym (q .count-is),
+  p .byte-is ∙ sym (q .byte-is),
+)
+
+pub koto-next-has-one-answer : {list words words′ : List ℕ}
+    {taken queued count status newTaken newQueued shown place r newTaken′ newQueued′ shown′ place′ r′ : ℕ}
+    → NextIs list taken queued count status newTaken newQueued shown words place r
+    → NextIs list taken queued count status newTaken′ newQueued′ shown′ words′ place′ r′
+    → (r ≡ r′) × (newTaken ≡ newTaken′) × (newQueued ≡ newQueued′) × (shown ≡ shown′) × (words ≡ words′) × (place ≡ place′)
+koto-next-has-one-answer p q = (
+  p .number ∙ sym (q .number),
+  p .taken-is ∙ sym (q .taken-is),
+  p .queued-is ∙ sym (q .queued-is),
+  p .shown-is ∙ sym (q .shown-is),
+  p .words-are ∙ sym (q .words-are),
+  p .place-is ∙ sym (q .place-is),
+)
+
+pub koto-peek-has-one-answer : {list words words′ : List ℕ}
+    {taken queued count status n newQueued shown place r newQueued′ shown′ place′ r′ : ℕ}
+    → PeekIs list taken queued count status n newQueued shown words place r
+    → PeekIs list taken queued count status n newQueued′ shown′ words′ place′ r′
+    → (r ≡ r′) × (newQueued ≡ newQueued′) × (shown ≡ shown′) × (words ≡ words′) × (place ≡ place′)
+koto-peek-has-one-answer p q = (
+  p .number ∙ sym (q .number),
+  p .queued-is ∙ sym (q .queued-is),
+  p .shown-is ∙ sym (q .shown-is),
+  p .words-are ∙ sym (q .words-are),
+  p .place-is ∙ sym (q .place-is),
+)
+
+pub koto-add-string-has-one-answer : {string bytes newBytes newBytes′ : List ℕ} {entries newEntries newEntries′ : List Entry}
+    {counts newCounts newCounts′ : Counts} {index place r index′ place′ r′ : ℕ}
+    → AddStringIs string bytes entries counts newBytes newEntries newCounts index place r
+    → AddStringIs string bytes entries counts newBytes′ newEntries′ newCounts′ index′ place′ r′
+    → (r ≡ r′) × (index ≡ index′) × (place ≡ place′) × (newBytes ≡ newBytes′) × (newEntries ≡ newEntries′) × (newCounts ≡ newCounts′)
+koto-add-string-has-one-answer p q = (
+  p .told .number ∙ sym (q .told .number),
+  p .told .index-is ∙ sym (q .told .index-is),
+  p .told .place-is ∙ sym (q .told .place-is),
+  p .bytes-left ∙ sym (q .bytes-left),
+  same-numbers _ _ (p .entries-left ∙ sym (q .entries-left)),
+  p .counts-left ∙ sym (q .counts-left),
+)
+
+pub koto-parse-has-one-answer : {format table bytes newBytes newBytes′ options options′ : List ℕ}
+    {entries newEntries newEntries′ : List Entry} {counts newCounts newCounts′ : Counts} {value r value′ r′ : ℕ}
+    → ParseIs format table bytes entries counts newBytes newEntries newCounts options value r
+    → ParseIs format table bytes entries counts newBytes′ newEntries′ newCounts′ options′ value′ r′
+    → (r ≡ r′) × (options ≡ options′) × (value ≡ value′) × (newBytes ≡ newBytes′) × (newEntries ≡ newEntries′) × (newCounts ≡ newCounts′)
+koto-parse-has-one-answer p q = (
+  p .told .number ∙ sym (q .told .number),
+  p .told .options-are ∙ sym (q .told .options-are),
+  p .told .value-is ∙ sym (q .told .value-is),
+  p .bytes-left ∙ sym (q .bytes-left),
+  same-numbers _ _ (p .entries-left ∙ sym (q .entries-left)),
+  p .counts-left ∙ sym (q .counts-left),
+)

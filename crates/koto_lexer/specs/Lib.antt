@@ -1,0 +1,10 @@
+pub mod Bytes
+pub mod Tables
+pub mod Clusters
+pub mod Scans
+pub mod Cursors
+pub mod Pools
+pub mod PoolsLaws
+pub mod Formats
+pub mod FormatsLaws
+pub mod CallsLaws

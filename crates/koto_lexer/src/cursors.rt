@@ -1,0 +1,301 @@
+// `next` and `peek` for C. A cursor is its numbers: taken, queued, the count, and the status as a scan writes it.
+ghost use mathlib.Core.Path.{_≡_};
+ghost use Rattle.lookahead.specs.Next as next;
+ghost use Rattle.lookahead.specs.Peek as peek;
+ghost use Rattle.koto_lexer.specs.Cursors.{noRow, wordsOf, nextBy, givenShown, givenRow, givenTaken, givenQueued, NextIs};
+ghost use Rattle.koto_lexer.specs.Cursors.{peekBy, peekedShown, peekedRow, peekedQueued, PeekIs};
+use crate::refusals::BAD_RECORD;
+use crate::refusals::BAD_STATE;
+use crate::refusals::NO_REFUSAL;
+use crate::refusals::PEEK_TOO_FAR;
+use crate::refusals::QUEUE_FULL;
+use crate::scans::END;
+use crate::scans::STUCK;
+use lookahead::Cursor;
+use lookahead::Given;
+use lookahead::Peeked;
+use lookahead::Status;
+use token::rows::Row;
+
+// What stands for a record where none is shown.
+fn no_row() -> Row
+    ensures { λ r. ⌜ r ≡ noRow ⌝ }
+{
+    Row {
+        kind: 0,
+        detail: 0,
+        start: 0,
+        end: 0,
+        start_line: 0,
+        start_column: 0,
+        end_line: 0,
+        end_column: 0,
+        indent: 0,
+    }
+}
+
+// Writes a record's nine numbers.
+fn put_record(words: &mut [u32; 9], row: Row)
+    ensures { λ _. ⌜ now (words .exit) ≡ wordsOf row ⌝ }
+{
+    *words = [
+        row.kind,
+        row.detail,
+        row.start,
+        row.end,
+        row.start_line,
+        row.start_column,
+        row.end_line,
+        row.end_column,
+        row.indent,
+    ];
+}
+
+// ---- `next`
+
+// The inner call's answer for a cursor of these numbers. Another status than End and Stuck is no cursor's.
+fn next_by(list: &[u32], taken: usize, queued: usize, count: usize, status: u32) -> Given
+    ensures { λ r. ⌜ r ≡ nextBy (now (list .entry)) taken queued count status ⌝ }
+{
+    if status == END {
+        let status = Status::End;
+        return lookahead::next(
+            list,
+            Cursor {
+                taken,
+                queued,
+                count,
+                status,
+            },
+        );
+    }
+    if status == STUCK {
+        let status = Status::Stuck;
+        return lookahead::next(
+            list,
+            Cursor {
+                taken,
+                queued,
+                count,
+                status,
+            },
+        );
+    }
+    Given::BadState
+}
+
+fn given_number(given: Given) -> u32
+    ensures { λ r. ⌜ r ≡ next.numberOf given ⌝ }
+{
+    match given {
+        Given::Token { row: _, cursor: _ } => NO_REFUSAL,
+        Given::Nothing => NO_REFUSAL,
+        Given::BadState => BAD_STATE,
+        Given::BadRecord(_) => BAD_RECORD,
+    }
+}
+
+fn given_place(given: Given) -> usize
+    ensures { λ r. ⌜ r ≡ next.placeOf given ⌝ }
+{
+    match given {
+        Given::Token { row: _, cursor: _ } => 0,
+        Given::Nothing => 0,
+        Given::BadState => 0,
+        Given::BadRecord(i) => i,
+    }
+}
+
+fn given_shown(given: Given) -> u32
+    ensures { λ r. ⌜ r ≡ givenShown given ⌝ }
+{
+    match given {
+        Given::Token { row: _, cursor: _ } => 1,
+        Given::Nothing => 0,
+        Given::BadState => 0,
+        Given::BadRecord(_) => 0,
+    }
+}
+
+fn given_row(given: Given) -> Row
+    ensures { λ r. ⌜ r ≡ givenRow given ⌝ }
+{
+    match given {
+        Given::Token { row, cursor: _ } => row,
+        Given::Nothing => no_row(),
+        Given::BadState => no_row(),
+        Given::BadRecord(_) => no_row(),
+    }
+}
+
+fn given_taken(given: Given, taken: usize) -> usize
+    ensures { λ r. ⌜ r ≡ givenTaken given taken ⌝ }
+{
+    match given {
+        Given::Token { row: _, cursor } => cursor.taken,
+        Given::Nothing => taken,
+        Given::BadState => taken,
+        Given::BadRecord(_) => taken,
+    }
+}
+
+fn given_queued(given: Given, queued: usize) -> usize
+    ensures { λ r. ⌜ r ≡ givenQueued given queued ⌝ }
+{
+    match given {
+        Given::Token { row: _, cursor } => cursor.queued,
+        Given::Nothing => queued,
+        Given::BadState => queued,
+        Given::BadRecord(_) => queued,
+    }
+}
+
+// Hands out the next token, and moves the cursor on. Refused are a cursor that is unfit with 8, then a record that no scan wrote with 9;
+// both leave the cursor.
+#[no_mangle]
+pub extern "C" fn koto_next(
+    list: &[u32],
+    taken: &mut usize,
+    queued: &mut usize,
+    count: usize,
+    status: u32,
+    shown: &mut u32,
+    record: &mut [u32; 9],
+    place: &mut usize,
+) -> u32
+    ensures { λ r. ⌜ NextIs (now (list .entry)) (now (taken .entry)) (now (queued .entry)) count status
+        (now (taken .exit)) (now (queued .exit)) (now (shown .exit)) (now («record» .exit)) (now (place .exit)) r ⌝ }
+{
+    let given = next_by(list, *taken, *queued, count, status);
+    *taken = given_taken(given, *taken);
+    *queued = given_queued(given, *queued);
+    *shown = given_shown(given);
+    put_record(record, given_row(given));
+    *place = given_place(given);
+    given_number(given)
+}
+
+// ---- `peek`
+
+// The inner call's answer for a cursor of these numbers. Another status than End and Stuck is no cursor's.
+fn peek_by(list: &[u32], taken: usize, queued: usize, count: usize, status: u32, n: usize) -> Peeked
+    ensures { λ r. ⌜ r ≡ peekBy (now (list .entry)) taken queued count status n ⌝ }
+{
+    if status == END {
+        let status = Status::End;
+        return lookahead::peek(
+            list,
+            Cursor {
+                taken,
+                queued,
+                count,
+                status,
+            },
+            n,
+        );
+    }
+    if status == STUCK {
+        let status = Status::Stuck;
+        return lookahead::peek(
+            list,
+            Cursor {
+                taken,
+                queued,
+                count,
+                status,
+            },
+            n,
+        );
+    }
+    Peeked::BadState
+}
+
+fn peeked_number(peeked: Peeked) -> u32
+    ensures { λ r. ⌜ r ≡ peek.numberOf peeked ⌝ }
+{
+    match peeked {
+        Peeked::Token { row: _, cursor: _ } => NO_REFUSAL,
+        Peeked::Nothing { cursor: _ } => NO_REFUSAL,
+        Peeked::BadState => BAD_STATE,
+        Peeked::PeekTooFar => PEEK_TOO_FAR,
+        Peeked::QueueFull => QUEUE_FULL,
+        Peeked::BadRecord(_) => BAD_RECORD,
+    }
+}
+
+fn peeked_place(peeked: Peeked) -> usize
+    ensures { λ r. ⌜ r ≡ peek.placeOf peeked ⌝ }
+{
+    match peeked {
+        Peeked::Token { row: _, cursor: _ } => 0,
+        Peeked::Nothing { cursor: _ } => 0,
+        Peeked::BadState => 0,
+        Peeked::PeekTooFar => 0,
+        Peeked::QueueFull => 0,
+        Peeked::BadRecord(i) => i,
+    }
+}
+
+fn peeked_shown(peeked: Peeked) -> u32
+    ensures { λ r. ⌜ r ≡ peekedShown peeked ⌝ }
+{
+    match peeked {
+        Peeked::Token { row: _, cursor: _ } => 1,
+        Peeked::Nothing { cursor: _ } => 0,
+        Peeked::BadState => 0,
+        Peeked::PeekTooFar => 0,
+        Peeked::QueueFull => 0,
+        Peeked::BadRecord(_) => 0,
+    }
+}
+
+fn peeked_row(peeked: Peeked) -> Row
+    ensures { λ r. ⌜ r ≡ peekedRow peeked ⌝ }
+{
+    match peeked {
+        Peeked::Token { row, cursor: _ } => row,
+        Peeked::Nothing { cursor: _ } => no_row(),
+        Peeked::BadState => no_row(),
+        Peeked::PeekTooFar => no_row(),
+        Peeked::QueueFull => no_row(),
+        Peeked::BadRecord(_) => no_row(),
+    }
+}
+
+fn peeked_queued(peeked: Peeked, queued: usize) -> usize
+    ensures { λ r. ⌜ r ≡ peekedQueued peeked queued ⌝ }
+{
+    match peeked {
+        Peeked::Token { row: _, cursor } => cursor.queued,
+        Peeked::Nothing { cursor } => cursor.queued,
+        Peeked::BadState => queued,
+        Peeked::PeekTooFar => queued,
+        Peeked::QueueFull => queued,
+        Peeked::BadRecord(_) => queued,
+    }
+}
+
+// Queues one more token, if there is one and n is at most what is queued, and shows queued token n. Refused are a cursor that is unfit with
+// 8, then an n that is too far with 6, then a full queue with 7, then a record that no scan wrote with 9; all leave the cursor.
+#[no_mangle]
+pub extern "C" fn koto_peek(
+    list: &[u32],
+    taken: usize,
+    queued: &mut usize,
+    count: usize,
+    status: u32,
+    n: usize,
+    shown: &mut u32,
+    record: &mut [u32; 9],
+    place: &mut usize,
+) -> u32
+    ensures { λ r. ⌜ PeekIs (now (list .entry)) taken (now (queued .entry)) count status n
+        (now (queued .exit)) (now (shown .exit)) (now («record» .exit)) (now (place .exit)) r ⌝ }
+{
+    let peeked = peek_by(list, taken, *queued, count, status, n);
+    *queued = peeked_queued(peeked, *queued);
+    *shown = peeked_shown(peeked);
+    put_record(record, peeked_row(peeked));
+    *place = peeked_place(peeked);
+    peeked_number(peeked)
+}

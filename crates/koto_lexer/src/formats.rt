@@ -1,0 +1,199 @@
+// Parsing a format string, for C. The options are seven numbers in the order of the C struct.
+ghost use mathlib.Core.Path.{_≡_};
+ghost use Rattle.format.specs.Options.{alignmentNumber, representationNumber};
+ghost use Rattle.parse.specs.Call.{numberOf, valueOf};
+ghost use Rattle.koto_lexer.specs.Formats.{givenNumber, shownNumber, fillPlace, fillLen, optionsNumbers, noNumbers, numbersOf};
+ghost use Rattle.koto_lexer.specs.Formats.{ParsedTold, ParseIs};
+use crate::refusals::BAD_STATE;
+use crate::refusals::BAD_TABLE;
+use crate::refusals::BAD_UTF8;
+use crate::refusals::EXPECTED_NUMBER;
+use crate::refusals::FORMAT_NUMBER_IS_TOO_LARGE;
+use crate::refusals::NO_REFUSAL;
+use crate::refusals::POOL_FULL;
+use crate::refusals::TOO_LONG;
+use crate::refusals::UNEXPECTED_TOKEN;
+use format::Alignment;
+use format::Fill;
+use format::Given;
+use format::Options;
+use format::Representation;
+use format::Shown;
+use parse::Parsed;
+use pool::Counts;
+use pool_lent::Entry;
+
+// No number: every option's own number is smaller.
+pub const NONE: u64 = 18446744073709551615;
+
+fn alignment_number(alignment: Alignment) -> u64
+    ensures { λ r. ⌜ r ≡ alignmentNumber alignment ⌝ }
+{
+    match alignment {
+        Alignment::Default => 0,
+        Alignment::Left => 1,
+        Alignment::Center => 2,
+        Alignment::Right => 3,
+    }
+}
+
+fn representation_number(representation: Representation) -> u64
+    ensures { λ r. ⌜ r ≡ representationNumber representation ⌝ }
+{
+    match representation {
+        Representation::Debug => 0,
+        Representation::HexLower => 1,
+        Representation::HexUpper => 2,
+        Representation::Binary => 3,
+        Representation::Octal => 4,
+        Representation::ExpLower => 5,
+        Representation::ExpUpper => 6,
+    }
+}
+
+fn shown_number(shown: Shown) -> u64
+    ensures { λ r. ⌜ r ≡ shownNumber shown ⌝ }
+{
+    match shown {
+        Shown::As(representation) => representation_number(representation),
+        Shown::Plain => NONE,
+    }
+}
+
+fn given_number(given: Given) -> u64
+    ensures { λ r. ⌜ r ≡ givenNumber given ⌝ }
+{
+    match given {
+        Given::Number(n) => n as u64,
+        Given::Nothing => NONE,
+    }
+}
+
+fn fill_place(fill: Fill) -> u64
+    ensures { λ r. ⌜ r ≡ fillPlace fill ⌝ }
+{
+    match fill {
+        Fill::Is(part) => part.place as u64,
+        Fill::NoFill => NONE,
+    }
+}
+
+fn fill_len(fill: Fill) -> u64
+    ensures { λ r. ⌜ r ≡ fillLen fill ⌝ }
+{
+    match fill {
+        Fill::Is(part) => part.len as u64,
+        Fill::NoFill => NONE,
+    }
+}
+
+// The seven numbers of options and of their fill's index.
+fn options_numbers(options: Options, index: Given) -> [u64; 7]
+    ensures { λ r. ⌜ r ≡ optionsNumbers options index ⌝ }
+{
+    let alignment = options.alignment;
+    let width = options.width;
+    let precision = options.precision;
+    let representation = options.representation;
+    let fill = options.fill;
+    [
+        alignment_number(alignment),
+        given_number(width),
+        given_number(precision),
+        shown_number(representation),
+        fill_place(fill),
+        fill_len(fill),
+        given_number(index),
+    ]
+}
+
+// A refusal has none of them.
+fn no_numbers() -> [u64; 7]
+    ensures { λ r. ⌜ r ≡ noNumbers ⌝ }
+{
+    [NONE; 7]
+}
+
+// The seven numbers of an answer.
+fn numbers_of(parsed: Parsed) -> [u64; 7]
+    ensures { λ r. ⌜ r ≡ numbersOf parsed ⌝ }
+{
+    match parsed {
+        Parsed::Read { options, index } => options_numbers(options, index),
+        Parsed::TooLong => no_numbers(),
+        Parsed::BadTable(_) => no_numbers(),
+        Parsed::BadUtf8(_) => no_numbers(),
+        Parsed::BadState => no_numbers(),
+        Parsed::ExpectedNumber(_) => no_numbers(),
+        Parsed::FormatNumberIsTooLarge(_) => no_numbers(),
+        Parsed::UnexpectedToken(_) => no_numbers(),
+        Parsed::PoolFull => no_numbers(),
+    }
+}
+
+fn number_of(parsed: Parsed) -> u32
+    ensures { λ r. ⌜ r ≡ numberOf parsed ⌝ }
+{
+    match parsed {
+        Parsed::Read {
+            options: _,
+            index: _,
+        } => NO_REFUSAL,
+        Parsed::TooLong => TOO_LONG,
+        Parsed::BadTable(_) => BAD_TABLE,
+        Parsed::BadUtf8(_) => BAD_UTF8,
+        Parsed::BadState => BAD_STATE,
+        Parsed::ExpectedNumber(_) => EXPECTED_NUMBER,
+        Parsed::FormatNumberIsTooLarge(_) => FORMAT_NUMBER_IS_TOO_LARGE,
+        Parsed::UnexpectedToken(_) => UNEXPECTED_TOKEN,
+        Parsed::PoolFull => POOL_FULL,
+    }
+}
+
+fn value_of(parsed: Parsed) -> u64
+    ensures { λ r. ⌜ r ≡ valueOf parsed ⌝ }
+{
+    match parsed {
+        Parsed::Read {
+            options: _,
+            index: _,
+        } => 0,
+        Parsed::TooLong => 0,
+        Parsed::BadTable(i) => i as u64,
+        Parsed::BadUtf8(i) => i as u64,
+        Parsed::BadState => 0,
+        Parsed::ExpectedNumber(code) => code as u64,
+        Parsed::FormatNumberIsTooLarge(value) => value,
+        Parsed::UnexpectedToken(code) => code as u64,
+        Parsed::PoolFull => 0,
+    }
+}
+
+// Writes an answer's numbers, and hands its refusal on.
+fn tell(parsed: Parsed, options: &mut [u64; 7], value: &mut u64) -> u32
+    ensures { λ r. ⌜ ParsedTold parsed (now (options .exit)) (now (value .exit)) r ⌝ }
+{
+    *options = numbers_of(parsed);
+    *value = value_of(parsed);
+    number_of(parsed)
+}
+
+// Parses a format string, and adds its fill to the pool that is lent. Refused are a format string that is too long with 1, then a table that
+// is unfit with 2, then ill-formed bytes with 3, then a pool that is unfit with 8, each before a word of the pool is written; then what the
+// Rust refuses with 10 to 12, and a string without room with 13. Strings added before that stay.
+#[no_mangle]
+pub extern "C" fn koto_parse(
+    format: &[u8],
+    table: &[u32],
+    bytes: &mut [u8],
+    entries: &mut [Entry],
+    counts: &mut Counts,
+    options: &mut [u64; 7],
+    value: &mut u64,
+) -> u32
+    ensures { λ r. ⌜ ParseIs (now (format .entry)) (now (table .entry)) (now (bytes .entry)) (now (entries .entry)) (now (counts .entry))
+        (now (bytes .exit)) (now (entries .exit)) (now (counts .exit)) (now (options .exit)) (now (value .exit)) r ⌝ }
+{
+    let parsed = parse_lent::parse(format, table, bytes, entries, counts);
+    tell(parsed, options, value)
+}

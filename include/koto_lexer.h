@@ -1,0 +1,369 @@
+/* koto_lexer.h: Koto's lexer, its format options and the string side of its constant pool, for C.
+ *
+ * The code is Rattle, and each call is proved to meet its contract (docs/PROMISES.md). `rt staticlib koto_lexer` writes
+ * target/staticlib/libkoto_lexer.a, for x86-64 Linux with 64-bit pointers. A later version may add names; a name that is here keeps its
+ * meaning.
+ *
+ * What every call does
+ * - It takes every input and returns. It keeps nothing between calls, allocates nothing, and reads and writes only what it is lent. Of the C
+ *   library it needs memcpy and memset.
+ * - It returns 0, or the number of a refusal (KOTO_TOO_LONG and so on).
+ * - It writes every answer, refused or not. What has no meaning is 0; in koto_options it is KOTO_NONE.
+ * - Where it is refused, it changes nothing else of what was lent, unless its text below says so.
+ * - Two calls with the same input give the same answers and leave the same words.
+ *
+ * What the caller owes
+ * - A row is a pointer to its first element and its length in elements. The length is true: so many elements may be read, and written where
+ *   the pointer is not const. A pointer is aligned and not null, also where the length is 0. No length is too short: a call says so.
+ * - What may be written overlaps nothing else that is lent to the same call. Rows that are only read may overlap each other.
+ * - Nobody else writes what is lent while the call runs, or reads what the call may write.
+ * - There are 64 KiB of stack: koto_read_table checks a table in numbers of its own.
+ */
+#ifndef KOTO_LEXER_H
+#define KOTO_LEXER_H
+
+#include <stddef.h>
+#include <stdint.h>
+
+#ifdef __cplusplus
+extern "C" {
+#endif
+
+/* ---- Refusals: what a call returns ----
+ *
+ * Each has a place, or a value, which the calls below write under that name; where none is said it is 0.
+ *
+ *    1 TOO_LONG                    a source over KOTO_SOURCE_MOST bytes, or a format string over KOTO_FORMAT_MOST
+ *    2 BAD_TABLE                   a table that is unfit. Place: 0 for a bad count, else the first bad run, from 0, else, where only code
+ *                                  points 0 to 127 have other properties than every table must give them, the count
+ *    3 BAD_UTF8                    ill-formed bytes. Place: the offset of the first such sequence
+ *    4 LIST_FULL                   a token is left to read and no record has room (place: the current byte), or a row is too short for a
+ *                                  table file's numbers
+ *    5 MODES_FULL                  a token would push a 65th mode. Place: the current byte
+ *    6 PEEK_TOO_FAR                n is over queued + 1
+ *    7 QUEUE_FULL                  a token must be queued, and KOTO_QUEUE_MOST are
+ *    8 BAD_STATE                   a cursor or a pool that is unfit
+ *    9 BAD_RECORD                  a record that no scan wrote: its kind is over 80, or it may not have its detail. Place: its index
+ *   10 EXPECTED_NUMBER             a precision has no digit. Value: the code point that stands there
+ *   11 FORMAT_NUMBER_IS_TOO_LARGE  Value: the first value over 4,294,967,295
+ *   12 UNEXPECTED_TOKEN            Value: the code point
+ *   13 POOL_FULL                   a string is not in the pool, and no entry or too few bytes are free
+ *   14 BAD_FILE                    a table file whose first six bytes or whose length are wrong. Place: the first wrong byte, or the file's
+ *                                  length where bytes lack
+ */
+
+#define KOTO_NO_REFUSAL 0u
+#define KOTO_TOO_LONG 1u
+#define KOTO_BAD_TABLE 2u
+#define KOTO_BAD_UTF8 3u
+#define KOTO_LIST_FULL 4u
+#define KOTO_MODES_FULL 5u
+#define KOTO_PEEK_TOO_FAR 6u
+#define KOTO_QUEUE_FULL 7u
+#define KOTO_BAD_STATE 8u
+#define KOTO_BAD_RECORD 9u
+#define KOTO_EXPECTED_NUMBER 10u
+#define KOTO_FORMAT_NUMBER_IS_TOO_LARGE 11u
+#define KOTO_UNEXPECTED_TOKEN 12u
+#define KOTO_POOL_FULL 13u
+#define KOTO_BAD_FILE 14u
+
+/* ---- How a scan ends: the status, which a cursor over its list carries ----
+ *
+ * END: after the last record nothing comes. STUCK: the last record is an Error that advanced nothing, and comes for ever. REFUSED: the scan
+ * was refused, and a cursor made of this is refused too (8).
+ */
+
+#define KOTO_END 0u
+#define KOTO_STUCK 1u
+#define KOTO_REFUSED 2u
+
+/* ---- Limits: bytes of a source and of a format string, numbers of a table, tokens queued, words of a record in a list ---- */
+
+#define KOTO_SOURCE_MOST 1048576u
+#define KOTO_FORMAT_MOST 65535u
+#define KOTO_TABLE_MOST 8000u
+#define KOTO_QUEUE_MOST 65535u
+#define KOTO_RECORD_WORDS 8u
+
+/* ---- Kinds of token, as a record has them ----
+ *
+ * A detail is 0, but for KOTO_KIND_STRING_START: 0 in double quotes, 1 in single quotes, 2 + 2h raw in double quotes and 3 + 2h raw in
+ * single quotes, with h hashes.
+ */
+
+#define KOTO_KIND_ERROR 0u
+#define KOTO_KIND_WHITESPACE 1u
+#define KOTO_KIND_NEW_LINE 2u
+#define KOTO_KIND_COMMENT_SINGLE 3u
+#define KOTO_KIND_COMMENT_MULTI 4u
+#define KOTO_KIND_NUMBER 5u
+#define KOTO_KIND_ID 6u
+#define KOTO_KIND_STRING_START 7u
+#define KOTO_KIND_STRING_END 8u
+#define KOTO_KIND_STRING_LITERAL 9u
+#define KOTO_KIND_AT 10u
+#define KOTO_KIND_COLON 11u
+#define KOTO_KIND_COMMA 12u
+#define KOTO_KIND_DOT 13u
+#define KOTO_KIND_ELLIPSIS 14u
+#define KOTO_KIND_FUNCTION 15u
+#define KOTO_KIND_ROUND_OPEN 16u
+#define KOTO_KIND_ROUND_CLOSE 17u
+#define KOTO_KIND_SQUARE_OPEN 18u
+#define KOTO_KIND_SQUARE_CLOSE 19u
+#define KOTO_KIND_CURLY_OPEN 20u
+#define KOTO_KIND_CURLY_CLOSE 21u
+#define KOTO_KIND_RANGE 22u
+#define KOTO_KIND_RANGE_INCLUSIVE 23u
+#define KOTO_KIND_SEMICOLON 24u
+#define KOTO_KIND_UNDERSCORE 25u
+#define KOTO_KIND_QUESTION_MARK 26u
+#define KOTO_KIND_ADD 27u
+#define KOTO_KIND_SUBTRACT 28u
+#define KOTO_KIND_MULTIPLY 29u
+#define KOTO_KIND_DIVIDE 30u
+#define KOTO_KIND_REMAINDER 31u
+#define KOTO_KIND_POWER 32u
+#define KOTO_KIND_ASSIGN 33u
+#define KOTO_KIND_ADD_ASSIGN 34u
+#define KOTO_KIND_SUBTRACT_ASSIGN 35u
+#define KOTO_KIND_MULTIPLY_ASSIGN 36u
+#define KOTO_KIND_DIVIDE_ASSIGN 37u
+#define KOTO_KIND_REMAINDER_ASSIGN 38u
+#define KOTO_KIND_POWER_ASSIGN 39u
+#define KOTO_KIND_EQUAL 40u
+#define KOTO_KIND_NOT_EQUAL 41u
+#define KOTO_KIND_GREATER 42u
+#define KOTO_KIND_GREATER_OR_EQUAL 43u
+#define KOTO_KIND_LESS 44u
+#define KOTO_KIND_LESS_OR_EQUAL 45u
+#define KOTO_KIND_ARROW 46u
+#define KOTO_KIND_AS 47u
+#define KOTO_KIND_AND 48u
+#define KOTO_KIND_BREAK 49u
+#define KOTO_KIND_CATCH 50u
+#define KOTO_KIND_CONTINUE 51u
+#define KOTO_KIND_DEBUG 52u
+#define KOTO_KIND_ELSE 53u
+#define KOTO_KIND_ELSE_IF 54u
+#define KOTO_KIND_EXPORT 55u
+#define KOTO_KIND_FALSE 56u
+#define KOTO_KIND_FINALLY 57u
+#define KOTO_KIND_FOR 58u
+#define KOTO_KIND_FROM 59u
+#define KOTO_KIND_IF 60u
+#define KOTO_KIND_IMPORT 61u
+#define KOTO_KIND_IN 62u
+#define KOTO_KIND_LOOP 63u
+#define KOTO_KIND_MATCH 64u
+#define KOTO_KIND_NOT 65u
+#define KOTO_KIND_NULL 66u
+#define KOTO_KIND_OR 67u
+#define KOTO_KIND_RETURN 68u
+#define KOTO_KIND_SELF 69u
+#define KOTO_KIND_SWITCH 70u
+#define KOTO_KIND_THEN 71u
+#define KOTO_KIND_THROW 72u
+#define KOTO_KIND_TRUE 73u
+#define KOTO_KIND_TRY 74u
+#define KOTO_KIND_UNTIL 75u
+#define KOTO_KIND_WHILE 76u
+#define KOTO_KIND_YIELD 77u
+#define KOTO_KIND_AWAIT 78u
+#define KOTO_KIND_CONST 79u
+#define KOTO_KIND_LET 80u
+
+/* ---- Format options: no number, and the numbers of an alignment and of a representation ---- */
+
+#define KOTO_NONE UINT64_MAX
+
+#define KOTO_ALIGNMENT_DEFAULT 0u
+#define KOTO_ALIGNMENT_LEFT 1u
+#define KOTO_ALIGNMENT_CENTER 2u
+#define KOTO_ALIGNMENT_RIGHT 3u
+
+#define KOTO_REPRESENTATION_DEBUG 0u
+#define KOTO_REPRESENTATION_HEX_LOWER 1u
+#define KOTO_REPRESENTATION_HEX_UPPER 2u
+#define KOTO_REPRESENTATION_BINARY 3u
+#define KOTO_REPRESENTATION_OCTAL 4u
+#define KOTO_REPRESENTATION_EXP_LOWER 5u
+#define KOTO_REPRESENTATION_EXP_UPPER 6u
+
+/* ---- Structs ---- */
+
+/* A token of a scan, as koto_next and koto_peek show it: its kind and detail, its bytes from start to before end, its span (lines and columns
+ * from 0), and the indent of its line. */
+typedef struct koto_record {
+    uint32_t kind;
+    uint32_t detail;
+    uint32_t start;
+    uint32_t end;
+    uint32_t start_line;
+    uint32_t start_column;
+    uint32_t end_line;
+    uint32_t end_column;
+    uint32_t indent;
+} koto_record;
+
+/* The options of a format string. The fill is the part of the format string from byte fill_place on of fill_len bytes, and fill_index is
+ * its index in the pool. */
+typedef struct koto_options {
+    uint64_t alignment;
+    uint64_t width;
+    uint64_t precision;
+    uint64_t representation;
+    uint64_t fill_place;
+    uint64_t fill_len;
+    uint64_t fill_index;
+} koto_options;
+
+/* Where a string of a pool starts in the row of bytes, and how many bytes it has. */
+typedef struct koto_entry {
+    uint32_t start;
+    uint32_t len;
+} koto_entry;
+
+/* How many entries and how many bytes of a pool are in use. */
+typedef struct koto_counts {
+    uint32_t entries;
+    uint32_t bytes;
+} koto_counts;
+
+/* ---- Calls ---- */
+
+/* Reads the UTF-8 character at byte `at`.
+ *
+ * in       the bytes; a place, which may be past their end
+ * out      code: its code point. len: how many bytes it has, 1 to 4. cut: 0
+ * refused  3 BAD_UTF8: no whole character begins there. cut: 1 where the bytes to the end are a beginning of one, or none are left; else 0.
+ *            code and len: 0. (The place is `at`.)
+ */
+uint32_t koto_read_char(const uint8_t *bytes, size_t bytes_len, size_t at, uint32_t *code, size_t *len, uint32_t *cut);
+
+/* Checks that all bytes are well-formed UTF-8. No bytes are.
+ *
+ * in       the bytes
+ * out      place: 0. cut: 0
+ * refused  3 BAD_UTF8. place: the offset of the first ill-formed sequence. cut: 1 where the end cuts a character there, else 0
+ */
+uint32_t koto_check_utf8(const uint8_t *bytes, size_t bytes_len, size_t *place, uint32_t *cut);
+
+/* Checks a property table.
+ *
+ * A number is a run of code points: divided by 2,048 its first code point, and the rest is its properties: XID_Start 1, XID_Continue 2, the
+ * width times 4 (0 to 3), the cluster class times 16 (Other 0, CR 1, LF 2, Control 3, Extend 4, ZWJ 5, Regional_Indicator 6, Prepend 7,
+ * SpacingMark 8, L 9, V 10, T 11, LV 12, LVT 13), Extended_Pictographic 256, InCB times 512 (none 0, Consonant 1, Extend 2, Linker 3).
+ *
+ * in       the table's numbers
+ * out      place: 0
+ * refused  2 BAD_TABLE, with its place
+ */
+uint32_t koto_check_table(const uint32_t *table, size_t table_len, size_t *place);
+
+/* Reads a table file into the start of a row. A file is "KPT", a 16-bit version (1), a zero byte, a 16-bit count and the numbers, all
+ * little-endian, with nothing after.
+ *
+ * in       the file's bytes; a row, of which nothing is read
+ * out      row: the file's numbers, and behind them what was there. count: how many they are. place: 0
+ * refused  in this order, each with count 0, and the whole row stays
+ *          14 BAD_FILE, with its place
+ *          4 LIST_FULL: the row is shorter than the count. place: 0
+ *          2 BAD_TABLE, with its place: the numbers are no fit table
+ */
+uint32_t koto_read_table(const uint8_t *file, size_t file_len, uint32_t *row, size_t row_len, size_t *count, size_t *place);
+
+/* The first extended grapheme cluster of a source (UAX #29, GB3 to GB9c and GB11 to GB13, over the table's properties).
+ *
+ * in       the source; a table
+ * out      len: how many bytes it has; 0 for no bytes. place: 0
+ * refused  in this order, each with len 0
+ *          1 TOO_LONG. place: 0
+ *          2 BAD_TABLE, with its place
+ *          3 BAD_UTF8, with its place
+ */
+uint32_t koto_first_cluster(const uint8_t *source, size_t source_len, const uint32_t *table, size_t table_len, size_t *len,
+                            size_t *place);
+
+/* Scans a source into records. A record is KOTO_RECORD_WORDS words of the list: kind + 128 * detail, start, end, start line, start column,
+ * end line, end column, indent. n bytes have at most n + n / 3 records.
+ *
+ * in       the source; a table; a list, of which nothing is read
+ * out      list: the records from its start on, and behind them what was there. status: KOTO_END or KOTO_STUCK. count: how many records
+ *            there are. byte: the current byte, where the last of them ends
+ * refused  in this order, each with status KOTO_REFUSED, and its place in byte
+ *          1 TOO_LONG. count: 0, byte: 0; the whole list stays
+ *          2 BAD_TABLE. count: 0; the whole list stays
+ *          3 BAD_UTF8. count: 0; the whole list stays
+ *          4 LIST_FULL, 5 MODES_FULL: list and count have the records before the token that is left, and behind them the list stays
+ */
+uint32_t koto_scan(const uint8_t *source, size_t source_len, const uint32_t *table, size_t table_len, uint32_t *list,
+                   size_t list_len, uint32_t *status, size_t *count, size_t *byte);
+
+/* Hands out the next token of a scan, and moves the cursor on.
+ *
+ * A cursor is the numbers taken, queued, count and status. After a scan it is 0, 0, and the scan's count and status. It is unfit where the
+ * list has no room for count records, taken is over count, more is queued than is left (KOTO_END), the last record is taken (KOTO_STUCK),
+ * over KOTO_QUEUE_MOST are queued, or the status is another number.
+ *
+ * in       the list that the scan wrote; the cursor
+ * out      shown: 1, and record: the token; or 0, where all are taken at KOTO_END, and record: zeros. taken, queued: the cursor after it; at
+ *            KOTO_STUCK the last record is never taken. place: 0
+ * refused  in this order, each with shown 0 and record zeros; taken and queued stay
+ *          8 BAD_STATE. place: 0
+ *          9 BAD_RECORD. place: the record's index
+ */
+uint32_t koto_next(const uint32_t *list, size_t list_len, size_t *taken, size_t *queued, size_t count, uint32_t status,
+                   uint32_t *shown, koto_record *record, size_t *place);
+
+/* Looks ahead. With n at most queued it first queues one more token, if there is one; then it shows queued token n. So a look one past the
+ * queue shows nothing.
+ *
+ * in       the list that the scan wrote; the cursor (see koto_next); n, from 0
+ * out      shown: 1, and record: the token; or 0, where no token n is queued, and record: zeros. queued: how many are queued after it.
+ *            place: 0
+ * refused  in this order, each with shown 0 and record zeros; queued stays
+ *          8 BAD_STATE. place: 0
+ *          6 PEEK_TOO_FAR. place: 0
+ *          7 QUEUE_FULL. place: 0
+ *          9 BAD_RECORD. place: the record's index
+ */
+uint32_t koto_peek(const uint32_t *list, size_t list_len, size_t taken, size_t *queued, size_t count, uint32_t status, size_t n,
+                   uint32_t *shown, koto_record *record, size_t *place);
+
+/* Adds a string to a pool, or finds it there. Equal strings have equal indices, counted from 0 in the order of their first addition.
+ *
+ * A pool is a row of bytes, a row of entries, and the counts of what is in use of each. An empty one has counts of 0. It is unfit where a
+ * count is over its row, or the entries in use do not run end to end from byte 0 to the byte count.
+ *
+ * in       the string; the pool
+ * out      index: the string's. place: 0. Where it was not there: its bytes and its entry behind those in use, and counts with one entry and
+ *            so many bytes more; all else stays
+ * refused  in this order, each with index 0; the pool stays
+ *          3 BAD_UTF8, with its place
+ *          8 BAD_STATE. place: 0
+ *          13 POOL_FULL. place: 0
+ */
+uint32_t koto_add_string(const uint8_t *string, size_t string_len, uint8_t *bytes, size_t bytes_len, koto_entry *entries,
+                         size_t entries_len, koto_counts *counts, uint32_t *index, size_t *place);
+
+/* Parses the format options of a string template, and adds their fill to a pool (see koto_add_string).
+ *
+ * in       the format string; a table; the pool
+ * out      options: alignment a KOTO_ALIGNMENT; width, precision, representation (a KOTO_REPRESENTATION) and the fill's three, each KOTO_NONE
+ *            where the format string has none. value: 0. The pool: with the strings that koto adds as it reads
+ * refused  in this order, each with all seven options KOTO_NONE, and its place or value in value
+ *          1 TOO_LONG, 2 BAD_TABLE, 3 BAD_UTF8, 8 BAD_STATE: the pool stays
+ *          10 EXPECTED_NUMBER, 11 FORMAT_NUMBER_IS_TOO_LARGE, 12 UNEXPECTED_TOKEN, and 13 POOL_FULL where a string found no room, whatever would
+ *            have been found after it: the pool has the strings that were added before
+ */
+uint32_t koto_parse(const uint8_t *format, size_t format_len, const uint32_t *table, size_t table_len, uint8_t *bytes,
+                    size_t bytes_len, koto_entry *entries, size_t entries_len, koto_counts *counts, koto_options *options,
+                    uint64_t *value);
+
+#ifdef __cplusplus
+}
+#endif
+
+#endif
