@@ -14,7 +14,11 @@ use denote.RattleType.{RattleType}
 use denote.Laws.{Is, Tells, Makes, Lawful}
 use denote.Steps.{nothing}
 use denote.Triple.Walked.{says}
+use denote.Struct.Declared as Struct
+use denote.Struct.Struct.{Plains}
 use denote.Struct.Laws as S
+use denote.Enum.Declared as Enum
+use denote.Enum.Enum.{Few, Plainss}
 use denote.Enum.Laws as E
 use Rattle.pool.proofs.Counts as Counts
 use Rattle.pool.proofs.Counts.Laws as Counts′
@@ -39,29 +43,35 @@ pub record Plain (R : RattleType) : Type 2 where
   pub lawful : {M : Type 1} (𝓤 : URA M) (H : Heap 𝓤) (A : Atoms 𝓤) (W : Given 𝓤 H A) → Lawful 𝓤 H A R
   pub makes : {M : Type 1} (𝓤 : URA M) (H : Heap 𝓤) (A : Atoms 𝓤) → Makes 𝓤 H A R (Is R)
 
+abbrev struct : (T : Struct.Declared) → S.Laws T → Plains (Struct.fields T) → Plain (Struct.row T)
+struct T L plain = record { val = S.val T L; tells = S.tells T L; lawful = S.lawful T L; makes = S.makes T plain }
+
+abbrev enum : (T : Enum.Declared) → E.Laws T → Few (Enum.shape T) → Plainss (Enum.variants T) → Plain (Enum.row T)
+enum T L few plain = record { val = E.val T L; tells = E.tells T L; lawful = λ 𝓤 H A W. E.lawful T L 𝓤 H A W few; makes = E.makes T plain }
+
 abbrev pub counts : Plain Counts.the-row
-counts = record { val = S.val Counts.the-type Counts′.the-laws; tells = S.tells Counts.the-type Counts′.the-laws; lawful = S.lawful Counts.the-type Counts′.the-laws; makes = S.makes Counts.the-type Counts′.the-plain }
+counts = struct Counts.the-type Counts′.the-laws Counts′.the-plain
 
 abbrev pub added : Plain Added.the-row
-added = record { val = E.val Added.the-type Added′.the-laws; tells = E.tells Added.the-type Added′.the-laws; lawful = λ 𝓤 H A W. E.lawful Added.the-type Added′.the-laws 𝓤 H A W tt; makes = E.makes Added.the-type Added′.the-plain }
+added = enum Added.the-type Added′.the-laws tt Added′.the-plain
 
 abbrev pub fill : Plain Fill.the-row
-fill = record { val = E.val Fill.the-type Fill′.the-laws; tells = E.tells Fill.the-type Fill′.the-laws; lawful = λ 𝓤 H A W. E.lawful Fill.the-type Fill′.the-laws 𝓤 H A W tt; makes = E.makes Fill.the-type Fill′.the-plain }
+fill = enum Fill.the-type Fill′.the-laws tt Fill′.the-plain
 
 abbrev pub adding : Plain Adding.the-row
-adding = record { val = S.val Adding.the-type Adding′.the-laws; tells = S.tells Adding.the-type Adding′.the-laws; lawful = S.lawful Adding.the-type Adding′.the-laws; makes = S.makes Adding.the-type Adding′.the-plain }
+adding = struct Adding.the-type Adding′.the-laws Adding′.the-plain
 
 abbrev pub after : Plain After.the-row
-after = record { val = S.val After.the-type After′.the-laws; tells = S.tells After.the-type After′.the-laws; lawful = S.lawful After.the-type After′.the-laws; makes = S.makes After.the-type After′.the-plain }
+after = struct After.the-type After′.the-laws After′.the-plain
 
 abbrev pub parsed : Plain Parsed.the-row
-parsed = record { val = E.val Parsed.the-type Parsed′.the-laws; tells = E.tells Parsed.the-type Parsed′.the-laws; lawful = λ 𝓤 H A W. E.lawful Parsed.the-type Parsed′.the-laws 𝓤 H A W tt; makes = E.makes Parsed.the-type Parsed′.the-plain }
+parsed = enum Parsed.the-type Parsed′.the-laws tt Parsed′.the-plain
 
 abbrev pub reading : Plain Reading.the-row
-reading = record { val = E.val Reading.the-type Reading′.the-laws; tells = E.tells Reading.the-type Reading′.the-laws; lawful = λ 𝓤 H A W. E.lawful Reading.the-type Reading′.the-laws 𝓤 H A W tt; makes = E.makes Reading.the-type Reading′.the-plain }
+reading = enum Reading.the-type Reading′.the-laws tt Reading′.the-plain
 
 abbrev pub plan : Plain Plan.the-row
-plan = record { val = S.val Plan.the-type Plan′.the-laws; tells = S.tells Plan.the-type Plan′.the-laws; lawful = S.lawful Plan.the-type Plan′.the-laws; makes = S.makes Plan.the-type Plan′.the-plain }
+plan = struct Plan.the-type Plan′.the-laws Plan′.the-plain
 
 module _ {M : Type 1} (𝓤 : URA M) (H : Heap 𝓤) (A : Atoms 𝓤) (W : Given 𝓤 H A) (P : SProp 𝓤) where
   pub no-ask : ent 𝓤 P (sep 𝓤 P (emp 𝓤))

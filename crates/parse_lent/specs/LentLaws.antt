@@ -55,7 +55,8 @@ pub adds-nothing : (format : List ℕ) (fill : Fill) (a : Adding) (bytes entries
 adds-nothing format (Is part) a bytes entries e = sym (adds-full (pooled bytes entries a) _ (not-not (a .full) false e))
 adds-nothing format NoFill a bytes entries e = refl
 
-pub adds-string : (format : List ℕ) (fill : Fill) (a : Adding) {bytes entries newBytes newEntries : List ℕ} {r : Added} {b : Adding} → isAdding fill a ≡ true
+pub adds-string : (format : List ℕ) (fill : Fill) (a : Adding) {bytes entries newBytes newEntries : List ℕ} {r : Added} {b : Adding}
+    → isAdding fill a ≡ true
     → AddsString (fillString format fill) (a .counts) bytes entries newBytes newEntries r → b ≡ addingAfter a r
     → pooled newBytes newEntries b ≡ addFill (addPart format addTo) (pooled bytes entries a) fill
 adds-string format (Is part) a e s q = adds-after a _ (not-not (a .full) true e) s q
@@ -100,11 +101,13 @@ module _ (format table : List ℕ) (counts : Counts) where
         → Parses format table bytes entries counts newBytes newEntries r
     parses-planned {fit} f e p v a =
         subst (λ (x : After). Parses format table bytes entries counts newBytes newEntries x) (sym (a ∙ ap (λ (x : Reading). endBy x two) e))
-        (planned fit (readingOf format table) (sym f) refl (v ∙ ap (λ (x : Plan). addPlan format x bytes entries) (p ∙ ap (λ (x : Reading). planOf x counts) e)))
+        (planned fit (readingOf format table) (sym f) refl
+        (v ∙ ap (λ (x : Plan). addPlan format x bytes entries) (p ∙ ap (λ (x : Reading). planOf x counts) e)))
 
 -- ---- the call
 
-pub one-outcome : {format table bytes newBytes newBytes′ : List ℕ} {entries newEntries newEntries′ : List Entry} {counts newCounts newCounts′ : Counts} {r q : Parsed}
+pub one-outcome : {format table bytes newBytes newBytes′ : List ℕ} {entries newEntries newEntries′ : List Entry}
+    {counts newCounts newCounts′ : Counts} {r q : Parsed}
     → ParsesEntries format table bytes entries counts newBytes newEntries newCounts r
     → ParsesEntries format table bytes entries counts newBytes′ newEntries′ newCounts′ q
     → (r ≡ q) × (newBytes ≡ newBytes′) × (newEntries ≡ newEntries′) × (newCounts ≡ newCounts′)

@@ -186,12 +186,11 @@ module _ {M : Type 1} (𝓤 : URA M) (H : Heap 𝓤) (A : Atoms 𝓤) (W : Given
         sets ! (agg ! (and-then ! (local ! 16 refl) (and-then ! (member ! 24 refl (sub ! 1 refl (whole !))) (no-more !)))) 14 refl
         (tt, (tt, (record { fits = g₂ .0 }, tt))) $ lft-new ! tt (λ ν. move ! (5 ∷ 2 ∷ []) $
         use2 W (later (some (λ (δ : GName). ‵ (MutSlice (named 1) (ν ∷ []) u8 .own (bytes-at δ (x₁ .now)) (v₁ ∷ [])) ⊛ ‵ (LentAgain u8 κ₁
-        (ν ∷ []) q₁ (x₁ .name) (x₁ .ptr .0) (x₁ .ptr .1) δ (x₁ .now))))) (lends-again u8 κ₁ (ν ∷ []) q₁ (x₁ .name) (x₁ .ptr .0)
-        (x₁ .ptr .1) 𝓤 H A W (named 1) (named 1) (x₁ .now)) $ await ! tt $ pick ! (λ δ.
+        (ν ∷ []) q₁ x₁ δ)))) (lends-again u8 κ₁ (ν ∷ []) q₁ x₁ 𝓤 H A W (named 1) (named 1)) $ await ! tt $ pick ! (λ δ.
         split ! $ lft-new ! tt (λ ν′. move ! (6 ∷ 4 ∷ []) $
         use2 W (later (some (λ (δ′ : GName). ‵ (MutSlice (named 2) (ν′ ∷ []) E.the-row .own (entries-at δ′ (x₂ .now)) (v₂ ∷ [])) ⊛ ‵
-        (LentAgain E.the-row κ₂ (ν′ ∷ []) q₂ (x₂ .name) (x₂ .ptr .0) (x₂ .ptr .1) δ′ (x₂ .now))))) (lends-again E.the-row κ₂ (ν′ ∷ []) q₂
-        (x₂ .name) (x₂ .ptr .0) (x₂ .ptr .1) 𝓤 H A W (named 2) (named 2) (x₂ .now)) $ await ! tt $ pick ! (λ δ′.
+        (LentAgain E.the-row κ₂ (ν′ ∷ []) q₂ x₂ δ′)))) (lends-again E.the-row κ₂ (ν′ ∷ []) q₂ x₂ 𝓤 H A W (named 2) (named 2)) $ await ! tt $
+        pick ! (λ δ′.
         split ! $ move ! (7 ∷ []) $ use1 W (‵ Own₀ ⊛ ‵ Own₀) (shr-slice-copy 𝓤 H A W (named 0) κ₀ u8 .twice x₀ (v₀ ∷ [])) $ split ! $
         nothing ! $ owned ! Adding.the-row (Is Adding.the-row) (adding .makes 𝓤 H A) (p .none) _ (none-is p gp) $
         fjoin ! $ move ! (3 ∷ 0 ∷ []) $ fjoin ! $ move ! (5 ∷ 0 ∷ []) $ fjoin ! $
@@ -219,11 +218,10 @@ module _ {M : Type 1} (𝓤 : URA M) (H : Heap 𝓤) (A : Atoms 𝓤) (W : Given
         move ! (1 ∷ []) $ split ! $ move ! (1 ∷ []) $ split ! $ move ! (1 ∷ []) $ drop ! $ move ! (1 ∷ []) $ lft-end ! tt $
         move ! (1 ∷ []) $ lft-end ! tt $ move ! (1 ∷ 7 ∷ 4 ∷ []) $
         use3 W (later (‵ (MutSlice (named 1) κ₁ u8 .own (bytes-at (x₁ .name) (zs .1 .1 .0)) (v₁ ∷ [])) ⊛ ‵ (flft κ₁ q₁))) (comes-back u8 κ₁
-        (ν ∷ []) q₁ (x₁ .name) (x₁ .ptr .0) (x₁ .ptr .1) 𝓤 H A W (named 1) (named 1) (x₁ .now) δ (zs .1 .1 .0) g₁ k₁) $ await ! tt $
-        split ! $ move ! (2 ∷ 6 ∷ 4 ∷ []) $
+        (ν ∷ []) q₁ x₁ 𝓤 H A W (named 1) (named 1) δ (zs .1 .1 .0) g₁ k₁) $ await ! tt $ split ! $
+        move ! (2 ∷ 6 ∷ 4 ∷ []) $
         use3 W (later (‵ (MutSlice (named 2) κ₂ E.the-row .own (entries-at (x₂ .name) (zs .1 .1 .1 .0)) (v₂ ∷ [])) ⊛ ‵ (flft κ₂ q₂)))
-        (comes-back E.the-row κ₂ (ν′ ∷ []) q₂ (x₂ .name) (x₂ .ptr .0) (x₂ .ptr .1) 𝓤 H A W (named 2) (named 2) (x₂ .now) δ′
-        (zs .1 .1 .1 .0) g₂ k₂) $ await ! tt $
+        (comes-back E.the-row κ₂ (ν′ ∷ []) q₂ x₂ 𝓤 H A W (named 2) (named 2) δ′ (zs .1 .1 .1 .0) g₂ k₂) $ await ! tt $
         split ! $
         -- the second addition: both rows are given to it for good
         sets ! (addr ! (from ! (fld ! refl (hop ! (look-in ! 26 (sub ! 0 refl (whole !))) (stop !))))) 12 refl (tt, tt) $
