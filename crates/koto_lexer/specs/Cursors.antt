@@ -19,8 +19,14 @@ use Rattle.lookahead.specs.declared.Given.the-variants as given
 use Rattle.lookahead.specs.declared.Peeked.{Peeked}
 use Rattle.lookahead.specs.declared.Peeked.the-variants as peeked
 use Rattle.koto_lexer.specs.Scans.{endNumber, stuckNumber}
+use Rattle.koto_lexer.specs.declared.cursors.Named.{Named}
+use Rattle.koto_lexer.specs.declared.cursors.Named.the-variants as named
 
 -- ---- the numbers of a cursor and of a record
+
+-- the status that a number names, as `koto_scan` writes it
+unfoldable pub statusBy : ℕ → Named
+statusBy number = pick (eqb number endNumber) (named.Status End) (pick (eqb number stuckNumber) (named.Status Stuck) named.Nothing)
 
 abbrev pub cursorOf : ℕ → ℕ → ℕ → Status → Cursor
 cursorOf taken queued count status = record { taken = taken; queued = queued; count = count; status = status }
@@ -48,11 +54,14 @@ wordsOf row =
 
 -- ---- `next`
 
+-- the answer where the status number names this
+abbrev pub nextIf : List ℕ → ℕ → ℕ → ℕ → Named → Given
+nextIf list taken queued count (named.Status status) = nextOf list (cursorOf taken queued count status)
+nextIf list taken queued count named.Nothing = given.BadState
+
 -- the answer for these numbers
-unfoldable pub nextBy : List ℕ → ℕ → ℕ → ℕ → ℕ → Given
-nextBy list taken queued count status =
-    pick (eqb status endNumber) (nextOf list (cursorOf taken queued count End))
-    (pick (eqb status stuckNumber) (nextOf list (cursorOf taken queued count Stuck)) given.BadState)
+abbrev pub nextBy : List ℕ → ℕ → ℕ → ℕ → ℕ → Given
+nextBy list taken queued count status = nextIf list taken queued count (statusBy status)
 
 -- 1 where a token is handed out
 abbrev pub givenShown : Given → ℕ
@@ -93,11 +102,14 @@ pub record NextIs (list : List ℕ) (taken queued count status newTaken newQueue
 
 -- ---- `peek`
 
+-- the answer where the status number names this
+abbrev pub peekIf : List ℕ → ℕ → ℕ → ℕ → ℕ → Named → Peeked
+peekIf list taken queued count n (named.Status status) = peekOf list (cursorOf taken queued count status) n
+peekIf list taken queued count n named.Nothing = peeked.BadState
+
 -- the answer for these numbers
-unfoldable pub peekBy : List ℕ → ℕ → ℕ → ℕ → ℕ → ℕ → Peeked
-peekBy list taken queued count status n =
-    pick (eqb status endNumber) (peekOf list (cursorOf taken queued count End) n)
-    (pick (eqb status stuckNumber) (peekOf list (cursorOf taken queued count Stuck) n) peeked.BadState)
+abbrev pub peekBy : List ℕ → ℕ → ℕ → ℕ → ℕ → ℕ → Peeked
+peekBy list taken queued count status n = peekIf list taken queued count n (statusBy status)
 
 -- 1 where a token is shown
 abbrev pub peekedShown : Peeked → ℕ

@@ -3,6 +3,7 @@ pub mod Tables
 pub mod Clusters
 pub mod Scans
 pub mod Cursors
+pub mod CursorsLaws
 pub mod Pools
 pub mod PoolsLaws
 pub mod Formats

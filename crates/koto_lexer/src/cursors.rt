@@ -2,7 +2,7 @@
 ghost use mathlib.Core.Path.{_≡_};
 ghost use Rattle.lookahead.specs.Next as next;
 ghost use Rattle.lookahead.specs.Peek as peek;
-ghost use Rattle.koto_lexer.specs.Cursors.{noRow, wordsOf, nextBy, givenShown, givenRow, givenTaken, givenQueued, NextIs};
+ghost use Rattle.koto_lexer.specs.Cursors.{statusBy, noRow, wordsOf, nextBy, givenShown, givenRow, givenTaken, givenQueued, NextIs};
 ghost use Rattle.koto_lexer.specs.Cursors.{peekBy, peekedShown, peekedRow, peekedQueued, PeekIs};
 use crate::refusals::BAD_RECORD;
 use crate::refusals::BAD_STATE;
@@ -16,6 +16,25 @@ use lookahead::Given;
 use lookahead::Peeked;
 use lookahead::Status;
 use token::rows::Row;
+
+// What a status number names.
+enum Named {
+    Status(Status),
+    // No cursor has this number.
+    Nothing,
+}
+
+fn status_by(number: u32) -> Named
+    ensures { λ r. ⌜ r ≡ statusBy number ⌝ }
+{
+    if number == END {
+        return Named::Status(Status::End);
+    }
+    if number == STUCK {
+        return Named::Status(Status::Stuck);
+    }
+    Named::Nothing
+}
 
 // What stands for a record where none is shown.
 fn no_row() -> Row
@@ -53,13 +72,12 @@ fn put_record(words: &mut [u32; 9], row: Row)
 
 // ---- `next`
 
-// The inner call's answer for a cursor of these numbers. Another status than End and Stuck is no cursor's.
+// The inner call's answer for a cursor of these numbers.
 fn next_by(list: &[u32], taken: usize, queued: usize, count: usize, status: u32) -> Given
     ensures { λ r. ⌜ r ≡ nextBy (now (list .entry)) taken queued count status ⌝ }
 {
-    if status == END {
-        let status = Status::End;
-        return lookahead::next(
+    match status_by(status) {
+        Named::Status(status) => lookahead::next(
             list,
             Cursor {
                 taken,
@@ -67,21 +85,9 @@ fn next_by(list: &[u32], taken: usize, queued: usize, count: usize, status: u32)
                 count,
                 status,
             },
-        );
+        ),
+        Named::Nothing => Given::BadState,
     }
-    if status == STUCK {
-        let status = Status::Stuck;
-        return lookahead::next(
-            list,
-            Cursor {
-                taken,
-                queued,
-                count,
-                status,
-            },
-        );
-    }
-    Given::BadState
 }
 
 fn given_number(given: Given) -> u32
@@ -177,13 +183,12 @@ pub extern "C" fn koto_next(
 
 // ---- `peek`
 
-// The inner call's answer for a cursor of these numbers. Another status than End and Stuck is no cursor's.
+// The inner call's answer for a cursor of these numbers.
 fn peek_by(list: &[u32], taken: usize, queued: usize, count: usize, status: u32, n: usize) -> Peeked
     ensures { λ r. ⌜ r ≡ peekBy (now (list .entry)) taken queued count status n ⌝ }
 {
-    if status == END {
-        let status = Status::End;
-        return lookahead::peek(
+    match status_by(status) {
+        Named::Status(status) => lookahead::peek(
             list,
             Cursor {
                 taken,
@@ -192,22 +197,9 @@ fn peek_by(list: &[u32], taken: usize, queued: usize, count: usize, status: u32,
                 status,
             },
             n,
-        );
+        ),
+        Named::Nothing => Peeked::BadState,
     }
-    if status == STUCK {
-        let status = Status::Stuck;
-        return lookahead::peek(
-            list,
-            Cursor {
-                taken,
-                queued,
-                count,
-                status,
-            },
-            n,
-        );
-    }
-    Peeked::BadState
 }
 
 fn peeked_number(peeked: Peeked) -> u32

@@ -1,28 +1,36 @@
--- `cursors::next_by` meets its contract: the status is tried in `nextBy`'s order. Assumes nothing.
-use mathlib.Core.Path.{sym, _∙_}
-use Rattle.base.specs.Cases.{cases}
-use Rattle.koto_lexer.specs.Cursors.{nextBy}
+-- `cursors::next_by` meets its contract: the status is what its number names, and the inner call does the rest. Assumes nothing.
+use mathlib.Core.Path.{sym, ap, _∙_}
+use Rattle.koto_lexer.specs.Cursors.{nextIf}
 use borrow.Author.Needs.{needs}
 use Rattle.koto_lexer.proofs.cursors.next_by.Statement.{statement}
 use Rattle.koto_lexer.proofs.cursors.next_by.Tie as tie
 
+status-by-requires : tie.Need-status-by-requires
+status-by-requires c κs = search needs
+
+enum-known-status : tie.Need-enum-known-status
+enum-known-status c = search needs
+
 next-requires : tie.Need-next-requires
 next-requires c κs = search needs
 
-returns : tie.Need-returns
-unfolding nextBy
-returns c = c .next .ensures ∙ sym (search cases)
+enum-told : tie.Need-enum-told
+enum-told c = search needs
 
-next-requires-2 : tie.Need-next-requires-2
-next-requires-2 c κs = search needs
+returns : tie.Need-returns
+returns c =
+    let at-status = c .before .before in
+    let told = at-status .before .before in
+    let s = told .before .before .args in
+    c .next .ensures ∙ ap (nextIf (s .list .now) (s .taken) (s .queued) (s .count)) (sym (at-status .status .given .1) ∙ told .status-by .ensures)
 
 returns-2 : tie.Need-returns-2
-unfolding nextBy
-returns-2 c = c .next2 .ensures ∙ sym (search cases)
-
-returns-3 : tie.Need-returns-3
-unfolding nextBy
-returns-3 c = sym (search cases)
+returns-2 c =
+    let told = c .before .before in
+    let s = told .before .before .args in
+    ap (nextIf (s .list .now) (s .taken) (s .queued) (s .count)) (sym (c .enum-told .given .1) ∙ told .status-by .ensures)
 
 pub next-by-spec : {M : Type 1} → statement M
-next-by-spec = tie.close (tie.spec next-requires returns next-requires-2 returns-2 returns-3)
+next-by-spec =
+    tie.close
+    (tie.spec status-by-requires enum-known-status next-requires enum-told returns returns-2)
