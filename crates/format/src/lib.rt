@@ -12,7 +12,7 @@ ghost use Rattle.utf8.specs.Encode.{WellFormed};
 ghost use Rattle.utf8.specs.Chars.{chars};
 ghost use Rattle.property.specs.Table.{propertiesAt, Rises};
 ghost use Rattle.cluster.specs.First.{firstEnd};
-ghost use Rattle.format.specs.Options.{noOptions, withAlignment, withWidth, withPrecision, withRepresentation, withFill};
+ghost use Rattle.format.specs.Options.{noOptions, withAlignment, withWidth, withPrecision, withRepresentation, withFill, alignmentNumber, representationNumber};
 ghost use Rattle.format.specs.Parse.{minWidth, end, peeked, isSign, isDigit, charToAlignment, representationOf, letterOf, isFillSign, isAlign, isZeroFill, isWidth, isPrecision, isBeforeEnd, lastArm, armOf, consumeU32, digitsFrom};
 ghost use Rattle.format.specs.Read.{nothingAdded, keep, startParsing, endsWith, goesTo, goesFilled, widthTo, precisionTo, clusterTo, Here, turnAt, readFormat};
 ghost use Rattle.format.specs.declared.Fill.the-variants.{NoFill};
@@ -80,6 +80,33 @@ pub enum Representation {
     Octal,
     ExpLower,
     ExpUpper,
+}
+
+// `StringAlignment as u8`
+pub fn alignment_number(alignment: Alignment) -> u64
+    ensures { λ r. ⌜ r ≡ alignmentNumber alignment ⌝ }
+{
+    match alignment {
+        Alignment::Default => 0,
+        Alignment::Left => 1,
+        Alignment::Center => 2,
+        Alignment::Right => 3,
+    }
+}
+
+// `StringFormatRepresentation as u8`
+pub fn representation_number(representation: Representation) -> u64
+    ensures { λ r. ⌜ r ≡ representationNumber representation ⌝ }
+{
+    match representation {
+        Representation::Debug => 0,
+        Representation::HexLower => 1,
+        Representation::HexUpper => 2,
+        Representation::Binary => 3,
+        Representation::Octal => 4,
+        Representation::ExpLower => 5,
+        Representation::ExpUpper => 6,
+    }
 }
 
 // A representation, or none.

@@ -2,12 +2,9 @@
 // bytes, and prints the options and the pool. It is a library, so that the program for many format strings prints of each what the
 // program for one does.
 ghost use mathlib.Core.Path.{_≡_};
-ghost use Rattle.format.specs.Options.{alignmentNumber, representationNumber};
-use format::Alignment;
 use format::Fill;
 use format::Given;
 use format::Options;
-use format::Representation;
 use format::Shown;
 use libc::STDOUT_FILENO;
 use parse::Parsed;
@@ -15,33 +12,6 @@ use pool::Counts;
 
 // Format strings over this many bytes are refused.
 const TEXT_MOST: usize = 1024;
-
-// `StringAlignment as u8`
-pub fn alignment_number(alignment: Alignment) -> u32
-    ensures { λ r. ⌜ r ≡ alignmentNumber alignment ⌝ }
-{
-    match alignment {
-        Alignment::Default => 0,
-        Alignment::Left => 1,
-        Alignment::Center => 2,
-        Alignment::Right => 3,
-    }
-}
-
-// `StringFormatRepresentation as u8`
-pub fn representation_number(representation: Representation) -> u32
-    ensures { λ r. ⌜ r ≡ representationNumber representation ⌝ }
-{
-    match representation {
-        Representation::Debug => 0,
-        Representation::HexLower => 1,
-        Representation::HexUpper => 2,
-        Representation::Binary => 3,
-        Representation::Octal => 4,
-        Representation::ExpLower => 5,
-        Representation::ExpUpper => 6,
-    }
-}
 
 // A space and a number.
 fn print_number(n: u64) {
@@ -63,7 +33,7 @@ fn print_given(given: Given) {
 
 fn print_shown(shown: Shown) {
     match shown {
-        Shown::As(representation) => print_number(representation_number(representation) as u64),
+        Shown::As(representation) => print_number(format::representation_number(representation)),
         Shown::Plain => print_none(),
     }
 }
@@ -89,7 +59,7 @@ fn print_options(options: Options, index: Given) {
     let representation = options.representation;
     let fill = options.fill;
     io::write_all(STDOUT_FILENO, b"options");
-    print_number(alignment_number(alignment) as u64);
+    print_number(format::alignment_number(alignment));
     print_given(width);
     print_given(precision);
     print_shown(representation);

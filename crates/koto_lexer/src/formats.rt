@@ -1,6 +1,5 @@
 // Parsing a format string, for C. The options are seven numbers in the order of the C struct.
 ghost use mathlib.Core.Path.{_≡_};
-ghost use Rattle.format.specs.Options.{alignmentNumber, representationNumber};
 ghost use Rattle.parse.specs.Call.{numberOf, valueOf};
 ghost use Rattle.koto_lexer.specs.Formats.{givenNumber, shownNumber, fillPlace, fillLen, optionsNumbers, noNumbers, numbersOf};
 ghost use Rattle.koto_lexer.specs.Formats.{ParsedTold, ParseIs};
@@ -13,11 +12,9 @@ use crate::refusals::NO_REFUSAL;
 use crate::refusals::POOL_FULL;
 use crate::refusals::TOO_LONG;
 use crate::refusals::UNEXPECTED_TOKEN;
-use format::Alignment;
 use format::Fill;
 use format::Given;
 use format::Options;
-use format::Representation;
 use format::Shown;
 use parse::Parsed;
 use pool::Counts;
@@ -26,36 +23,11 @@ use pool_lent::Entry;
 // No number: every option's own number is smaller.
 pub const NONE: u64 = 18446744073709551615;
 
-fn alignment_number(alignment: Alignment) -> u64
-    ensures { λ r. ⌜ r ≡ alignmentNumber alignment ⌝ }
-{
-    match alignment {
-        Alignment::Default => 0,
-        Alignment::Left => 1,
-        Alignment::Center => 2,
-        Alignment::Right => 3,
-    }
-}
-
-fn representation_number(representation: Representation) -> u64
-    ensures { λ r. ⌜ r ≡ representationNumber representation ⌝ }
-{
-    match representation {
-        Representation::Debug => 0,
-        Representation::HexLower => 1,
-        Representation::HexUpper => 2,
-        Representation::Binary => 3,
-        Representation::Octal => 4,
-        Representation::ExpLower => 5,
-        Representation::ExpUpper => 6,
-    }
-}
-
 fn shown_number(shown: Shown) -> u64
     ensures { λ r. ⌜ r ≡ shownNumber shown ⌝ }
 {
     match shown {
-        Shown::As(representation) => representation_number(representation),
+        Shown::As(representation) => format::representation_number(representation),
         Shown::Plain => NONE,
     }
 }
@@ -97,7 +69,7 @@ fn options_numbers(options: Options, index: Given) -> [u64; 7]
     let representation = options.representation;
     let fill = options.fill;
     [
-        alignment_number(alignment),
+        format::alignment_number(alignment),
         given_number(width),
         given_number(precision),
         shown_number(representation),

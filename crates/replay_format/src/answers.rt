@@ -27,7 +27,7 @@ fn shown_number(shown: Shown) -> usize
     ensures { λ r. ⌜ r ≡ shownNumber shown ⌝ }
 {
     match shown {
-        Shown::As(representation) => 1 + formatting::representation_number(representation) as usize,
+        Shown::As(representation) => 1 + format::representation_number(representation) as usize,
         Shown::Plain => 0,
     }
 }
@@ -55,7 +55,7 @@ fn same_options(text: &[u8], at: usize, options: Options, index: Given) -> usize
     let precision = options.precision;
     let representation = options.representation;
     let fill = options.fill;
-    let at = same(text, at, formatting::alignment_number(alignment) as usize);
+    let at = same(text, at, format::alignment_number(alignment) as usize);
     let at = same(text, at, given_number(width));
     let at = same(text, at, given_number(precision));
     let at = same(text, at, shown_number(representation));
