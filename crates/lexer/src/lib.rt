@@ -18,7 +18,7 @@ ghost use Rattle.state.specs.Stack.{Agrees};
 ghost use Rattle.lexer.specs.ConsumeSymbol.{symbolChange, consumeSymbol};
 ghost use Rattle.lexer.specs.GetNextToken.{oneByte, startString, takeToken};
 ghost use Rattle.lexer.specs.Step.{isFull, stoodStill, halfOf, half, step};
-ghost use Rattle.lexer.specs.Fine.{Fine, InLiteralIs, InCodeIs, Other};
+ghost use Rattle.lexer.specs.Fine.{Fine, InLiteralIs, InCodeIs, BeginsIs, Other};
 use state::Change;
 use state::Lexer;
 use state::State;
@@ -140,18 +140,55 @@ fn consume_symbol(source: &[u8], lexer: Lexer) -> Taken
     }
 }
 
-// A character above ASCII: a name, or an unknown symbol.
-fn in_wide(source: &[u8], table: &[u32], lexer: Lexer) -> Taken
+// What a character outside a string begins.
+enum Begins {
+    Number,
+    Name,
+    Symbol,
+}
+
+// What the character at the lexer's place begins, if it is above ASCII: a name, or an unknown symbol.
+fn begins_wide(source: &[u8], table: &[u32], lexer: Lexer) -> Begins
     requires { ⌜ Stands (now source) (reachOf lexer) × (reachOf lexer .byte .0 < length (now source)) ⌝ }
     requires { ⌜ FitTable (now table) × (128 ≤ byteAt (now source) (reachOf lexer .byte .0)) ⌝ }
-    ensures { λ r. ⌜ InCodeIs (now (source .entry)) (now (table .entry)) lexer r ⌝ }
+    ensures { λ r. ⌜ BeginsIs (now (source .entry)) (now (table .entry)) lexer r ⌝ }
 {
     let at = lexer.place.current_byte.0;
     let c = text::char_at(source, table, at);
     if property::is_id_start(c.properties) {
-        return names::consume_id_or_keyword(source, table, lexer);
+        return Begins::Name;
     }
-    consume_symbol(source, lexer)
+    Begins::Symbol
+}
+
+// What the character at the lexer's place begins, if its byte b is none of those that `in_code` tests.
+fn what_begins(source: &[u8], table: &[u32], lexer: Lexer, b: u32) -> Begins
+    requires { ⌜ Stands (now source) (reachOf lexer) × (reachOf lexer .byte .0 < length (now source)) ⌝ }
+    requires { ⌜ FitTable (now table) × (byteAt (now source) (reachOf lexer .byte .0) ≡ b) × Other b × (b ≡ 95 → ⊥) ⌝ }
+    ensures { λ r. ⌜ BeginsIs (now (source .entry)) (now (table .entry)) lexer r ⌝ }
+{
+    if b < 48 {
+        return Begins::Symbol;
+    }
+    if b <= 57 {
+        return Begins::Number;
+    }
+    if b < 65 {
+        return Begins::Symbol;
+    }
+    if b <= 90 {
+        return Begins::Name;
+    }
+    if b < 97 {
+        return Begins::Symbol;
+    }
+    if b <= 122 {
+        return Begins::Name;
+    }
+    if b < 128 {
+        return Begins::Symbol;
+    }
+    begins_wide(source, table, lexer)
 }
 
 // What follows outside a string, where the byte b is none of those that `in_code` tests: a number, a name, or a symbol.
@@ -160,28 +197,11 @@ fn in_rest(source: &[u8], table: &[u32], lexer: Lexer, b: u32) -> Taken
     requires { ⌜ FitTable (now table) × (byteAt (now source) (reachOf lexer .byte .0) ≡ b) × Other b × (b ≡ 95 → ⊥) ⌝ }
     ensures { λ r. ⌜ InCodeIs (now (source .entry)) (now (table .entry)) lexer r ⌝ }
 {
-    if b < 48 {
-        return consume_symbol(source, lexer);
+    match what_begins(source, table, lexer, b) {
+        Begins::Number => names::consume_number(source, lexer),
+        Begins::Name => names::consume_id_or_keyword(source, table, lexer),
+        Begins::Symbol => consume_symbol(source, lexer),
     }
-    if b <= 57 {
-        return names::consume_number(source, lexer);
-    }
-    if b < 65 {
-        return consume_symbol(source, lexer);
-    }
-    if b <= 90 {
-        return names::consume_id_or_keyword(source, table, lexer);
-    }
-    if b < 97 {
-        return consume_symbol(source, lexer);
-    }
-    if b <= 122 {
-        return names::consume_id_or_keyword(source, table, lexer);
-    }
-    if b < 128 {
-        return consume_symbol(source, lexer);
-    }
-    in_wide(source, table, lexer)
 }
 
 // What follows outside a string.
