@@ -8,9 +8,9 @@ use native.Mathlib.Omega.{arith}
 use mathlib.Core.Path.{_≡_, refl, sym, ap, _∙_}
 use mathlib.Core.Bool.{Bool, true, false, _&&_}
 use mathlib.Core.List.{List}
-use lib.Dec.{eqb}
+use lib.Dec.{eqb, leb}
 use lib.ListN.{length, drop}
-use borrow.Author.Tests.{eqb-true, ne-eqb, le-leb}
+use borrow.Author.Tests.{eqb-true, ne-eqb, leb-true}
 use Rattle.base.specs.Pick.{pick}
 use Rattle.base.specs.PickLaws.{by-eq}
 use Rattle.position.specs.Place.{alongBy, lineBy}
@@ -163,10 +163,12 @@ module _ (s : List ℕ) (i : ℕ) (w : WellFormed (drop i s)) (h : i < length s)
         (when (eqb (c .code) minus && nextIs hash rest) _ (λ e. two Close (c .code) minus (both _ _ e .0) (omega arith) refl)))
 
     -- lexer.rs, the arms in common, at a printable ASCII character
-    pub printable-at : (b : ℕ) → byteAt s i ≡ b → space ≤ b → b ≤ tilde → turnAt (plainTurn (propertiesAt table)) (chars (drop i s)) ≡ Pass 1 1
-    printable-at b e low high =
+    pub printable-at : (b : ℕ) → byteAt s i ≡ b → isPrintable b ≡ true → turnAt (plainTurn (propertiesAt table)) (chars (drop i s)) ≡ Pass 1 1
+    printable-at b e p =
+        let q = both (leb space b) (leb b tilde) p in
+        let low : space ≤ b = leb-true space b (q .0) in
+        let high : b ≤ tilde = leb-true b tilde (q .1) in
         let k : b < 128 = omega arith in
-        let p : isPrintable b ≡ true = rw (le-leb space b low, le-leb b tilde high) in
         let wide : widthOf (propertiesAt table b) ≡ 1 = ascii-width table fit b k ∙ ap (λ (t : Bool). pick t 1 0) p in
         plain-at (propertiesAt table) s i b 1 (ascii-head s i b e k) (skip-one s i b w e k .well)
         ∙ rw (ne-eqb b cr (λ x. omega arith), ne-eqb b lf (λ x. omega arith), wide)

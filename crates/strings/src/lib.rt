@@ -11,6 +11,7 @@ ghost use Rattle.utf8.specs.Encode.{WellFormed};
 ghost use Rattle.utf8.specs.Chars.{chars};
 ghost use Rattle.property.specs.Table.{propertiesAt};
 ghost use Rattle.property.specs.FitLaws.{FitTable};
+ghost use Rattle.property.specs.Ascii.{isPrintable};
 ghost use Rattle.text.specs.Bytes.{byteAt};
 ghost use Rattle.text.specs.Follow.{turnAt};
 ghost use Rattle.text.specs.Stands.{Stands, charsFrom};
@@ -87,20 +88,23 @@ fn char_turn(source: &[u8], table: &[u32], at: usize) -> Turn
     Turn::Pass(c.len, property::width_of(c.properties))
 }
 
-// The same. A printable ASCII character has one byte and one column, so its properties need not be asked for.
+// A printable ASCII character: it has one byte and one column, so its properties need not be asked for.
+fn is_printable(b: u32) -> bool
+    ensures { λ r. ⌜ r ≡ isPrintable b ⌝ }
+{
+    SPACE <= b && b <= TILDE
+}
+
+// The arms in common, at any character. Each loop tests for a printable one by itself, so that the test is part of the loop.
 fn plain_turn(source: &[u8], table: &[u32], at: usize) -> Turn
     requires { ⌜ WellFormed (drop at (now source)) × (at < length (now source)) ⌝ }
     requires { ⌜ FitTable (now table) ⌝ }
     ensures { λ r. ⌜ r ≡ turnAt (plainTurn (propertiesAt (now (table .entry)))) (chars (drop at (now (source .entry)))) ⌝ }
 {
-    let b = byte_at(source, at);
-    if b < SPACE {
-        return char_turn(source, table, at);
+    if is_printable(byte_at(source, at)) {
+        return Turn::Pass(1, 1);
     }
-    if TILDE < b {
-        return char_turn(source, table, at);
-    }
-    Turn::Pass(1, 1)
+    char_turn(source, table, at)
 }
 
 // One turn in a multi-line comment: "#-" is passed over as a pair, and does not nest.
@@ -120,7 +124,10 @@ fn comment_turn(source: &[u8], table: &[u32], at: usize) -> Turn
             return Turn::Close(2, 2);
         }
     }
-    plain_turn(source, table, at)
+    if is_printable(b) {
+        return Turn::Pass(1, 1);
+    }
+    char_turn(source, table, at)
 }
 
 // The multi-line comment. Its "#" is passed, and its "-" may also begin the close.
@@ -207,7 +214,10 @@ fn literal_turn(source: &[u8], table: &[u32], at: usize, quote: u32) -> Turn
     if b == BACKSLASH {
         return escape_turn(source, at, quote);
     }
-    plain_turn(source, table, at)
+    if is_printable(b) {
+        return Turn::Pass(1, 1);
+    }
+    char_turn(source, table, at)
 }
 
 // lexer.rs `consume_string_literal`: up to the end quote or a template's brace. Unclosed, it stands still.

@@ -6,7 +6,7 @@ use mathlib.Core.Logic.{⊎-elim}
 use denote.Ref.{now}
 use Rattle.base.specs.Cases.{cases, pick-no}
 use Rattle.text.specs.Tests.{hash, minus}
-use Rattle.strings.specs.TurnLaws.{isPair, comment-at}
+use Rattle.strings.specs.TurnLaws.{isPair, comment-at, printable-at}
 use Rattle.strings.proofs.comment_turn.Statement.{statement}
 use Rattle.strings.proofs.comment_turn.Tie as tie
 
@@ -43,16 +43,31 @@ returns-2 c =
     let p = past .before .before .before .before .pre in
     sym (comment-at _ _ (p .0 .0) (p .0 .1) _ (p .1) ∙ pick-no _ _ _ _ (no-open past) (search cases))
 
-plain-turn-requires : tie.Need-plain-turn-requires
-plain-turn-requires c κs = search needs
+is-printable-requires : tie.Need-is-printable-requires
+is-printable-requires c κs = search needs
 
 returns-3 : tie.Need-returns-3
 returns-3 c =
-    let past = c .before .before in
+    let joined = c .before .before in
+    let past = joined .before in
     let p = past .before .before .before .before .pre in
     sym
     (comment-at _ _ (p .0 .0) (p .0 .1) _ (p .1)
-    ∙ pick-no _ _ _ _ (no-open past) (pick-no _ _ _ _ (no-close (c .before)) (sym (c .plain-turn .ensures))))
+    ∙ pick-no _ _ _ _ (no-open past)
+    (pick-no _ _ _ _ (no-close joined)
+    (printable-at _ _ (p .0 .0) (p .0 .1) _ (p .1) _ (sym (past .before .byte-at .ensures)) (sym (c .before .is-printable .ensures) ∙ c .if5 .taken))))
+
+char-turn-requires : tie.Need-char-turn-requires
+char-turn-requires c κs = search needs
+
+returns-4 : tie.Need-returns-4
+returns-4 c =
+    let joined = c .before .before .before in
+    let past = joined .before in
+    let p = past .before .before .before .before .pre in
+    sym
+    (comment-at _ _ (p .0 .0) (p .0 .1) _ (p .1)
+    ∙ pick-no _ _ _ _ (no-open past) (pick-no _ _ _ _ (no-close joined) (sym (c .char-turn .ensures))))
 
 pub comment-turn-spec : {M : Type 1} → statement M
 comment-turn-spec =
@@ -65,5 +80,7 @@ comment-turn-spec =
     add-byte-at-2
     byte-at-requires-3
     returns-2
-    plain-turn-requires
-    returns-3)
+    is-printable-requires
+    returns-3
+    char-turn-requires
+    returns-4)

@@ -6,7 +6,7 @@ use denote.Ref.{now}
 use Rattle.base.specs.Cases.{cases}
 use Rattle.text.specs.Tests.{backslash}
 use Rattle.text.specs.FollowLaws.{one-ascii}
-use Rattle.strings.specs.TurnLaws.{literal-at}
+use Rattle.strings.specs.TurnLaws.{literal-at, printable-at}
 use Rattle.strings.proofs.literal_turn.Statement.{statement}
 use Rattle.strings.proofs.literal_turn.Tie as tie
 
@@ -36,13 +36,23 @@ returns-3 c =
     let e = sym (c .escape-turn .ensures) in
     sym (literal-at _ _ (p .0 .0) (p .0 .1) _ _ (p .1 .1) ∙ search cases)
 
-plain-turn-requires : tie.Need-plain-turn-requires
-plain-turn-requires c κs = search needs
+is-printable-requires : tie.Need-is-printable-requires
+is-printable-requires c κs = search needs
 
 returns-4 : tie.Need-returns-4
 returns-4 c =
-    let p = c .before .before .before .before .before .before .before .pre in
-    let e = sym (c .plain-turn .ensures) in
+    let b = c .before .before .before .before .before in
+    let p = b .before .before .before .pre in
+    let e = printable-at _ _ (p .0 .0) (p .0 .1) _ (p .1 .0) _ (sym (b .byte-at .ensures)) (sym (c .before .is-printable .ensures) ∙ c .if4 .taken) in
+    sym (literal-at _ _ (p .0 .0) (p .0 .1) _ _ (p .1 .1) ∙ search cases)
+
+char-turn-requires : tie.Need-char-turn-requires
+char-turn-requires c κs = search needs
+
+returns-5 : tie.Need-returns-5
+returns-5 c =
+    let p = c .before .before .before .before .before .before .before .before .before .pre in
+    let e = sym (c .char-turn .ensures) in
     sym (literal-at _ _ (p .0 .0) (p .0 .1) _ _ (p .1 .1) ∙ search cases)
 
 pub literal-turn-spec : {M : Type 1} → statement M
@@ -54,5 +64,7 @@ literal-turn-spec =
     returns-2
     escape-turn-requires
     returns-3
-    plain-turn-requires
-    returns-4)
+    is-printable-requires
+    returns-4
+    char-turn-requires
+    returns-5)
