@@ -2,6 +2,7 @@ pub mod Places
 pub mod ConsumeWhitespace
 pub mod ConsumeNumber
 pub mod ConsumeIdOrKeyword
+pub mod Decided
 pub mod PlaceLaws
 pub mod NumberLaws
 pub mod NameLaws

@@ -1,9 +1,10 @@
 -- Laws of the definitions of names, keywords and the start of raw strings at a place of the bytes, where the code stands. Where a law
 -- takes a reach q that is the lexer's, the code has asked the lexer for it.
---     raw-start-at, raw-delimiter      `parseRawStringStart` by the byte after the hashes; a delimiter is below 512
+--     raw-start-at, raw-small, raw-delimiter    `parseRawStringStart` by the byte after the hashes; a delimiter is below 512
 --     name-end-at, name-goes           one step of `nameEnd`; where it ends stands in the source, further on
 --     left-at                          the bytes that are left
 --     keyword-at, name-token-at, raw-opens, raw-not    the definition by what the code asks for
+--     r-decides, no-decides, decided-at    what `raw_start` decides, and the token by it
 --     word-starts, starts-next, r-stands, after-r     the bytes of a word that stands at a place
 -- Assumes nothing.
 use Prim.Native.Nat.{ℕ, zero, suc, _+_, _*_, _-_, _<_}
@@ -18,6 +19,7 @@ use lib.Seq.{drop-cons}
 use borrow.Author.Tests.{lt-ltb, eqb-true}
 use Rattle.base.specs.Pick.{pick}
 use Rattle.base.specs.PickLaws.{by-test, by-lt}
+use Rattle.base.specs.Cases.{pick-yes, pick-no}
 use Rattle.position.specs.Place.{alongBy}
 use Rattle.position.specs.declared.Reach.{Reach}
 use Rattle.utf8.specs.Chars.{chars}
@@ -37,6 +39,7 @@ use Rattle.state.specs.declared.Lexer.{Lexer}
 use Rattle.names.specs.Places.{PlaceIn, GoesOn}
 use Rattle.names.specs.PlaceLaws.{place-of, runEnd, skip-next, next-place}
 use Rattle.names.specs.ConsumeIdOrKeyword.{nameEnd, remaining, nameBytes, parseRawStringStart, rawStringStart, keywordOrId, orElse, rawOrName, nameToken}
+use Rattle.names.specs.Decided.{Small, RawDecides}
 use Rattle.names.specs.declared.RawStart.{RawStart}
 use Rattle.names.specs.declared.RawStart.the-variants.{Opens, Nothing}
 
@@ -52,19 +55,16 @@ raw-start-at {s} {i} {j} p e =
     let n : countWhile (testOf 5) (chars (drop i s)) ≡ j - i = omega (arith, e) in
     rw (k .rest, next-is s (runEnd 5 s i) doubleQuote (k .well) (omega arith), next-is s (runEnd 5 s i) singleQuote (k .well) (omega arith), ← e, n)
 
--- a delimiter that fits its place in a mode's code
-abbrev Small : RawStart → Type 0
-Small (Opens delimiter) = delimiter < 512
-Small Nothing = Unit {0}
+pub raw-small : (cs : List ℕ) → Small (parseRawStringStart cs)
+unfolding parseRawStringStart
+raw-small cs =
+    let n = countWhile (testOf 5) cs in
+    by-lt Small 255 n (λ _. tt)
+    (λ h. by-test Small (nextIs doubleQuote (drop n cs)) (λ _. omega arith)
+    (λ _. by-test Small (nextIs singleQuote (drop n cs)) (λ _. omega arith) (λ _. tt)))
 
 pub raw-delimiter : (cs : List ℕ) {delimiter : ℕ} → parseRawStringStart cs ≡ Opens delimiter → delimiter < 512
-unfolding parseRawStringStart
-raw-delimiter cs e =
-    let n = countWhile (testOf 5) cs in
-    subst Small e
-    (by-lt Small 255 n (λ _. tt)
-    (λ h. by-test Small (nextIs doubleQuote (drop n cs)) (λ _. omega arith)
-    (λ _. by-test Small (nextIs singleQuote (drop n cs)) (λ _. omega arith) (λ _. tt))))
+raw-delimiter cs e = subst Small e (raw-small cs)
 
 -- ---- the name
 
@@ -129,6 +129,35 @@ module _ (s : List ℕ) (l : Lexer) (end : Reach) (o : Stands s (reachOf l)) (q 
 
     pub raw-not : raw ≡ Nothing → rawOrName (charsFrom s (reachOf l)) end l ≡ keywordOrId (charsFrom s (reachOf l)) end l
     raw-not f = or-else f
+
+    -- the name is "r", and what is found after it decides
+    pub r-decides : isWord rWord (take (end .byte .0 - q .byte .0) (drop (q .byte .0) s)) ≡ true → RawDecides s l end raw
+    r-decides f =
+        record {
+          decides = pick-yes _ _ _ _ (ap (λ (x : Reach). isWord rWord (take (end .byte .0 - x .byte .0) (drop (x .byte .0) s))) (sym e) ∙ f) (or-else refl);
+          small = subst Small (sym k) (raw-small (chars (drop (q .byte .0 + 1) s)));
+        }
+
+  -- the name is another
+  pub no-decides : isWord rWord (take (end .byte .0 - q .byte .0) (drop (q .byte .0) s)) ≡ false → RawDecides s l end Nothing
+  no-decides f =
+      record {
+        decides = pick-no _ _ _ _ (ap (λ (x : Reach). isWord rWord (take (end .byte .0 - x .byte .0) (drop (x .byte .0) s))) (sym e) ∙ f) refl;
+        small = tt;
+      }
+
+  -- the token, where the name is not "else"
+  pub decided-at : {r raw : RawStart} → isWord elseWord (take (end .byte .0 - q .byte .0) (drop (q .byte .0) s)) ≡ false → RawDecides s l end r → r ≡ raw
+      → nameToken (charsFrom s (reachOf l)) end l ≡ orElse raw l (keywordOrId (charsFrom s (reachOf l)) end l)
+  decided-at {r} {raw} f d g =
+      name-token-at
+      ∙ pick-no _ _ _ _ f
+      (ap
+      (λ (x : Reach). pick (isWord rWord (take (end .byte .0 - x .byte .0) (drop (x .byte .0) s))) (rawOrName (charsFrom s (reachOf l)) end l)
+      (keywordOrId (charsFrom s (reachOf l)) end l))
+      e
+      ∙ d .decides
+      ∙ ap (λ (x : RawStart). orElse x l (keywordOrId (charsFrom s (reachOf l)) end l)) g)
 
 -- ---- words at a place
 

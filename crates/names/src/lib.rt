@@ -15,7 +15,8 @@ ghost use Rattle.state.specs.Lexer.{reachOf};
 ghost use Rattle.names.specs.Places.{PlaceIn, GoesOn};
 ghost use Rattle.names.specs.ConsumeWhitespace.{consumeWhitespace};
 ghost use Rattle.names.specs.ConsumeNumber.{exponentBytes, isFraction, tailBytes, zeroBytes, numberBytes, consumeNumber};
-ghost use Rattle.names.specs.ConsumeIdOrKeyword.{nameEnd, parseRawStringStart, rawStringStart, keywordOrId, rawOrName, nameToken, consumeIdOrKeyword, consumeIgnored};
+ghost use Rattle.names.specs.ConsumeIdOrKeyword.{nameEnd, parseRawStringStart, rawStringStart, keywordOrId, nameToken, consumeIdOrKeyword, consumeIgnored};
+ghost use Rattle.names.specs.Decided.{RawDecides};
 use position::Reach;
 use state::Change;
 use state::Lexer;
@@ -231,17 +232,18 @@ fn keyword_or_id(source: &[u8], lexer: Lexer, end: Reach) -> Taken
     lexer.token(kind, len)
 }
 
-// "r" and what follows it: a raw string, or a name like any other.
-fn raw_or_name(source: &[u8], lexer: Lexer, end: Reach) -> Taken
+// The start of a raw string, where the name that reaches to `end` is "r" and opens one.
+fn raw_start(source: &[u8], lexer: Lexer, end: Reach) -> RawStart
     requires { ⌜ Stands (now source) (reachOf lexer) × GoesOn (now source) (reachOf lexer) end ⌝ }
-    requires { ⌜ byteAt (now source) (reachOf lexer .byte .0) ≡ 114 ⌝ }
-    ensures { λ r. ⌜ r ≡ rawOrName (charsFrom (now (source .entry)) (reachOf lexer)) end lexer ⌝ }
+    ensures { λ r. ⌜ RawDecides (now (source .entry)) lexer end r ⌝ }
 {
     let reach = lexer.reach();
-    match parse_raw_string_start(source, reach.byte.0 + 1) {
-        RawStart::Opens(delimiter) => raw_string_start(lexer, delimiter),
-        RawStart::Nothing => keyword_or_id(source, lexer, end),
+    let at = reach.byte.0;
+    let len = end.byte.0 - at;
+    if words::is_r(source, at, len) {
+        return parse_raw_string_start(source, at + 1);
     }
+    RawStart::Nothing
 }
 
 // The token of the name that reaches to `end`.
@@ -258,10 +260,10 @@ fn name_token(source: &[u8], lexer: Lexer, end: Reach) -> Taken
         }
         return lexer.token(kinds::ELSE, 4);
     }
-    if words::is_r(source, at, len) {
-        return raw_or_name(source, lexer, end);
+    match raw_start(source, lexer, end) {
+        RawStart::Opens(delimiter) => raw_string_start(lexer, delimiter),
+        RawStart::Nothing => keyword_or_id(source, lexer, end),
     }
-    keyword_or_id(source, lexer, end)
 }
 
 // How far the name at the lexer's place reaches: the first character counts one column, the others their width.

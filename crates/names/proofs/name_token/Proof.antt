@@ -2,10 +2,11 @@
 -- Assumes nothing.
 use borrow.Author.Needs.{needs}
 use native.Mathlib.Omega.{arith}
-use mathlib.Core.Path.{refl, sym, ap, _∙_}
+use mathlib.Core.Path.{refl, sym, ap, subst, _∙_}
 use Rattle.base.specs.Cases.{pick-yes, pick-no}
 use Rattle.position.specs.declared.Reach.{Reach}
-use Rattle.names.specs.NameLaws.{name-token-at, r-stands}
+use Rattle.names.specs.NameLaws.{name-token-at, decided-at}
+use Rattle.names.specs.Decided.{Small}
 use Rattle.names.proofs.name_token.Statement.{statement}
 use Rattle.names.proofs.name_token.Tie as tie
 
@@ -47,37 +48,42 @@ returns-2 c =
     ∙ pick-yes _ _ _ _ (sym (asked .is-else .ensures) ∙ c .before .before .before .if1 .taken)
     (pick-no _ _ _ _ (sym (c .before .before .is-else-if .ensures) ∙ c .before .if2 .left) refl))
 
-is-r-requires : tie.Need-is-r-requires
-is-r-requires c κs = search needs
+raw-start-requires : tie.Need-raw-start-requires
+raw-start-requires c κs = search needs
 
-raw-or-name-requires : tie.Need-raw-or-name-requires
-raw-or-name-requires c κs =
-    let reached = c .before .before .before .before .before in
-    let pre = reached .before .before .pre in
-    (pre, r-stands (pre .1) (reached .reach .ensures) (sym (c .before .is-r .ensures) ∙ c .if3 .taken))
+enum-known-delimiter : tie.Need-enum-known-delimiter
+enum-known-delimiter c = search needs
 
-returns-3 : tie.Need-returns-3
-returns-3 c =
-    let asked = c .before .before .before .before in
-    let law = name-token-at _ _ _ (asked .before .before .before .before .pre .0) _ (asked .before .before .reach .ensures) in
-    c .raw-or-name .ensures
-    ∙ sym
-    (law
-    ∙ pick-no _ _ _ _ (sym (asked .is-else .ensures) ∙ c .before .before .before .if1 .left)
-    (pick-yes _ _ _ _ (sym (c .before .before .is-r .ensures) ∙ c .before .if3 .taken) refl))
+raw-string-start-requires : tie.Need-raw-string-start-requires
+raw-string-start-requires c κs =
+    let asked = c .before .before .before in
+    let o = asked .before .before .before .before .before .before .pre .0 in
+    let d = subst Small (c .before .delimiter .given .1) (asked .raw-start .ensures .small) in
+    omega (arith, o .small, o .inside, o .columns, d)
+
+enum-told : tie.Need-enum-told
+enum-told c = search needs
 
 keyword-or-id-requires : tie.Need-keyword-or-id-requires
 keyword-or-id-requires c κs = search needs
 
+returns-3 : tie.Need-returns-3
+returns-3 c =
+    let asked = c .before .before .before .before in
+    let at = asked .before .before in
+    c .raw-string-start .ensures
+    ∙ sym
+    (decided-at _ _ _ (at .before .before .before .before .pre .0) _ (at .before .before .reach .ensures)
+    (sym (at .is-else .ensures) ∙ asked .before .if1 .left) (asked .raw-start .ensures) (c .before .before .delimiter .given .1))
+
 returns-4 : tie.Need-returns-4
 returns-4 c =
-    let asked = c .before .before .before .before in
-    let law = name-token-at _ _ _ (asked .before .before .before .before .pre .0) _ (asked .before .before .reach .ensures) in
+    let asked = c .before .before .before in
+    let at = asked .before .before in
     c .keyword-or-id .ensures
     ∙ sym
-    (law
-    ∙ pick-no _ _ _ _ (sym (asked .is-else .ensures) ∙ c .before .before .before .if1 .left)
-    (pick-no _ _ _ _ (sym (c .before .before .is-r .ensures) ∙ c .before .if3 .left) refl))
+    (decided-at _ _ _ (at .before .before .before .before .pre .0) _ (at .before .before .reach .ensures)
+    (sym (at .is-else .ensures) ∙ asked .before .if1 .left) (asked .raw-start .ensures) (c .before .enum-told .given .1))
 
 pub name-token-spec : {M : Type 1} → statement M
 name-token-spec =
@@ -91,8 +97,10 @@ name-token-spec =
     returns
     token-requires-2
     returns-2
-    is-r-requires
-    raw-or-name-requires
-    returns-3
+    raw-start-requires
+    enum-known-delimiter
+    raw-string-start-requires
+    enum-told
     keyword-or-id-requires
+    returns-3
     returns-4)
