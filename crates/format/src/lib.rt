@@ -83,7 +83,7 @@ pub enum Representation {
 }
 
 // `StringAlignment as u8`
-pub fn alignment_number(alignment: Alignment) -> u64
+pub fn alignment_number(alignment: Alignment) -> u32
     ensures { λ r. ⌜ r ≡ alignmentNumber alignment ⌝ }
 {
     match alignment {
@@ -95,7 +95,7 @@ pub fn alignment_number(alignment: Alignment) -> u64
 }
 
 // `StringFormatRepresentation as u8`
-pub fn representation_number(representation: Representation) -> u64
+pub fn representation_number(representation: Representation) -> u32
     ensures { λ r. ⌜ r ≡ representationNumber representation ⌝ }
 {
     match representation {

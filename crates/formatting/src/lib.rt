@@ -33,7 +33,9 @@ fn print_given(given: Given) {
 
 fn print_shown(shown: Shown) {
     match shown {
-        Shown::As(representation) => print_number(format::representation_number(representation)),
+        Shown::As(representation) => print_number(
+            format::representation_number(representation) as u64,
+        ),
         Shown::Plain => print_none(),
     }
 }
@@ -59,7 +61,7 @@ fn print_options(options: Options, index: Given) {
     let representation = options.representation;
     let fill = options.fill;
     io::write_all(STDOUT_FILENO, b"options");
-    print_number(format::alignment_number(alignment));
+    print_number(format::alignment_number(alignment) as u64);
     print_given(width);
     print_given(precision);
     print_shown(representation);

@@ -27,7 +27,7 @@ fn shown_number(shown: Shown) -> u64
     ensures { λ r. ⌜ r ≡ shownNumber shown ⌝ }
 {
     match shown {
-        Shown::As(representation) => format::representation_number(representation),
+        Shown::As(representation) => format::representation_number(representation) as u64,
         Shown::Plain => NONE,
     }
 }
@@ -69,7 +69,7 @@ fn options_numbers(options: Options, index: Given) -> [u64; 7]
     let representation = options.representation;
     let fill = options.fill;
     [
-        format::alignment_number(alignment),
+        format::alignment_number(alignment) as u64,
         given_number(width),
         given_number(precision),
         shown_number(representation),

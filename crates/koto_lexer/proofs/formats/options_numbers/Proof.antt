@@ -6,6 +6,9 @@ use Rattle.koto_lexer.proofs.formats.options_numbers.Tie as tie
 alignment-number-requires : tie.Need-alignment-number-requires
 alignment-number-requires c κs = search needs
 
+cast-t9 : tie.Need-cast-t9
+cast-t9 c = search needs
+
 given-number-requires : tie.Need-given-number-requires
 given-number-requires c κs = search needs
 
@@ -32,6 +35,7 @@ options-numbers-spec =
     tie.close
     (tie.spec
     alignment-number-requires
+    cast-t9
     given-number-requires
     given-number-requires-2
     shown-number-requires
