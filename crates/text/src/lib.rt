@@ -2,8 +2,8 @@
 // does at one of them. It carries over `consume_and_count` and `consume_and_count_utf8` of lexer.rs, whose predicates are numbered
 // tests here, and the ASCII predicates beside them. It knows no tokens.
 ghost use mathlib.Core.Path.{_≡_};
-ghost use Prim.Native.Nat.{_+_, _≤_, _<_};
-ghost use lib.ListN.{length, getD, drop};
+ghost use Prim.Native.Nat.{_+_, _<_};
+ghost use lib.ListN.{length, drop};
 ghost use Rattle.utf8.specs.Encode.{WellFormed};
 ghost use Rattle.utf8.specs.Chars.{chars};
 ghost use Rattle.property.specs.Table.{propertiesAt};
@@ -13,7 +13,7 @@ ghost use Rattle.text.specs.Tests.{inRange, isWhitespace, isBinaryDigit,
 ghost use Rattle.text.specs.Ascii.{asciiProperties};
 ghost use Rattle.text.specs.Count.{countWhile, runTest};
 ghost use Rattle.text.specs.Stands.{Stands};
-ghost use Rattle.text.specs.Chars.{CharIs, WideIs, LenIs};
+ghost use Rattle.text.specs.Chars.{CharIs, DecodedIs, LenIs};
 use position::Reach;
 
 // What a loop does at a character.
@@ -171,32 +171,37 @@ fn ascii_properties(b: u8) -> u32
 }
 
 // A character without its properties: its code point and its bytes.
-struct Wide {
+struct Decoded {
     code: u32,
     len: usize,
 }
 
-// The character at `at`, for a byte that is not ASCII. The bytes are well formed, so the lead byte says how many follow, and none needs a
-// test.
-fn wide_at(source: &[u8], at: usize) -> Wide
+// The character at `at`. The bytes are well formed, so the lead byte says how many it has, and no other needs a test.
+fn decode(source: &[u8], at: usize) -> Decoded
     requires { ⌜ WellFormed (drop at (now source)) × (at < length (now source)) ⌝ }
-    requires { ⌜ 0x80 ≤ getD (now source) at 0 ⌝ }
-    ensures { λ r. ⌜ WideIs (now (source .entry)) at r ⌝ }
+    ensures { λ r. ⌜ DecodedIs (now (source .entry)) at r ⌝ }
 {
     let a = source[at];
-    if a < 0xe0 {
-        return Wide {
+    let n = utf8::lead_len(a);
+    if n == 1 {
+        return Decoded {
+            code: a as u32,
+            len: 1,
+        };
+    }
+    if n == 2 {
+        return Decoded {
             code: utf8::join2(a, source[at + 1]),
             len: 2,
         };
     }
-    if a < 0xf0 {
-        return Wide {
+    if n == 3 {
+        return Decoded {
             code: utf8::join3(a, source[at + 1], source[at + 2]),
             len: 3,
         };
     }
-    Wide {
+    Decoded {
         code: utf8::join4(a, source[at + 1], source[at + 2], source[at + 3]),
         len: 4,
     }
@@ -207,20 +212,17 @@ pub fn char_len(source: &[u8], at: usize) -> usize
     requires { ⌜ WellFormed (drop at (now source)) × (at < length (now source)) ⌝ }
     ensures { λ r. ⌜ LenIs (now (source .entry)) at r ⌝ }
 {
-    if source[at] < 0x80 {
-        return 1;
-    }
-    let c = wide_at(source, at);
+    let c = decode(source, at);
     c.len
 }
 
-// The character at `at`, for a byte that is not ASCII, with its properties.
+// The character at `at`, with its properties looked up.
 fn wide_char(source: &[u8], table: &[u32], at: usize) -> Char
     requires { ⌜ WellFormed (drop at (now source)) × (at < length (now source)) ⌝ }
-    requires { ⌜ FitTable (now table) × (0x80 ≤ getD (now source) at 0) ⌝ }
+    requires { ⌜ FitTable (now table) ⌝ }
     ensures { λ r. ⌜ CharIs (now (source .entry)) (now (table .entry)) at r ⌝ }
 {
-    let c = wide_at(source, at);
+    let c = decode(source, at);
     Char {
         code: c.code,
         len: c.len,

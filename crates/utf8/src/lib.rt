@@ -3,11 +3,9 @@
 // Left out: byte order marks, and any repair of what is ill-formed.
 ghost use mathlib.Core.Path.{_≡_};
 ghost use Rattle.utf8.specs.Read.{seqLen, inside, secondOk, code2, code3, code4, fourth, third, second, decodeHead, readAt};
-ghost use mathlib.Core.Bool.{true};
-ghost use Prim.Native.Nat.{_<_};
-ghost use lib.ListN.{length};
-ghost use Rattle.utf8.specs.Lengths.{TwoAt, ThreeAt};
-ghost use Rattle.utf8.specs.Chars.{checkFrom};
+ghost use Rattle.utf8.specs.Lengths.{lenOf};
+ghost use Rattle.utf8.specs.Chars.{onRead, checkFrom};
+ghost use Rattle.utf8.specs.declared.Utf8Check.the-variants.{Fine, BadAt, CutAt};
 
 // What stands at a place.
 pub enum Read {
@@ -29,7 +27,7 @@ pub enum Utf8Check {
 }
 
 // The length of the sequence that a byte opens, by the count of its leading ones; 0 where it opens none.
-fn lead_len(a: u8) -> usize
+pub fn lead_len(a: u8) -> usize
     ensures { λ r. ⌜ r ≡ seqLen a ⌝ }
 {
     let ones = u8::leading_zeros(!a);
@@ -191,38 +189,69 @@ pub fn read_char(s: &[u8], at: usize) -> Read
     read_head(&s[at..])
 }
 
-// Do two bytes make a character at a place of s? Then it need not be read: `read_char` would find it.
-fn is_two(s: &[u8], at: usize) -> bool
-    requires { ⌜ at < length (now s) ⌝ }
-    ensures { λ r. ⌜ (r ≡ true → TwoAt (now (s .entry)) at) ⌝ }
+// How many bytes the first character of s has, without putting it together: 0 where there is none. From its fourth byte on; then from its
+// second, of n; then from its first, which says how many there are.
+fn fourth_len(s: &[u8]) -> usize
+    ensures { λ r. ⌜ r ≡ lenOf (fourth (now (s .entry))) ⌝ }
 {
-    if !between(s[at], 0xc2, 0xdf) {
-        return false;
+    if s.len() < 4 {
+        return 0;
     }
-    if s.len() - at < 2 {
-        return false;
+    if !between(s[3], 0x80, 0xbf) {
+        return 0;
     }
-    between(s[at + 1], 0x80, 0xbf)
+    4
 }
 
-// The same of three bytes, but for E0 and ED: these bound their second byte more narrowly, and are left to `read_char`.
-fn is_three(s: &[u8], at: usize) -> bool
-    requires { ⌜ at < length (now s) ⌝ }
-    ensures { λ r. ⌜ (r ≡ true → ThreeAt (now (s .entry)) at) ⌝ }
+fn tail_len(n: usize, s: &[u8]) -> usize
+    ensures { λ r. ⌜ r ≡ lenOf (second n (now (s .entry))) ⌝ }
 {
-    if !between(s[at], 0xe1, 0xef) {
-        return false;
+    if s.len() < 2 {
+        return 0;
     }
-    if s[at] == 0xed {
-        return false;
+    if !second_ok(s[0], s[1]) {
+        return 0;
     }
-    if s.len() - at < 3 {
-        return false;
+    if n == 2 {
+        return 2;
     }
-    if !between(s[at + 1], 0x80, 0xbf) {
-        return false;
+    if s.len() < 3 {
+        return 0;
     }
-    between(s[at + 2], 0x80, 0xbf)
+    if !between(s[2], 0x80, 0xbf) {
+        return 0;
+    }
+    if n == 3 {
+        return 3;
+    }
+    fourth_len(s)
+}
+
+fn head_len(s: &[u8]) -> usize
+    ensures { λ r. ⌜ r ≡ lenOf (decodeHead (now (s .entry))) ⌝ }
+{
+    if s.len() < 1 {
+        return 0;
+    }
+    let n = lead_len(s[0]);
+    if n == 0 {
+        return 0;
+    }
+    if n == 1 {
+        return 1;
+    }
+    tail_len(n, s)
+}
+
+// Why no character stands at a place of s: the bytes from it on are wrong, or cut. Where one stands, there is nothing to refuse.
+fn refused_at(s: &[u8], at: usize) -> Utf8Check
+    ensures { λ r. ⌜ r ≡ onRead (readAt (now (s .entry)) at) (λ c n. Fine) (BadAt at) (CutAt at) ⌝ }
+{
+    match read_char(s, at) {
+        Read::Char { code: _, len: _ } => Utf8Check::Fine,
+        Read::Bad => Utf8Check::BadAt(at),
+        Read::Cut => Utf8Check::CutAt(at),
+    }
 }
 
 // Whether all of s is well formed; if not, where the longest well-formed beginning ends, and whether the bytes there are wrong or cut.
@@ -231,30 +260,11 @@ pub fn check_utf8(s: &[u8]) -> Utf8Check
 {
     let mut i = 0;
     while i < s.len() {
-        // A byte below 80 is a character by itself.
-        if s[i] < 0x80 {
-            i += 1;
-            continue;
+        let n = head_len(&s[i..]);
+        if n == 0 {
+            return refused_at(s, i);
         }
-        if is_three(s, i) {
-            i += 3;
-            continue;
-        }
-        if is_two(s, i) {
-            i += 2;
-            continue;
-        }
-        match read_char(s, i) {
-            Read::Char { code: _, len } => {
-                i += len;
-            }
-            Read::Bad => {
-                return Utf8Check::BadAt(i);
-            }
-            Read::Cut => {
-                return Utf8Check::CutAt(i);
-            }
-        }
+        i += n;
     }
     Utf8Check::Fine
 }
