@@ -10,8 +10,9 @@ use mathlib.Core.Logic.{_⊎_, inl, inr}
 use mathlib.Core.List.{List, [], _∷_}
 use lib.Dec.{eqb}
 use lib.ListN.{length, getD, drop}
-use borrow.Author.Tests.{lt-ltb, le-ltb, le-leb, lt-leb, eq-eqb, ne-eqb, ltb-false}
+use borrow.Author.Tests.{lt-ltb, eq-eqb, ne-eqb, ltb-false}
 use Rattle.base.specs.PickLaws.{by-eq, by-test}
+use Rattle.base.specs.RangeLaws.{is-inside, under, over}
 use Rattle.utf8.specs.Encode.{WellFormed}
 use Rattle.utf8.specs.Read.{isTail}
 use Rattle.utf8.specs.Chars.{chars}
@@ -23,7 +24,7 @@ use Rattle.property.specs.FitLaws.{FitTable}
 use Rattle.property.specs.SmallLaws.{ascii-start}
 use Rattle.token.specs.Kind.{stringEnd, curlyOpen}
 use Rattle.text.specs.Bytes.{byteAt}
-use Rattle.text.specs.Tests.{inRange, isWhitespace, isLineEnd, isDigit}
+use Rattle.text.specs.Tests.{isWhitespace, isLineEnd, isDigit}
 use Rattle.text.specs.Stands.{charsFrom}
 use Rattle.text.specs.FollowLaws.{here, chars-end}
 use Rattle.state.specs.Modes.{templateExpr, modeCode, tagOf, delimiterOf, quoteOf}
@@ -78,13 +79,8 @@ above c h =
       single = ne-eqb c 39 (λ e. omega arith);
     }
 
-is-digit : (c : ℕ) → 48 ≤ c → c ≤ 57 → isDigit c ≡ true
-unfolding inRange
-is-digit c h k = rw (le-ltb c 48 h, le-leb c 57 k)
-
 pub no-digit : (c : ℕ) → 57 < c → isDigit c ≡ false
-unfolding inRange
-no-digit c h = rw (le-ltb c 48 (omega arith), lt-leb c 57 h)
+no-digit c h = over c 48 57 h
 
 module _ (look : ℕ → ℕ) (c : ℕ) (cs : List ℕ) (l : Lexer) where
   pub blank-arm : isWhitespace c ≡ true → inCode look c cs l ≡ consumeWhitespace cs l
@@ -99,7 +95,7 @@ module _ (look : ℕ → ℕ) (c : ℕ) (cs : List ℕ) (l : Lexer) where
   unfolding inCode
   number-arm h k =
       let o = above c (omega arith) in
-      rw (o .blank, o .line, o .hash, o .double, o .single, is-digit c h k)
+      rw (o .blank, o .line, o .hash, o .double, o .single, is-inside c 48 57 h k)
 
   module _ (o : Other c) (d : isDigit c ≡ false) where
     pub name-arm : xidStart (look c) ≡ true → inCode look c cs l ≡ consumeIdOrKeyword look cs l
@@ -143,23 +139,20 @@ other c sp tb lf cr ha dq sq =
 
 -- the letters of ASCII
 pub is-letter : (c : ℕ) → 65 ≤ c → c ≤ 122 → (c ≤ 90) ⊎ (97 ≤ c) → isLetter c ≡ true
-is-letter c h k (inl m) = rw (le-leb 65 c h, le-leb c 90 m)
-is-letter c h k (inr m) =
-    rw (le-leb 65 c h, lt-leb c 90 (omega arith), le-leb 97 c m, le-leb c 122 k)
+is-letter c h k (inl m) = rw (is-inside c 65 90 h m)
+is-letter c h k (inr m) = rw (over c 65 90 (omega arith), is-inside c 97 122 m k)
 
 pub low-letter : (c : ℕ) → c < 65 → isLetter c ≡ false
-low-letter c h = rw (lt-leb 65 c h, lt-leb 97 c (omega arith))
+low-letter c h = rw (under c 65 90 h, under c 97 122 (omega arith))
 
 pub mid-letter : (c : ℕ) → 90 < c → c < 97 → isLetter c ≡ false
-mid-letter c h k = rw (le-leb 65 c (omega arith), lt-leb c 90 h, lt-leb 97 c k)
+mid-letter c h k = rw (over c 65 90 h, under c 97 122 k)
 
 pub high-letter : (c : ℕ) → 122 < c → isLetter c ≡ false
-high-letter c h =
-    rw (le-leb 65 c (omega arith), lt-leb c 90 (omega arith), le-leb 97 c (omega arith), lt-leb c 122 h)
+high-letter c h = rw (over c 65 90 (omega arith), over c 97 122 h)
 
 pub low-digit : (c : ℕ) → c < 48 → isDigit c ≡ false
-unfolding inRange
-low-digit c h = rw (lt-ltb c 48 h)
+low-digit c h = under c 48 57 h
 
 module _ (s table : List ℕ) (l : Lexer) where
   -- the next character is an ASCII byte

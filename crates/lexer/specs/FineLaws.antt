@@ -9,8 +9,9 @@ use mathlib.Core.List.{List, _++_}
 use lib.Dec.{eqb}
 use lib.ListN.{length, getD, drop, length-drop, List·getD-eq-default}
 use lib.Seq.{getD-drop}
-use borrow.Author.Tests.{eqb-true, leb-true, lt-ltb, le-ltb, le-leb, lt-leb}
+use borrow.Author.Tests.{eqb-true, lt-ltb, le-ltb, le-leb, lt-leb}
 use Rattle.base.specs.PickLaws.{by-test, by-lt, split-lt}
+use Rattle.base.specs.RangeLaws.{inside-is}
 use Rattle.position.specs.Place.{alongBy}
 use Rattle.position.specs.declared.Reach.{Reach}
 use Rattle.utf8.specs.Encode.{encode, encodeAll, WellFormed}
@@ -24,7 +25,7 @@ use Rattle.words.specs.WordsLaws.{symbol-is}
 use Rattle.words.specs.declared.symbols.SymbolAt.{SymbolAt}
 use Rattle.words.specs.declared.symbols.SymbolAt.the-variants.{Is, Nothing}
 use Rattle.text.specs.Bytes.{byteAt}
-use Rattle.text.specs.Tests.{isWhitespace, isLineEnd, isDigit, inRange, testOf}
+use Rattle.text.specs.Tests.{isWhitespace, isLineEnd, isDigit, testOf}
 use Rattle.text.specs.Stands.{Stands, charsFrom}
 use Rattle.text.specs.FollowLaws.{Here, here}
 use Rattle.text.specs.CountLaws.{test-ascii}
@@ -208,12 +209,6 @@ module _ (s : List ℕ) (l : Lexer) (o : Stands s (reachOf l)) (h : reachOf l .b
       (λ _. by-test (Goes s l) (eqb (nextChar cs) 123) (λ e. ascii-goes 1 _ (one 123 (eqb-true _ _ e) (omega arith)) refl)
       (λ _. steps-go (literal-steps s l o look quote q)))
 
-  digit-is : (c : ℕ) → isDigit c ≡ true → (48 ≤ c) × (c ≤ 57)
-  unfolding inRange
-  digit-is c =
-      by-lt (λ (t : Bool). t ≡ true → (48 ≤ c) × (c ≤ 57)) c 48 (λ k e. absurd (let z : _≡_ {A = ℕ} 0 1 = cc in omega arith))
-      (λ k e. (k, leb-true c 57 e))
-
   blank-is : (c : ℕ) → isWhitespace c ≡ true → c < 128
   unfolding testOf
   blank-is c e = test-ascii c 0 e
@@ -230,7 +225,7 @@ module _ (s : List ℕ) (l : Lexer) (o : Stands s (reachOf l)) (h : reachOf l .b
       (λ _. by-test (Goes s l) (eqb (nextChar cs) 34) (λ e. ascii-goes 1 _ (one 34 (eqb-true _ _ e) (omega arith)) refl)
       (λ _. by-test (Goes s l) (eqb (nextChar cs) 39) (λ e. ascii-goes 1 _ (one 39 (eqb-true _ _ e) (omega arith)) refl)
       (λ _. by-test (Goes s l) (isDigit (nextChar cs))
-      (λ e. let d = digit-is (nextChar cs) e in
+      (λ e. let d = inside-is (nextChar cs) 48 57 e in
       let b = next-byte (nextChar cs) refl (omega arith) in
       goes-go (number-goes s l o (omega arith, omega arith)))
       (λ _. by-test (Goes s l) (xidStart (propertiesAt table (nextChar cs))) (λ _. goes-go (id-or-keyword-goes (propertiesAt table) s l o h))

@@ -19,6 +19,7 @@ ghost use Rattle.lexer.specs.ConsumeSymbol.{symbolChange, consumeSymbol}
 ghost use Rattle.lexer.specs.GetNextToken.{oneByte, startString, takeToken};
 ghost use Rattle.lexer.specs.Step.{isFull, stoodStill, halfOf, half, step};
 ghost use Rattle.lexer.specs.Fine.{Fine, InLiteralIs, InCodeIs, BeginsIs, Other};
+use base::between;
 use state::Change;
 use state::Lexer;
 use state::State;
@@ -330,11 +331,7 @@ fn is_inside(source: &[u8], at: usize) -> bool
     requires { ⌜ at < length (now source) ⌝ }
     ensures { λ r. ⌜ r ≡ isTail (getD (now (source .entry)) at 0) ⌝ }
 {
-    let b = source[at];
-    if b < 0x80 {
-        return false;
-    }
-    b <= 0xbf
+    between(source[at], 0x80, 0xbf)
 }
 
 // The lexer's half of the read step.

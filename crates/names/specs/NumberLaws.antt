@@ -12,9 +12,10 @@ use lib.ListN.{drop}
 use borrow.Author.Tests.{eq-eqb, ne-eqb, eqb-true, leb-true}
 use Rattle.base.specs.Pick.{pick}
 use Rattle.base.specs.PickLaws.{by-test, by-lt, split-eq}
+use Rattle.base.specs.RangeLaws.{inside-is}
 use Rattle.utf8.specs.Chars.{chars}
 use Rattle.text.specs.Bytes.{byteAt}
-use Rattle.text.specs.Tests.{plus, minus, dot, zeroDigit, underscore, letterB, letterE, letterO, letterX, inRange, isDigit, isDecimalDigit, testOf}
+use Rattle.text.specs.Tests.{plus, minus, dot, zeroDigit, underscore, letterB, letterE, letterO, letterX, isDigit, isDecimalDigit, testOf}
 use Rattle.text.specs.Count.{countWhile}
 use Rattle.text.specs.FollowLaws.{next-is}
 use Rattle.text.specs.CountLaws.{skip-both, skip-run, test-ascii}
@@ -23,9 +24,7 @@ use Rattle.names.specs.PlaceLaws.{runEnd, skip-next, skip-two, next-plac
 use Rattle.names.specs.ConsumeNumber.{nextSign, exponentBytes, isFraction, fractionBytes, tailBytes, zeroBytes, numberBytes}
 
 digit-ascii : (c : ℕ) → isDigit c ≡ true → c < 128
-unfolding inRange
-digit-ascii c =
-    by-lt (λ (t : Bool). t ≡ true → c < 128) c 48 (λ k e. let z : _≡_ {A = ℕ} 0 1 = cc in absurd (omega arith)) (λ k e. omega (arith, leb-true c 57 e))
+digit-ascii c e = omega (arith, inside-is c 48 57 e .1)
 
 sign-ascii : (c : ℕ) → (eqb c plus || eqb c minus) ≡ true → c < 128
 sign-ascii c e =

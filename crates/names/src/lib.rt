@@ -17,6 +17,7 @@ ghost use Rattle.names.specs.ConsumeWhitespace.{consumeWhitespace};
 ghost use Rattle.names.specs.ConsumeNumber.{exponentBytes, isFraction, tailBytes, zeroBytes, numberBytes, consumeNumber};
 ghost use Rattle.names.specs.ConsumeIdOrKeyword.{nameEnd, parseRawStringStart, rawStringStart, keywordOrId, nameToken, consumeIdOrKeyword, consumeIgnored};
 ghost use Rattle.names.specs.Decided.{RawDecides};
+use base::code_between;
 use position::Reach;
 use state::Change;
 use state::Lexer;
@@ -77,10 +78,7 @@ fn exponent_end(source: &[u8], at: usize) -> usize
 fn is_digit(b: u32) -> bool
     ensures { λ r. ⌜ r ≡ isDigit b ⌝ }
 {
-    if b < 48 {
-        return false;
-    }
-    b <= 57
+    code_between(b, 48, 57)
 }
 
 // Does what stands at `at`, after a dot, belong to the number? A digit does, and an exponent; `1.exp()` is a call.

@@ -4,6 +4,7 @@
 -- Assumes nothing.
 use mathlib.Core.Path.{_≡_, refl}
 use mathlib.Core.List.{map}
+use Rattle.base.specs.Range.{inside}
 use Rattle.utf8.specs.CharsLaws.{computes}
 use Rattle.property.specs.First.{firstBad}
 use Rattle.property.specs.Fit.{startOk, propertiesOk, runOk, tableCheck}
@@ -16,7 +17,7 @@ use Rattle.words.specs.Words.{isWord, startsWith, firstIn, keywordOf, symbolIn,
 use Rattle.text.specs.Ascii.{asciiProperties}
 use Rattle.text.specs.Count.{bytesOf, countWhile, runUtf8}
 use Rattle.text.specs.Follow.{nextIs, dropBytes, followIn, turnAt}
-use Rattle.text.specs.Tests.{inRange, isWhitespace, isBinaryDigit, isOctalDigit, isDecimalDigit, isHexDigit, isLineEnd, testOf, testUtf8}
+use Rattle.text.specs.Tests.{isWhitespace, isBinaryDigit, isOctalDigit, isDecimalDigit, isHexDigit, isLineEnd, testOf, testUtf8}
 use Rattle.state.specs.Stack.{top, rest, codesOf}
 use Rattle.strings.specs.ConsumeComment.{commentTurn, consumeCommentMulti, consumeComment}
 use Rattle.strings.specs.ConsumeNewline.{lineFeed, consumeNewline}
@@ -40,7 +41,7 @@ use Rattle.promises.specs.Cases.{ran, want, cases}
 unfoldable pub reads-computed : Unit {0}
 unfolding computes firstBad startOk propertiesOk runOk tableCheck smallTable lastFrom goOn isControl gb3 gb6 gb7 gb8 gb9 pairRule endsPict
     endsPictZwj endsOdd endsConsonant endsLinked gb9c gb11 gb12 isWord startsWith firstIn keywordOf symbolIn symbolOf
-    asciiProperties bytesOf countWhile runUtf8 nextIs dropBytes followIn turnAt inRange isWhitespace isBinaryDigit isOctalDigit
+    asciiProperties bytesOf countWhile runUtf8 nextIs dropBytes followIn turnAt inside isWhitespace isBinaryDigit isOctalDigit
     isDecimalDigit isHexDigit isLineEnd testOf testUtf8 top rest codesOf commentTurn consumeCommentMulti consumeComment lineFeed
     consumeNewline hashes quoteTurn rawTurn consumeRawStringContents escapeTurn literalTurn consumeStringLiteral plainTurn isAligned
     skipBytes findBrace consumeFormatOptions nameEnd parseRawStringStart keywordOrId rawOrName nameToken nextPasses exponentBytes

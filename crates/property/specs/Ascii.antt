@@ -1,26 +1,23 @@
 -- Code points 0 to 127 in words, for the laws that say what every fit table gives them (`SmallLaws`). No contract of this crate cites it.
 -- Assumes nothing.
 use Prim.Native.Nat.{ℕ}
-use mathlib.Core.Bool.{Bool, _&&_, _||_}
-use lib.Dec.{eqb, leb}
+use mathlib.Core.Bool.{Bool, _||_}
+use lib.Dec.{eqb}
 use Rattle.base.specs.Pick.{pick}
+use Rattle.base.specs.Range.{inside}
 use Rattle.property.specs.Parts.{other, cr, lf, control}
-
--- a code point from a to b
-abbrev pub within : ℕ → ℕ → ℕ → Bool
-within a b c = leb a c && leb c b
 
 -- "A" to "Z", "a" to "z"
 abbrev pub isLetter : ℕ → Bool
-isLetter c = within 0x41 0x5a c || within 0x61 0x7a c
+isLetter c = inside c 0x41 0x5a || inside c 0x61 0x7a
 
 -- a letter, "0" to "9", "_"
 abbrev pub isNamePart : ℕ → Bool
-isNamePart c = isLetter c || (within 0x30 0x39 c || eqb c 0x5f)
+isNamePart c = isLetter c || (inside c 0x30 0x39 || eqb c 0x5f)
 
 -- " " to "~"
 abbrev pub isPrintable : ℕ → Bool
-isPrintable c = within 0x20 0x7e c
+isPrintable c = inside c 0x20 0x7e
 
 -- the cluster class
 abbrev pub asciiClass : ℕ → ℕ

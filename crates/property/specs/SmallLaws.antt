@@ -12,6 +12,7 @@ use mathlib.Core.Bool.{Bool, true, false, not}
 use lib.Dec.{eqb}
 use borrow.Author.Tests.{eqb-true}
 use Rattle.base.specs.Pick.{pick}
+use Rattle.base.specs.Range.{inside}
 use Rattle.property.specs.Parts.{xidStart, xidContinue, widthOf, classOf, isPict, incbOf, incbNone}
 use Rattle.property.specs.Table.{lastFrom, propertiesAt}
 use Rattle.property.specs.Small.{smallTable}
@@ -43,19 +44,19 @@ same-is false false e = refl
 
 module _ (table : List ℕ) (fit : FitTable table) (c : ℕ) (h : c < 128) where
   pub ascii-start : xidStart (propertiesAt table c) ≡ isLetter c
-  unfolding firstBad lastFrom smallTable
+  unfolding inside firstBad lastFrom smallTable
   ascii-start = same-is _ _ (ascii-rule table fit c (λ k p. same (xidStart p) (isLetter k)) refl h)
 
   pub ascii-continue : xidContinue (propertiesAt table c) ≡ isNamePart c
-  unfolding firstBad lastFrom smallTable
+  unfolding inside firstBad lastFrom smallTable
   ascii-continue = same-is _ _ (ascii-rule table fit c (λ k p. same (xidContinue p) (isNamePart k)) refl h)
 
   pub ascii-width : widthOf (propertiesAt table c) ≡ pick (isPrintable c) 1 0
-  unfolding firstBad lastFrom smallTable
+  unfolding inside firstBad lastFrom smallTable
   ascii-width = eqb-true _ _ (ascii-rule table fit c (λ k p. eqb (widthOf p) (pick (isPrintable k) 1 0)) refl h)
 
   pub ascii-class : classOf (propertiesAt table c) ≡ asciiClass c
-  unfolding firstBad lastFrom smallTable
+  unfolding inside firstBad lastFrom smallTable
   ascii-class = eqb-true _ _ (ascii-rule table fit c (λ k p. eqb (classOf p) (asciiClass k)) refl h)
 
   pub ascii-not-pict : isPict (propertiesAt table c) ≡ false

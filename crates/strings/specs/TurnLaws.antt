@@ -8,11 +8,13 @@ use native.Mathlib.Omega.{arith}
 use mathlib.Core.Path.{_≡_, refl, sym, ap, _∙_}
 use mathlib.Core.Bool.{Bool, true, false, _&&_}
 use mathlib.Core.List.{List}
-use lib.Dec.{eqb, leb}
+use lib.Dec.{eqb}
 use lib.ListN.{length, drop}
-use borrow.Author.Tests.{eqb-true, ne-eqb, leb-true}
+use borrow.Author.Tests.{eqb-true, ne-eqb}
 use Rattle.base.specs.Pick.{pick}
 use Rattle.base.specs.PickLaws.{by-eq}
+use Rattle.base.specs.Range.{inside}
+use Rattle.base.specs.RangeLaws.{inside-is}
 use Rattle.position.specs.Place.{alongBy, lineBy}
 use Rattle.position.specs.declared.Reach.{Reach}
 use Rattle.utf8.specs.Encode.{WellFormed}
@@ -151,7 +153,7 @@ module _ (s : List ℕ) (i : ℕ) (w : WellFormed (drop i s)) (h : i < length s)
     pub comment-at : turnAt (commentTurn (propertiesAt table)) (chars (drop i s))
         ≡ pick (isPair s i hash minus) (Pass 2 2)
         (pick (isPair s i minus hash) (Close 2 2) (turnAt (plainTurn (propertiesAt table)) (chars (drop i s))))
-    unfolding commentTurn
+    unfolding commentTurn inside
     comment-at =
         let c = here s i w h in
         let rest = chars (drop (i + c .len) s) in
@@ -165,13 +167,11 @@ module _ (s : List ℕ) (i : ℕ) (w : WellFormed (drop i s)) (h : i < length s)
     -- lexer.rs, the arms in common, at a printable ASCII character
     pub printable-at : (b : ℕ) → byteAt s i ≡ b → isPrintable b ≡ true → turnAt (plainTurn (propertiesAt table)) (chars (drop i s)) ≡ Pass 1 1
     printable-at b e p =
-        let q = both (leb space b) (leb b tilde) p in
-        let low : space ≤ b = leb-true space b (q .0) in
-        let high : b ≤ tilde = leb-true b tilde (q .1) in
-        let k : b < 128 = omega arith in
+        let q = inside-is b space tilde p in
+        let k : b < 128 = omega (arith, q .1) in
         let wide : widthOf (propertiesAt table b) ≡ 1 = ascii-width table fit b k ∙ ap (λ (t : Bool). pick t 1 0) p in
         plain-at (propertiesAt table) s i b 1 (ascii-head s i b e k) (skip-one s i b w e k .well)
-        ∙ rw (ne-eqb b cr (λ x. omega arith), ne-eqb b lf (λ x. omega arith), wide)
+        ∙ rw (ne-eqb b cr (λ x. omega (arith, q .0)), ne-eqb b lf (λ x. omega (arith, q .0)), wide)
 
 -- a backslash at i
 pub escape-at : (s : List ℕ) (i quote : ℕ) → WellFormed (drop (i + 1) s) → quote < 128

@@ -21,6 +21,7 @@ ghost use Rattle.strings.specs.PlainTurn.{plainTurn};
 ghost use Rattle.strings.specs.ConsumeComment.{commentTurn, consumeCommentMulti, consumeComment};
 ghost use Rattle.strings.specs.ConsumeStringLiteral.{escapeTurn, literalTurn, consumeStringLiteral};
 ghost use Rattle.strings.specs.ConsumeRawString.{rawClosed, consumeRawStringContents, consumeRawStringEnd};
+use base::code_between;
 use position::Reach;
 use state::Change;
 use state::Lexer;
@@ -92,7 +93,7 @@ fn char_turn(source: &[u8], table: &[u32], at: usize) -> Turn
 fn is_printable(b: u32) -> bool
     ensures { λ r. ⌜ r ≡ isPrintable b ⌝ }
 {
-    SPACE <= b && b <= TILDE
+    code_between(b, SPACE, TILDE)
 }
 
 // The arms in common, at any character. Each loop tests for a printable one by itself, so that the test is part of the loop.

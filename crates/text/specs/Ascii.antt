@@ -4,13 +4,14 @@
 use Prim.Native.Nat.{ℕ}
 use lib.Dec.{ltb, eqb}
 use Rattle.base.specs.Pick.{pick}
-use Rattle.text.specs.Tests.{lf, cr, space, underscore, inRange}
+use Rattle.base.specs.Range.{inside}
+use Rattle.text.specs.Tests.{lf, cr, space, underscore}
 
 unfoldable pub asciiProperties : ℕ → ℕ
 asciiProperties c =
-    pick (inRange c 97 122) 7
-    (pick (inRange c 65 90) 7
-    (pick (inRange c 48 57) 6
+    pick (inside c 97 122) 7
+    (pick (inside c 65 90) 7
+    (pick (inside c 48 57) 6
     (pick (eqb c underscore) 6
     (pick (eqb c lf) 32
     (pick (eqb c cr) 16

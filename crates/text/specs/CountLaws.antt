@@ -15,8 +15,10 @@ use mathlib.Core.List.{List, _∷_}
 use lib.Dec.{eqb}
 use lib.ListN.{length, getD, drop}
 use lib.Seq.{drop-drop}
-use borrow.Author.Tests.{leb-true, eqb-true, lt-ltb}
-use Rattle.base.specs.PickLaws.{by-lt, by-eq, split-lt}
+use borrow.Author.Tests.{eqb-true, lt-ltb}
+use Rattle.base.specs.PickLaws.{by-eq, split-lt}
+use Rattle.base.specs.Range.{inside}
+use Rattle.base.specs.RangeLaws.{inside-is}
 use Rattle.position.specs.Place.{alongBy}
 use Rattle.position.specs.declared.Reach.{Reach}
 use Rattle.utf8.specs.Encode.{WellFormed}
@@ -29,15 +31,16 @@ use Rattle.property.specs.Table.{lastFrom, propertiesAt}
 use Rattle.property.specs.Small.{smallTable}
 use Rattle.property.specs.First.{firstBad}
 use Rattle.property.specs.FitLaws.{FitTable, ascii-rule}
+use Rattle.property.specs.Ascii.{isLetter, isNamePart, isPrintable}
 use Rattle.text.specs.Bytes.{byteAt}
-use Rattle.text.specs.Tests.{inRange, isWhitespace, isBinaryDigit, isOctalDigit, isDecimalDigit, isHexDigit, isLineEnd, isWord, testOf, testUtf8, testUtf8Of, atOnce}
+use Rattle.text.specs.Tests.{isWhitespace, isBinaryDigit, isOctalDigit, isDecimalDigit, isHexDigit, isLineEnd, testOf, testUtf8, testUtf8Of, atOnce}
 use Rattle.text.specs.Ascii.{asciiProperties}
 use Rattle.text.specs.Count.{lenUtf8, countWhile, runUtf8}
 use Rattle.text.specs.Stands.{Stands}
 use Rattle.text.specs.FollowLaws.{Here, here, chars-end, ascii-read}
 
 pub ascii-properties : (table : List ℕ) → FitTable table → (c : ℕ) → c < 128 → asciiProperties c ≡ propertiesAt table c
-unfolding asciiProperties inRange firstBad lastFrom smallTable
+unfolding asciiProperties inside firstBad lastFrom smallTable
 ascii-properties table fit c h = eqb-true _ _ (ascii-rule table fit c (λ k p. eqb (asciiProperties k) p) refl h)
 
 -- ---- the numbered tests
@@ -47,9 +50,8 @@ module _ (c : ℕ) where
   abbrev Narrow : Bool → Type 0
   Narrow t = t ≡ true → c < 128
 
-  in-range : (lo hi : ℕ) → hi < 128 → Narrow (inRange c lo hi)
-  unfolding inRange
-  in-range lo hi h = by-lt Narrow c lo (λ k e. let z : _≡_ {A = ℕ} 0 1 = cc in absurd (omega arith)) (λ k e. omega (arith, leb-true c hi e))
+  in-range : (lo hi : ℕ) → hi < 128 → Narrow (inside c lo hi)
+  in-range lo hi h e = omega (arith, inside-is c lo hi e .1)
 
   is-char : (d : ℕ) → d < 128 → Narrow (eqb c d)
   is-char d h e = omega (arith, eqb-true c d e)
@@ -62,22 +64,22 @@ module _ (c : ℕ) where
   unfolding testOf isWhitespace isBinaryDigit isOctalDigit isDecimalDigit isHexDigit
   test-ascii test =
       by-eq Narrow test 0 (λ _. either (eqb c 32) (eqb c 9) (is-char 32 (omega arith)) (is-char 9 (omega arith)))
-      (λ _. by-eq Narrow test 1 (λ _. either (inRange c 48 49) (eqb c 95) (in-range 48 49 (omega arith)) (is-char 95 (omega arith)))
-      (λ _. by-eq Narrow test 2 (λ _. either (inRange c 48 55) (eqb c 95) (in-range 48 55 (omega arith)) (is-char 95 (omega arith)))
-      (λ _. by-eq Narrow test 3 (λ _. either (inRange c 48 57) (eqb c 95) (in-range 48 57 (omega arith)) (is-char 95 (omega arith)))
+      (λ _. by-eq Narrow test 1 (λ _. either (inside c 48 49) (eqb c 95) (in-range 48 49 (omega arith)) (is-char 95 (omega arith)))
+      (λ _. by-eq Narrow test 2 (λ _. either (inside c 48 55) (eqb c 95) (in-range 48 55 (omega arith)) (is-char 95 (omega arith)))
+      (λ _. by-eq Narrow test 3 (λ _. either (inside c 48 57) (eqb c 95) (in-range 48 57 (omega arith)) (is-char 95 (omega arith)))
       (λ _. by-eq Narrow test 4
-      (λ _. either (inRange c 48 57) _ (in-range 48 57 (omega arith))
-      (either (inRange c 97 102) _ (in-range 97 102 (omega arith))
-      (either (inRange c 65 70) (eqb c 95) (in-range 65 70 (omega arith)) (is-char 95 (omega arith)))))
+      (λ _. either (inside c 48 57) _ (in-range 48 57 (omega arith))
+      (either (inside c 97 102) _ (in-range 97 102 (omega arith))
+      (either (inside c 65 70) (eqb c 95) (in-range 65 70 (omega arith)) (is-char 95 (omega arith)))))
       (λ _. is-char 35 (omega arith))))))
 
   pub once-ascii : (test : ℕ) → atOnce test c ≡ true → c < 128
-  unfolding atOnce isWord
+  unfolding atOnce
   once-ascii test =
       by-eq Narrow test 1
-      (λ _. either (inRange c 97 122) _ (in-range 97 122 (omega arith))
-      (either (inRange c 65 90) _ (in-range 65 90 (omega arith))
-      (either (inRange c 48 57) (eqb c 95) (in-range 48 57 (omega arith)) (is-char 95 (omega arith)))))
+      (λ _. either (isLetter c) _
+      (either (inside c 65 90) (inside c 97 122) (in-range 65 90 (omega arith)) (in-range 97 122 (omega arith)))
+      (either (inside c 48 57) (eqb c 95) (in-range 48 57 (omega arith)) (is-char 95 (omega arith))))
       (λ _. in-range 32 126 (omega arith))
 
 -- what passes at once passes, and takes one column
@@ -96,15 +98,15 @@ told true false w e f = let z : _≡_ {A = ℕ} 0 1 = cc in absurd (omega arith)
 told false t w e f = let z : _≡_ {A = ℕ} 0 1 = cc in absurd (omega arith)
 
 pub at-once : (table : List ℕ) → FitTable table → (test c : ℕ) → c < 128 → atOnce test c ≡ true → Once table test c
-unfolding atOnce testUtf8 isWord isLineEnd inRange firstBad lastFrom smallTable
+unfolding atOnce testUtf8 isLineEnd inside firstBad lastFrom smallTable
 at-once table fit test c h e = go (eqb test 1) refl
   where
     go : (t : Bool) → eqb test 1 ≡ t → Once table test c
     go true q =
-        let k = told _ _ _ (ascii-rule table fit c (λ k p. asked (isWord k) (xidContinue p) (widthOf p)) refl h) (rw q at e) in
+        let k = told _ _ _ (ascii-rule table fit c (λ k p. asked (isNamePart k) (xidContinue p) (widthOf p)) refl h) (rw q at e) in
         record { passes = rw q (k .0); wide = k .1 }
     go false q =
-        let k = told _ _ _ (ascii-rule table fit c (λ k p. asked (inRange k 32 126) (not (isLineEnd k)) (widthOf p)) refl h) (rw q at e) in
+        let k = told _ _ _ (ascii-rule table fit c (λ k p. asked (isPrintable k) (not (isLineEnd k)) (widthOf p)) refl h) (rw q at e) in
         record { passes = rw q (k .0); wide = k .1 }
 
 -- ---- a run of characters that pass a test which only ASCII passes

@@ -2,10 +2,12 @@
 -- `consume_and_count` is called with, and `testUtf8Of` those of `consume_and_count_utf8`.
 -- Assumes nothing.
 use Prim.Native.Nat.{ℕ}
-use mathlib.Core.Bool.{Bool, false, not, _||_}
-use lib.Dec.{ltb, leb, eqb}
+use mathlib.Core.Bool.{Bool, not, _||_}
+use lib.Dec.{eqb}
 use Rattle.base.specs.Pick.{pick}
+use Rattle.base.specs.Range.{inside}
 use Rattle.property.specs.Parts.{xidContinue}
+use Rattle.property.specs.Ascii.{isNamePart, isPrintable}
 
 -- ---- the characters that are named here
 
@@ -83,25 +85,21 @@ tilde = 126
 
 -- ---- the predicates
 
--- lo ≤ c ≤ hi
-unfoldable pub inRange : ℕ → ℕ → ℕ → Bool
-inRange c lo hi = pick (ltb c lo) false (leb c hi)
-
 -- `is_whitespace`
 unfoldable pub isWhitespace : ℕ → Bool
 isWhitespace c = eqb c space || eqb c tab
 
 -- `is_ascii_digit`
 abbrev pub isDigit : ℕ → Bool
-isDigit c = inRange c 48 57
+isDigit c = inside c 48 57
 
 -- `is_binary_digit`
 unfoldable pub isBinaryDigit : ℕ → Bool
-isBinaryDigit c = inRange c 48 49 || eqb c underscore
+isBinaryDigit c = inside c 48 49 || eqb c underscore
 
 -- `is_octal_digit`
 unfoldable pub isOctalDigit : ℕ → Bool
-isOctalDigit c = inRange c 48 55 || eqb c underscore
+isOctalDigit c = inside c 48 55 || eqb c underscore
 
 -- `is_decimal_digit`
 unfoldable pub isDecimalDigit : ℕ → Bool
@@ -109,7 +107,7 @@ isDecimalDigit c = isDigit c || eqb c underscore
 
 -- `is_hex_digit`
 unfoldable pub isHexDigit : ℕ → Bool
-isHexDigit c = isDigit c || (inRange c 97 102 || (inRange c 65 70 || eqb c underscore))
+isHexDigit c = isDigit c || (inside c 97 102 || (inside c 65 70 || eqb c underscore))
 
 -- '\r' or '\n'
 unfoldable pub isLineEnd : ℕ → Bool
@@ -131,10 +129,6 @@ testUtf8 test c properties = pick (eqb test 1) (xidContinue properties) (not (is
 abbrev pub testUtf8Of : (ℕ → ℕ) → ℕ → ℕ → Bool
 testUtf8Of look test c = testUtf8 test c (look c)
 
--- a letter, a digit or the underscore
-unfoldable pub isWord : ℕ → Bool
-isWord c = inRange c 97 122 || (inRange c 65 90 || (inRange c 48 57 || eqb c underscore))
-
 -- an ASCII character that passes the test of this number and takes one column, whatever the table (`CountLaws`)
 unfoldable pub atOnce : ℕ → ℕ → Bool
-atOnce test c = pick (eqb test 1) (isWord c) (inRange c space tilde)
+atOnce test c = pick (eqb test 1) (isNamePart c) (isPrintable c)

@@ -8,12 +8,14 @@ ghost use Rattle.utf8.specs.Encode.{WellFormed};
 ghost use Rattle.utf8.specs.Chars.{chars};
 ghost use Rattle.property.specs.Table.{propertiesAt};
 ghost use Rattle.property.specs.FitLaws.{FitTable};
+ghost use Rattle.property.specs.Ascii.{isNamePart};
 ghost use Rattle.text.specs.Bytes.{byteAt};
-ghost use Rattle.text.specs.Tests.{inRange, isWhitespace, isBinaryDigit, isOctalDigit, isDecimalDigit, isHexDigit, isLineEnd, isWord, testOf, testUtf8, atOnce};
+ghost use Rattle.text.specs.Tests.{isWhitespace, isBinaryDigit, isOctalDigit, isDecimalDigit, isHexDigit, isLineEnd, testOf, testUtf8, atOnce};
 ghost use Rattle.text.specs.Ascii.{asciiProperties};
 ghost use Rattle.text.specs.Count.{countWhile, runTest};
 ghost use Rattle.text.specs.Stands.{Stands};
 ghost use Rattle.text.specs.Chars.{CharIs, DecodedIs, LenIs};
+use base::between;
 use position::Reach;
 
 // What a loop does at a character.
@@ -63,15 +65,6 @@ fn is_whitespace(b: u8) -> bool
     ensures { λ r. ⌜ r ≡ isWhitespace b ⌝ }
 {
     b == b' ' || b == b'\t'
-}
-
-fn between(b: u8, lo: u8, hi: u8) -> bool
-    ensures { λ r. ⌜ r ≡ inRange b lo hi ⌝ }
-{
-    if b < lo {
-        return false;
-    }
-    b <= hi
 }
 
 // lexer.rs `is_binary_digit`. Like the three below it takes the underscore too.
@@ -269,10 +262,10 @@ fn passes_utf8(test: u8, code: u32, properties: u32) -> bool
 }
 
 // A letter, a digit or the underscore.
-fn is_word(b: u8) -> bool
-    ensures { λ r. ⌜ r ≡ isWord b ⌝ }
+fn is_name_part(b: u8) -> bool
+    ensures { λ r. ⌜ r ≡ isNamePart b ⌝ }
 {
-    between(b, b'a', b'z') || (between(b, b'A', b'Z') || (between(b, b'0', b'9') || b == b'_'))
+    between(b, b'A', b'Z') || (between(b, b'a', b'z') || (between(b, b'0', b'9') || b == b'_'))
 }
 
 // An ASCII character that passes the test of this number and takes one column, whatever the table.
@@ -280,7 +273,7 @@ fn passes_at_once(test: u8, b: u8) -> bool
     ensures { λ r. ⌜ r ≡ atOnce test b ⌝ }
 {
     if test == ID_CONTINUE {
-        return is_word(b);
+        return is_name_part(b);
     }
     between(b, b' ', b'~')
 }

@@ -20,9 +20,10 @@ use mathlib.Core.List.{List, [], _∷_, _++_, append-assoc, append-nil}
 use lib.ListN.{length, getD, take, drop, length-append, length-drop, take-append-drop, drop-of-length-le}
 use lib.Seq.{drop-drop, drop-cons, getD-drop, drop-append-seam}
 use Rattle.base.specs.PickLaws.{split-lt}
+use Rattle.base.specs.Range.{inside}
 use Rattle.utf8.specs.Encode.{Scalar, Scalars, encode, encodeAll, WellFormed}
 use Rattle.utf8.specs.EncodeLaws.{encode1, all-append, scalars-drop}
-use Rattle.utf8.specs.Read.{seqLen, inside, secondOk, fourth, third, second, headOf, decodeHead, readAt}
+use Rattle.utf8.specs.Read.{seqLen, secondOk, fourth, third, second, headOf, decodeHead, readAt}
 use Rattle.utf8.specs.GrammarLaws.{Sound, found1}
 use Rattle.utf8.specs.ReadLaws.{sound, complete}
 use Rattle.utf8.specs.Chars.{charsIn, chars, checkIn, checkFrom}

@@ -1,6 +1,6 @@
 -- The grammar of `Read.antt` against `encode`, one form at a time. `ReadLaws` puts them together; nothing else needs these.
 --     Lead, lead         what the length that a lead byte gives says of the byte
---     Second, second-is, is-second, inside-is, is-inside    what the tests on the other bytes say
+--     Second, second-is, is-second    what the tests on the other bytes say
 --     Sound              n bytes of l are the encoding of c
 --     sound1 .. sound4   bytes that pass the tests are the encoding of the code point that they stand for
 --     found1 .. found4   bytes that pass the tests are read as that code point
@@ -16,9 +16,10 @@ use mathlib.Core.Bool.{Bool, true}
 use lib.ListN.{length, drop}
 use borrow.Author.Tests.{lt-ltb, le-ltb, le-leb, leb-true}
 use Rattle.base.specs.PickLaws.{by-lt, by-eq}
+use Rattle.base.specs.RangeLaws.{inside-is, is-inside}
 use Rattle.utf8.specs.Encode.{Scalar, encode}
 use Rattle.utf8.specs.EncodeLaws.{encode1, encode2, encode3, encode4}
-use Rattle.utf8.specs.Read.{seqLen, inside, secondOk, code2, code3, code4, fourth, third, second, headOf, decodeHead}
+use Rattle.utf8.specs.Read.{seqLen, secondOk, code2, code3, code4, fourth, third, second, headOf, decodeHead}
 use Rattle.utf8.specs.declared.Read.the-variants.{Char}
 
 -- ---- what the tests on the bytes say
@@ -37,16 +38,6 @@ lead a =
     (λ h. by-lt (Lead a) a 0xc2 (λ k. omega arith)
     (λ k. by-lt (Lead a) a 0xe0 (λ l. omega arith)
     (λ l. by-lt (Lead a) a 0xf0 (λ m. omega arith) (λ m. by-lt (Lead a) a 0xf5 (λ o. omega arith) (λ o. omega arith)))))
-
-pub inside-is : (b lo hi : ℕ) → inside b lo hi ≡ true → (lo ≤ b) × (b ≤ hi)
-unfolding inside
-inside-is b lo hi =
-    by-lt (λ (t : Bool). t ≡ true → (lo ≤ b) × (b ≤ hi)) b lo
-    (λ h e. let z : _≡_ {A = ℕ} 0 1 = cc in omega arith) (λ h e. (h, leb-true b hi e))
-
-pub is-inside : (b lo hi : ℕ) → lo ≤ b → b ≤ hi → inside b lo hi ≡ true
-unfolding inside
-is-inside b lo hi h k = rw (le-ltb b lo h) (le-leb b hi k)
 
 pub record Second (a b : ℕ) : Type 0 where
   pub low : 0x80 ≤ b

@@ -4,10 +4,11 @@
 -- Assumes nothing.
 use Prim.Native.Nat.{ℕ, _+_, _*_, _%_}
 use mathlib.Core.List.{List}
-use mathlib.Core.Bool.{Bool, false}
+use mathlib.Core.Bool.{Bool}
 use lib.ListN.{length, getD, drop}
-use lib.Dec.{ltb, leb, eqb}
+use lib.Dec.{ltb, eqb}
 use Rattle.base.specs.Pick.{pick}
+use Rattle.base.specs.Range.{inside}
 use Rattle.utf8.specs.declared.Read.{Read}
 use Rattle.utf8.specs.declared.Read.the-variants.{Char, Bad, Cut}
 
@@ -24,10 +25,6 @@ seqLen a =
     -- UTF8-4 = %xF0-F4 ..
     (pick (ltb a 0xf5) 4
     0))))
-
--- lo ≤ b ≤ hi
-unfoldable pub inside : ℕ → ℕ → ℕ → Bool
-inside b lo hi = pick (ltb b lo) false (leb b hi)
 
 -- UTF8-tail = %x80-BF
 abbrev pub isTail : ℕ → Bool

@@ -17,10 +17,11 @@ use lib.Seq.{drop-cons, drop-length}
 use borrow.Author.Tests.{le-ltb}
 use Rattle.base.specs.Pick.{pick}
 use Rattle.base.specs.PickLaws.{by-test, by-lt, by-eq, split-lt, split-eq}
+use Rattle.base.specs.RangeLaws.{inside-is}
 use Rattle.utf8.specs.Encode.{Scalar, encode, Begins}
 use Rattle.utf8.specs.EncodeLaws.{begins-less}
 use Rattle.utf8.specs.Read.{seqLen, secondOk, isTail, code2, code3, code4, fourth, third, second, headOf, decodeHead}
-use Rattle.utf8.specs.GrammarLaws.{lead, inside-is, Second, second-is, Sound, sound1, sound2, sound3, sound4, found1, found2, found3, found4, back2, back3, back4}
+use Rattle.utf8.specs.GrammarLaws.{lead, Second, second-is, Sound, sound1, sound2, sound3, sound4, found1, found2, found3, found4, back2, back3, back4}
 use Rattle.utf8.specs.declared.Read.{Read}
 use Rattle.utf8.specs.declared.Read.the-variants.{Char, Bad, Cut}
 

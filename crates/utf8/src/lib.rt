@@ -2,10 +2,11 @@
 // that the end of the slice cuts. koto has this from Rust's `str`; here it is added, for bytes that are tested once.
 // Left out: byte order marks, and any repair of what is ill-formed.
 ghost use mathlib.Core.Path.{_≡_};
-ghost use Rattle.utf8.specs.Read.{seqLen, inside, secondOk, code2, code3, code4, fourth, third, second, decodeHead, readAt};
+ghost use Rattle.utf8.specs.Read.{seqLen, secondOk, code2, code3, code4, fourth, third, second, decodeHead, readAt};
 ghost use Rattle.utf8.specs.Lengths.{lenOf};
 ghost use Rattle.utf8.specs.Chars.{onRead, checkFrom};
 ghost use Rattle.utf8.specs.declared.Utf8Check.the-variants.{Fine, BadAt, CutAt};
+use base::between;
 
 // What stands at a place.
 pub enum Read {
@@ -52,15 +53,6 @@ pub fn lead_len(a: u8) -> usize
         return 0;
     }
     0
-}
-
-fn between(b: u8, lo: u8, hi: u8) -> bool
-    ensures { λ r. ⌜ r ≡ inside b lo hi ⌝ }
-{
-    if b < lo {
-        return false;
-    }
-    b <= hi
 }
 
 // Whether b may follow the lead byte a: E0 and F0 shut out overlong forms, ED surrogates, F4 what lies past U+10FFFF.

@@ -1,22 +1,16 @@
--- `lexer::is_inside` meets its contract: each return is a case of `isTail`.
--- Assumes nothing.
+-- `lexer::is_inside` meets its contract: the test of the byte there is `isTail`. Assumes nothing.
 use borrow.Author.Needs.{needs}
-use mathlib.Core.Path.{sym}
-use Rattle.base.specs.Cases.{cases}
-use Rattle.utf8.specs.Read.{inside}
 use Rattle.lexer.proofs.is_inside.Statement.{statement}
 use Rattle.lexer.proofs.is_inside.Tie as tie
 
-shared-slice-read-b : tie.Need-shared-slice-read-b
-shared-slice-read-b c = search needs
+shared-slice-read-between : tie.Need-shared-slice-read-between
+shared-slice-read-between c = search needs
+
+between-requires : tie.Need-between-requires
+between-requires c κs = search needs
 
 returns : tie.Need-returns
-unfolding inside
-returns c = sym (search cases)
-
-returns-2 : tie.Need-returns-2
-unfolding inside
-returns-2 c = sym (search cases)
+returns c = c .between .ensures
 
 pub is-inside-spec : {M : Type 1} → statement M
-is-inside-spec = tie.close (tie.spec shared-slice-read-b returns returns-2)
+is-inside-spec = tie.close (tie.spec shared-slice-read-between between-requires returns)

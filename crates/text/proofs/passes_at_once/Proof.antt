@@ -6,8 +6,8 @@ use Rattle.text.specs.Tests.{atOnce}
 use Rattle.text.proofs.passes_at_once.Statement.{statement}
 use Rattle.text.proofs.passes_at_once.Tie as tie
 
-is-word-requires : tie.Need-is-word-requires
-is-word-requires c κs = search needs
+is-name-part-requires : tie.Need-is-name-part-requires
+is-name-part-requires c κs = search needs
 
 returns : tie.Need-returns
 unfolding atOnce
@@ -21,4 +21,4 @@ unfolding atOnce
 returns-2 c = sym (search cases)
 
 pub passes-at-once-spec : {M : Type 1} → statement M
-passes-at-once-spec = tie.close (tie.spec is-word-requires returns between-requires returns-2)
+passes-at-once-spec = tie.close (tie.spec is-name-part-requires returns between-requires returns-2)

@@ -1,11 +1,9 @@
--- `text::is_word` meets its contract: each return is a case of `isWord`.
--- Assumes nothing.
+-- `text::is_name_part` meets its contract: each return is a case of `isNamePart`. Assumes nothing.
 use borrow.Author.Needs.{needs}
 use mathlib.Core.Path.{sym}
 use Rattle.base.specs.Cases.{cases}
-use Rattle.text.specs.Tests.{isWord}
-use Rattle.text.proofs.is_word.Statement.{statement}
-use Rattle.text.proofs.is_word.Tie as tie
+use Rattle.text.proofs.is_name_part.Statement.{statement}
+use Rattle.text.proofs.is_name_part.Tie as tie
 
 between-requires : tie.Need-between-requires
 between-requires c κs = search needs
@@ -17,23 +15,19 @@ between-requires-3 : tie.Need-between-requires-3
 between-requires-3 c κs = search needs
 
 returns : tie.Need-returns
-unfolding isWord
 returns c = sym (search cases)
 
 returns-2 : tie.Need-returns-2
-unfolding isWord
 returns-2 c = sym (search cases)
 
 returns-3 : tie.Need-returns-3
-unfolding isWord
 returns-3 c = sym (search cases)
 
 returns-4 : tie.Need-returns-4
-unfolding isWord
 returns-4 c = sym (search cases)
 
-pub is-word-spec : {M : Type 1} → statement M
-is-word-spec =
+pub is-name-part-spec : {M : Type 1} → statement M
+is-name-part-spec =
     tie.close
     (tie.spec
     between-requires
