@@ -11,11 +11,12 @@ use lib.ListN.{length, getD, drop, length-drop, List·getD-eq-default}
 use lib.Seq.{getD-drop}
 use borrow.Author.Tests.{eqb-true, lt-ltb, le-ltb, le-leb, lt-leb}
 use Rattle.base.specs.PickLaws.{by-test, by-lt, split-lt}
+use Rattle.base.specs.Range.{inside}
 use Rattle.base.specs.RangeLaws.{inside-is}
 use Rattle.position.specs.Place.{alongBy}
 use Rattle.position.specs.declared.Reach.{Reach}
 use Rattle.utf8.specs.Encode.{encode, encodeAll, WellFormed}
-use Rattle.utf8.specs.Read.{inside, isTail}
+use Rattle.utf8.specs.Read.{isTail}
 use Rattle.utf8.specs.CharsLaws.{At, chars-well, ascii-byte}
 use Rattle.property.specs.Parts.{xidStart}
 use Rattle.property.specs.Table.{propertiesAt}

@@ -9,7 +9,8 @@ use mathlib.Core.Path.{_≡_, sym, _∙_}
 use mathlib.Core.Bool.{true, false}
 use lib.ListN.{length, getD}
 use borrow.Author.Tests.{le-ltb, le-leb}
-use Rattle.utf8.specs.Read.{inside, isTail}
+use Rattle.base.specs.Range.{inside}
+use Rattle.utf8.specs.Read.{isTail}
 use Rattle.state.specs.Stack.{Agrees}
 use Rattle.state.specs.StackLaws.{top-none, top-codes}
 use Rattle.state.specs.declared.State.{State}

@@ -4,7 +4,7 @@ use native.Mathlib.Omega.{arith}
 use mathlib.Core.Path.{refl, sym, _∙_}
 use Rattle.property.specs.SmallLaws.{ascii-start}
 use Rattle.text.specs.Tests.{isWhitespace, isLineEnd}
-use Rattle.lexer.specs.ArmLaws.{code-by, above, other, no-digit, blank-arm, line-arm, comment-arm, double-arm, single-arm, ignored-arm}
+use Rattle.lexer.specs.ArmLaws.{code-by, above, other, no-digit, mid-letter, blank-arm, line-arm, comment-arm, double-arm, single-arm, ignored-arm}
 use Rattle.lexer.proofs.in_code.Statement.{statement}
 use Rattle.lexer.proofs.in_code.Tie as tie
 
@@ -94,7 +94,7 @@ returns-8 c =
     let start = b .before .before .before in
     code-by _ _ (start .args .lexer) 95 (sym (b .byte-at .ensures) ∙ c .before .if8 .taken) (omega arith)
     (c .consume-ignored .ensures
-    ∙ sym (ignored-arm _ 95 _ _ (above 95 (omega arith)) (no-digit 95 (omega arith)) (ascii-start _ (start .pre .1) 95 (omega arith)) refl))
+    ∙ sym (ignored-arm _ 95 _ _ (above 95 (omega arith)) (no-digit 95 (omega arith)) (ascii-start _ (start .pre .1) 95 (omega arith) ∙ mid-letter 95 (omega arith) (omega arith)) refl))
 
 in-rest-requires : tie.Need-in-rest-requires
 in-rest-requires c κs =
