@@ -6,7 +6,9 @@ pub mod First
 pub mod FirstLaws
 pub mod Fit
 pub mod FitLaws
+pub mod Quick
 pub mod Ascii
 pub mod SmallLaws
+pub mod QuickLaws
 pub mod File
 pub mod FileLaws

@@ -1,5 +1,6 @@
 -- Laws of `propertiesAt`.
 --     last-run, in-run      the answer is that of the run k: by its start and all later ones; where starts rise, by its start and the next
+--     first-runs            where all later runs start above the code point, the first n give the answer
 --     of-runs               what holds of every run's properties, and of 0, holds of every code point's
 --     properties-below, width-most    bounds that every list keeps
 -- Assumes nothing.
@@ -8,7 +9,7 @@ use native.Mathlib.Omega.{arith}
 use mathlib.Core.Path.{_≡_, refl}
 use mathlib.Core.List.{List, [], _∷_}
 use lib.Dec.{ltb}
-use lib.ListN.{length, getD}
+use lib.ListN.{length, getD, take}
 use borrow.Author.Tests.{lt-ltb, le-ltb}
 use Rattle.base.specs.PickLaws.{by-test, split-eq}
 use Rattle.property.specs.Parts.{startOf, propertiesOf, widthOf}
@@ -20,6 +21,13 @@ unfolding lastFrom
 none-more p [] c above = refl
 none-more p (r ∷ rs) c above =
     rw (lt-ltb c (startOf r) (above 0 (omega arith))) (none-more p rs c (λ j h. above (suc j) (omega arith)))
+
+pub first-runs :
+    (n p : ℕ) (l : List ℕ) (c : ℕ) → ((j : ℕ) → n ≤ j → j < length l → c < startAt l j) → lastFrom p l c ≡ lastFrom p (take n l) c
+unfolding lastFrom
+first-runs zero p l c above = none-more p l c (λ j h. above j (omega arith) h)
+first-runs (suc n) p [] c above = refl
+first-runs (suc n) p (r ∷ rs) c above = first-runs n _ rs c (λ j i h. above (suc j) (omega arith) (omega arith))
 
 pub last-run :
     (p : ℕ) (l : List ℕ) (c k : ℕ) → k < length l → startAt l k ≤ c → ((j : ℕ) → k < j → j < length l → c < startAt l j)

@@ -4,11 +4,14 @@ use crate::parts::is_id_continue;
 use crate::parts::is_id_start;
 ghost use mathlib.Core.Path.{_≡_};
 ghost use Prim.Native.Nat.{_<_};
+ghost use lib.Dec.{leb};
 ghost use lib.ListN.{length};
+ghost use Rattle.property.specs.Parts.{startOf};
 ghost use Rattle.property.specs.Table.{propertiesAt, Rises};
 ghost use Rattle.property.specs.Small.{smallTable};
-ghost use Rattle.property.specs.First.{firstBad};
-ghost use Rattle.property.specs.Fit.{startOk, propertiesOk, runOk, asciiOk, tableCheck};
+ghost use Rattle.property.specs.First.{firstBad, allGood};
+ghost use Rattle.property.specs.Fit.{startOk, propertiesOk, runOk, startMost, asciiOk, tableCheck};
+ghost use Rattle.property.specs.Quick.{followsOk, beginsAsSmall};
 
 // A table has 1 to 8,000 numbers.
 pub const MOST: usize = 8000;
@@ -57,13 +60,22 @@ fn start_ok(table: &[u32], i: usize) -> bool
 fn properties_ok(properties: u32) -> bool
     ensures { λ r. ⌜ r ≡ propertiesOk properties ⌝ }
 {
-    if 13 < class_of(properties) {
-        return false;
-    }
-    if is_id_start(properties) {
-        return is_id_continue(properties);
-    }
-    true
+    (class_of(properties) <= 13) & (!is_id_start(properties) | is_id_continue(properties))
+}
+
+// The run rules at one run, but for `within`.
+fn follows(table: &[u32], i: usize) -> bool
+    requires { ⌜ i < length (now table) ⌝ }
+    ensures { λ r. ⌜ r ≡ followsOk (now (table .entry)) i ⌝ }
+{
+    start_ok(table, i) & properties_ok(table[i] % 2048)
+}
+
+// A run starts at the last code point at most.
+fn within(run: u32) -> bool
+    ensures { λ r. ⌜ r ≡ leb (startOf run) startMost ⌝ }
+{
+    run / 2048 <= LAST
 }
 
 // The run rules, at one run.
@@ -71,20 +83,33 @@ fn run_ok(table: &[u32], i: usize) -> bool
     requires { ⌜ i < length (now table) ⌝ }
     ensures { λ r. ⌜ r ≡ runOk (now (table .entry)) i ⌝ }
 {
-    let run = table[i];
-    if !start_ok(table, i) {
-        return false;
+    follows(table, i) & within(table[i])
+}
+
+// Whether every run keeps the run rules. The loop has no branch, so it is compiled to take several runs at once. Where starts rise the last
+// is the greatest, so only the last run is asked for `within`.
+fn all_runs_ok(table: &[u32]) -> bool
+    requires { ⌜ 0 < length (now table) ⌝ }
+    ensures { λ r. ⌜ r ≡ allGood (runOk (now (table .entry))) (length (now (table .entry))) ⌝ }
+{
+    let last = table.len() - 1;
+    let mut ok = follows(table, 0);
+    let mut i = 1;
+    while i <= last {
+        ok &= follows(table, i);
+        i += 1;
     }
-    if LAST < run / 2048 {
-        return false;
-    }
-    properties_ok(run % 2048)
+    ok & within(table[last])
 }
 
 // The first run that breaks a run rule; the count where none does.
 fn first_bad_run(table: &[u32]) -> usize
+    requires { ⌜ 0 < length (now table) ⌝ }
     ensures { λ r. ⌜ r ≡ firstBad (runOk (now (table .entry))) 0 (length (now (table .entry))) ⌝ }
 {
+    if all_runs_ok(table) {
+        return table.len();
+    }
     let mut i = 0;
     while i < table.len() {
         if !run_ok(table, i) {
@@ -128,12 +153,32 @@ pub fn small_table() -> [u32; 22]
     SMALL
 }
 
+// Whether a table begins with the small table's runs below 128, which are 15, and its next run starts at 128 or later.
+fn begins_as_small(table: &[u32], small: &[u32]) -> bool
+    requires { ⌜ now small ≡ smallTable ⌝ }
+    ensures { λ r. ⌜ r ≡ beginsAsSmall (now (table .entry)) ⌝ }
+{
+    if table.len() <= 15 {
+        return false;
+    }
+    let mut same = true;
+    let mut k = 0;
+    while k < 15 {
+        same &= table[k] == small[k];
+        k += 1;
+    }
+    same & (128 <= table[15] / 2048)
+}
+
 // The first code point below 128 that has other properties than the small table gives it; 128 where there is none.
 fn first_bad_ascii(table: &[u32], small: &[u32]) -> u32
     requires { ⌜ Rises (now table) ⌝ }
     requires { ⌜ now small ≡ smallTable ⌝ }
     ensures { λ r. ⌜ r ≡ firstBad (asciiOk (now (table .entry))) 0 128 ⌝ }
 {
+    if begins_as_small(table, small) {
+        return 128;
+    }
     let mut c = 0;
     while c < 128 {
         if lookup(table, c) != lookup(small, c) {

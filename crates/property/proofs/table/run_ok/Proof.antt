@@ -1,43 +1,31 @@
--- `property::run_ok` meets its contract: each return is a case of `runOk`. Assumes nothing.
+-- `property::run_ok` meets its contract: its two tests are the run rules, by `run-parts`. Assumes nothing.
 use borrow.Author.Needs.{needs}
 use mathlib.Core.Path.{sym}
-use Rattle.base.specs.Cases.{denied}
-use Rattle.property.specs.Fit.{runOk}
+use Rattle.property.specs.QuickLaws.{run-parts}
 use Rattle.property.proofs.table.run_ok.Statement.{statement}
 use Rattle.property.proofs.table.run_ok.Tie as tie
 
-mul-run : tie.Need-mul-run
-mul-run c = search needs
+follows-requires : tie.Need-follows-requires
+follows-requires c κs = search needs
 
-shared-slice-read-run : tie.Need-shared-slice-read-run
-shared-slice-read-run c = search needs
+mul-within : tie.Need-mul-within
+mul-within c = search needs
 
-start-ok-requires : tie.Need-start-ok-requires
-start-ok-requires c κs = search needs
+shared-slice-read-within : tie.Need-shared-slice-read-within
+shared-slice-read-within c = search needs
+
+within-requires : tie.Need-within-requires
+within-requires c κs = search needs
 
 returns : tie.Need-returns
-unfolding runOk
-returns c = sym (search denied)
-
-returns-2 : tie.Need-returns-2
-unfolding runOk
-returns-2 c = sym (search denied)
-
-properties-ok-requires : tie.Need-properties-ok-requires
-properties-ok-requires c κs = search needs
-
-returns-3 : tie.Need-returns-3
-unfolding runOk
-returns-3 c = sym (search denied)
+returns c = rw (c .before .before .follows .ensures, c .within .ensures) (sym (run-parts _ _))
 
 pub run-ok-spec : {M : Type 1} → statement M
 run-ok-spec =
     tie.close
     (tie.spec
-    mul-run
-    shared-slice-read-run
-    start-ok-requires
-    returns
-    returns-2
-    properties-ok-requires
-    returns-3)
+    follows-requires
+    mul-within
+    shared-slice-read-within
+    within-requires
+    returns)
