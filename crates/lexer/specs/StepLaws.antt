@@ -1,4 +1,5 @@
 -- Laws of the read step.
+--     fits-codes, step-codes      the half's lexer with the codes: there is room for the change, and it makes the step
 --     step-agrees, step-stack     the copies of depth and top agree again, and the modes are changed as the stack is
 --     step-mirrors                both halves together are the Rust's stack and step
 --     half-joins                  a token's bytes and span begin where those before ended, unless it is an Error that stands still
@@ -16,9 +17,9 @@ use borrow.Author.Tests.{ltb-true, ltb-false}
 use Rattle.base.specs.PickLaws.{by-test, by-lt, by-eq}
 use Rattle.position.specs.declared.Place.{Place}
 use Rattle.state.specs.Lexer.{settled, remembered}
-use Rattle.state.specs.State.{withMode, changedBy, Fits}
+use Rattle.state.specs.State.{stateOf, withMode, changedBy, Fits}
 use Rattle.state.specs.Stack.{rest, changed, codesOf, stackOf, Agrees}
-use Rattle.state.specs.StackLaws.{top-none, change-is, change-agrees}
+use Rattle.state.specs.StackLaws.{state-is, top-none, change-is, change-agrees}
 use Rattle.state.specs.declared.Change.{Change}
 use Rattle.state.specs.declared.Change.the-variants.{Keep, Push, Pop, Replace}
 use Rattle.state.specs.declared.Lexer.{Lexer}
@@ -64,6 +65,25 @@ module _ (look : ℕ → ℕ) (edition : ℕ) (s : List ℕ) (st : State) (a : A
 
   fits : Fits (half look edition s (st .lexer) .change) between
   fits = half-fits look edition s (st .lexer) between (a .most) (a .depth)
+
+  -- the half keeps the depth, so its lexer and the codes are that state
+  between-is : stateOf (half look edition s (st .lexer) .lexer) (st .modes .codes) ≡ between
+  between-is = state-is between between-agrees
+
+  -- the half as it was answered, its lexer with the codes
+  module _ {h : Half} (e : h ≡ half look edition s (st .lexer)) where
+    pub fits-codes : Fits (h .change) (stateOf (h .lexer) (st .modes .codes))
+    fits-codes =
+        subst (λ (x : Half). Fits (x .change) (stateOf (x .lexer) (st .modes .codes))) (sym e)
+        (subst (Fits (half look edition s (st .lexer) .change)) (sym between-is) fits)
+
+    pub step-codes : {next : State} → next ≡ changedBy (h .change) (stateOf (h .lexer) (st .modes .codes))
+        → record { what = h .what; state = next } ≡ step look edition s st
+    unfolding step
+    step-codes q =
+        ap (λ (x : State). record { what = h .what; state = x }) q
+        ∙ ap (λ (x : Half). record { what = x .what; state = changedBy (x .change) (stateOf (x .lexer) (st .modes .codes)) }) e
+        ∙ ap (λ (x : State). record { what = half look edition s (st .lexer) .what; state = changedBy (half look edition s (st .lexer) .change) x }) between-is
 
   pub step-agrees : Agrees (step look edition s st .state)
   unfolding step

@@ -22,6 +22,7 @@ ghost use Rattle.lexer.specs.Fine.{Fine, InLiteralIs, InCodeIs, BeginsIs
 use base::between;
 use state::Change;
 use state::Lexer;
+use state::Modes;
 use state::State;
 use state::Taken;
 use text::byte_at;
@@ -362,15 +363,18 @@ pub fn read_token(source: &[u8], table: &[u32], edition: u32, before: State) -> 
     requires { ⌜ Fine (now source) (before .lexer) × FitTable (now table) × Agrees before ⌝ }
     ensures { λ r. ⌜ r ≡ step (propertiesAt (now (table .entry))) edition (now (source .entry)) before ⌝ }
 {
-    let lexer = before.lexer;
-    let modes = before.modes;
-    let half = read_half(source, table, edition, lexer);
+    let mut codes = before.modes.codes;
+    let half = read_half(source, table, edition, before.lexer);
     let what = half.what;
-    let change = half.change;
     let next = half.lexer;
-    let state = State { lexer: next, modes };
+    let change = half.change;
+    let lexer = next.apply(&mut codes, change);
+    let depth = lexer.depth;
     Step {
         what,
-        state: state.apply(change),
+        state: State {
+            lexer,
+            modes: Modes { codes, depth },
+        },
     }
 }

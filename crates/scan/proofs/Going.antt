@@ -16,20 +16,22 @@ use Rattle.token.specs.RowLaws.{put-length, fits-packs}
 use Rattle.token.specs.declared.Token.{Token}
 use Rattle.token.specs.declared.rows.Row.{Row}
 use Rattle.state.specs.Lexer.{reachOf, plainToken}
-use Rattle.state.specs.State.{changedBy, Fits}
+use Rattle.state.specs.State.{stateOf, changedBy}
+use Rattle.state.specs.Stack.{Agrees}
+use Rattle.state.specs.StackLaws.{state-is}
 use Rattle.state.specs.declared.Change.{Change}
 use Rattle.state.specs.declared.Change.the-variants.{Keep}
 use Rattle.state.specs.declared.Lexer.{Lexer}
 use Rattle.state.specs.declared.State.{State}
 use Rattle.lexer.specs.Step.{half, step}
 use Rattle.lexer.specs.Mirrors.{Same}
-use Rattle.lexer.specs.ArmLaws.{half-fits}
-use Rattle.lexer.specs.StepLaws.{change-same}
+use Rattle.lexer.specs.StepLaws.{step-codes, change-same}
 use Rattle.lexer.specs.Invariant.{Ok, measure}
 use Rattle.lexer.specs.InvariantLaws.{step-ok}
 use Rattle.lexer.specs.MeasureLaws.{step-falls}
 use Rattle.lexer.specs.ReadsLaws.{token-reads, stuck-stays}
 use Rattle.lexer.specs.declared.Half.{Half}
+use Rattle.lexer.specs.declared.Step.{Step}
 use Rattle.lexer.specs.declared.What.{What}
 use Rattle.lexer.specs.declared.What.the-variants as what
 use Rattle.reading.specs.Reading.{rowOf, ended, stuck, deep, Reading, onto, stuckReading, stopped, afterStep, readFrom}
@@ -92,9 +94,17 @@ pub record Going (s table : List ℕ) (edition : ℕ) (st₀ : State) (k₀ : �
   pub rest : (x : Scanned) (new : List ℕ) → ReadsOn (propertiesAt table) edition s st k l x new
       → ReadsOn (propertiesAt table) edition s st₀ k₀ l₀ x new
 
+-- it begins with the lexer and the codes of a state
 pub begins : (s table : List ℕ) (edition : ℕ) (st : State) (k : ℕ) (l : List ℕ) → Ok s st → FitTable table → k ≤ room l
-    → Going s table edition st k l st k l
-begins s table edition st k l o f h = record { ok = o; fit = f; within = h; long = refl; rest = λ x new r. r }
+    → Going s table edition (stateOf (st .lexer) (st .modes .codes)) k l (stateOf (st .lexer) (st .modes .codes)) k l
+begins s table edition st k l o f h =
+    record { ok = subst (Ok s) (sym (state-is st (o .agrees))) o; fit = f; within = h; long = refl; rest = λ x new r. r }
+
+-- which are the whole state
+pub from-start : {s table : List ℕ} {edition : ℕ} {st₀ : State} {k₀ : ℕ} {l₀ : List ℕ} {st : State} {k : ℕ} {l : List ℕ} → Agrees st₀
+    → Going s table edition (stateOf (st₀ .lexer) (st₀ .modes .codes)) k₀ l₀ st k l → Going s table edition st₀ k₀ l₀ st k l
+from-start {s} {table} {edition} {st₀} {k₀} {l₀} {st} {k} {l} a g =
+    subst (λ (x : State). Going s table edition x k₀ l₀ st k l) (state-is st₀ a) g
 
 module _ {s table : List ℕ} {edition : ℕ} {st₀ : State} {k₀ : ℕ} {l₀ : List ℕ} {st : State} {k : ℕ} {l : List ℕ}
     (g : Going s table edition st₀ k₀ l₀ st k l) where
@@ -154,22 +164,11 @@ module _ {s table : List ℕ} {edition : ℕ} {st₀ : State} {k₀ : ℕ} {l₀
       (subst (λ (m : Lexer). Fills l k (reachOf m .byte .0) (stuckReading m) x new) q f)))
 
   -- the code's two ways to the state after the step
-  pub keeps-is : {h : Half} → h ≡ found → h .change ≡ Keep → record { lexer = h .lexer; modes = st .modes } ≡ next
-  unfolding step
-  keeps-is {h} e q =
-      ap (λ (x : Half). changedBy Keep (record { lexer = x .lexer; modes = st .modes })) e
-      ∙ ap (λ (c : Change). changedBy c (record { lexer = found .lexer; modes = st .modes })) (sym q ∙ ap (λ (x : Half). x .change) e)
+  pub changes-is : {h : Half} {x : State} → h ≡ found → x ≡ changedBy (h .change) (stateOf (h .lexer) (st .modes .codes)) → x ≡ next
+  changes-is e q = ap (λ (r : Step). r .state) (step-codes (propertiesAt table) edition s st (g .ok .agrees) e q)
 
-  pub changes-is : {h : Half} {x : State} → h ≡ found → x ≡ changedBy (h .change) (record { lexer = h .lexer; modes = st .modes }) → x ≡ next
-  unfolding step
-  changes-is e q = q ∙ ap (λ (x : Half). changedBy (x .change) (record { lexer = x .lexer; modes = st .modes })) e
-
-  -- there is room for the change
-  pub fits : {h : Half} → h ≡ found → Fits (h .change) (record { lexer = h .lexer; modes = st .modes })
-  fits {h} e =
-      subst (λ (x : Half). Fits (x .change) (record { lexer = x .lexer; modes = st .modes })) (sym e)
-      (half-fits (propertiesAt table) edition s (st .lexer) (record { lexer = found .lexer; modes = st .modes }) (g .ok .agrees .most)
-      (g .ok .agrees .depth))
+  pub keeps-is : {h : Half} → h ≡ found → h .change ≡ Keep → stateOf (h .lexer) (st .modes .codes) ≡ next
+  keeps-is {h} e q = changes-is e (ap (λ (c : Change). changedBy c (stateOf (h .lexer) (st .modes .codes))) (sym q))
 
   -- the bytes of a record have 32 bits
   pub bounds : (found .lexer .place .«previous_byte» .0 ≤ sourceMost) × (found .lexer .place .«current_byte» .0 ≤ sourceMost)

@@ -97,7 +97,7 @@ pub fn read_on(
     ensures { λ r. ⌜ ReadsOn (propertiesAt (now (table .entry))) edition (now (source .entry)) start first (now (list .entry)) r (now (list .exit)) ⌝ }
 {
     let mut lexer = start.lexer;
-    let mut modes = start.modes;
+    let mut codes = start.modes.codes;
     let mut count = first;
     loop {
         let byte = lexer.place.current_byte.0;
@@ -117,10 +117,7 @@ pub fn read_on(
                     lexer = next;
                     continue;
                 }
-                let state = State { lexer: next, modes };
-                let state = state.apply(change);
-                lexer = state.lexer;
-                modes = state.modes;
+                lexer = next.apply(&mut codes, change);
             }
             What::Stuck => {
                 return stuck(&mut *list, count, next);

@@ -1,4 +1,5 @@
 -- The array with its depth, and the copies of depth and top, are lexer.rs's stack.
+--     state-is          where the copies agree, the lexer and the codes are the whole state
 --     start-agrees      at the start
 --     change-is         what `changedBy` does to the two halves is what `changed` does to the stack
 --     change-agrees     and the copies agree again
@@ -14,7 +15,7 @@ use lib.ListN.{length, getD, set, length-set, length-replicate}
 use lib.Seq.{getD-set-same, getD-set-other}
 use borrow.Author.Tests.{lt-ltb, le-ltb, eq-eqb, ne-eqb}
 use Rattle.base.specs.PickLaws.{by-lt, by-eq, split-lt}
-use Rattle.state.specs.State.{startState, pushed, popped, replaced, changedBy, Fits}
+use Rattle.state.specs.State.{startState, stateOf, pushed, popped, replaced, changedBy, Fits}
 use Rattle.state.specs.Stack.{top, rest, changed, codesOf, stackOf, Agrees}
 use Rattle.state.specs.declared.Change.{Change}
 use Rattle.state.specs.declared.Change.the-variants.{Keep, Push, Pop, Replace}
@@ -151,6 +152,9 @@ change-is c s a f = comes c s a f .stack
 
 pub change-agrees : (c : Change) (s : State) → Agrees s → Fits c s → Agrees (changedBy c s)
 change-agrees c s a f = comes c s a f .agrees
+
+pub state-is : (s : State) → Agrees s → stateOf (s .lexer) (s .modes .codes) ≡ s
+state-is s a = ap (λ (d : ℕ). record { lexer = s .lexer; modes = record { codes = s .modes .codes; depth = d } }) (a .depth)
 
 pub start-agrees : Agrees startState
 start-agrees = record { size = refl; most = omega arith; depth = refl; mode = sym (top-none _ 0 refl) }

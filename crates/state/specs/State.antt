@@ -16,6 +16,10 @@ use Rattle.state.specs.declared.State.{State}
 abbrev pub startState : State
 startState = record { lexer = startLexer; modes = record { codes = replicate 64 0; depth = 0 } }
 
+-- a lexer and the codes beside it, whose depth is the lexer's copy
+abbrev pub stateOf : Lexer → List ℕ → State
+stateOf l codes = record { lexer = l; modes = record { codes = codes; depth = l .depth } }
+
 -- the lexer with these copies of depth and top
 abbrev pub withMode : ℕ → ℕ → Lexer → Lexer
 withMode depth mode l = record { place = l .place; indent = l .indent; «previous_token» = l .«previous_token»; depth = depth; mode = mode }

@@ -1,13 +1,13 @@
-// The lexer's state (lexer.rs `TokenLexer` and `StringMode`), by value, in two structs that travel together: the stack of modes with its
-// array, and the rest with copies of the stack's depth and top. Every method takes the state and hands the next one back. It knows no
-// source and no list.
+// The lexer's state (lexer.rs `TokenLexer` and `StringMode`) in two structs: the stack of modes with its array, and the rest with copies of
+// the stack's depth and top. Every method takes the rest by value and hands the next one back; one that changes the modes is lent their
+// array, which stays in its place. It knows no source and no list.
 ghost use mathlib.Core.Path.{_≡_};
 ghost use Prim.Native.Nat.{_≤_, _<_};
 ghost use Rattle.base.specs.Refusal.{sourceMost};
 ghost use Rattle.position.specs.Position.{columnMost};
 ghost use Rattle.state.specs.Modes.{quoteOf, hashCountOf};
 ghost use Rattle.state.specs.Lexer.{startLexer, atPlace, advancedLine, advancedLineUtf8, advancedTo, reachOf, settled, indented, remembered, tokenTo, tokenOf, stuckAt};
-ghost use Rattle.state.specs.State.{startState, pushed, popped, replaced, changedBy, Fits};
+ghost use Rattle.state.specs.State.{startState, stateOf, pushed, popped, replaced, changedBy, Fits};
 use position::Place;
 use position::Reach;
 use token::Token;
@@ -209,6 +209,61 @@ impl Lexer {
             change: Change::Keep,
         }
     }
+
+    // lexer.rs `string_mode_stack.push(..)`
+    pub fn push(mut self, codes: &mut [u16; 64], code: u16) -> Lexer
+        requires { ⌜ self .depth < 64 ⌝ }
+        ensures { λ r. ⌜ stateOf r (now (codes .exit)) ≡ pushed code (stateOf self (now (codes .entry))) ⌝ }
+    {
+        let depth = self.depth;
+        codes[depth] = code;
+        self.depth = depth + 1;
+        self.mode = code;
+        self
+    }
+
+    // lexer.rs `string_mode_stack.pop()`
+    pub fn pop(mut self, codes: &[u16; 64]) -> Lexer
+        requires { ⌜ self .depth ≤ 64 ⌝ }
+        ensures { λ r. ⌜ stateOf r (now (codes .entry)) ≡ popped (stateOf self (now (codes .entry))) ⌝ }
+    {
+        let depth = self.depth;
+        if depth < 2 {
+            self.depth = 0;
+            self.mode = 0;
+            return self;
+        }
+        self.depth = depth - 1;
+        self.mode = codes[depth - 2];
+        self
+    }
+
+    // A pop and a push at once.
+    pub fn replace(mut self, codes: &mut [u16; 64], code: u16) -> Lexer
+        requires { ⌜ self .depth ≤ 64 ⌝ }
+        ensures { λ r. ⌜ stateOf r (now (codes .exit)) ≡ replaced code (stateOf self (now (codes .entry))) ⌝ }
+    {
+        let depth = self.depth;
+        if depth == 0 {
+            return self.push(codes, code);
+        }
+        codes[depth - 1] = code;
+        self.mode = code;
+        self
+    }
+
+    // The modes are changed as a token asked for.
+    pub fn apply(self, codes: &mut [u16; 64], change: Change) -> Lexer
+        requires { ⌜ Fits change (stateOf self (now codes)) ⌝ }
+        ensures { λ r. ⌜ stateOf r (now (codes .exit)) ≡ changedBy change (stateOf self (now (codes .entry))) ⌝ }
+    {
+        match change {
+            Change::Keep => self,
+            Change::Push(code) => self.push(codes, code),
+            Change::Pop => self.pop(codes),
+            Change::Replace(code) => self.replace(codes, code),
+        }
+    }
 }
 
 impl State {
@@ -221,71 +276,6 @@ impl State {
                 codes: [0u16; 64],
                 depth: 0,
             },
-        }
-    }
-
-    // lexer.rs `string_mode_stack.push(..)`
-    pub fn push(self, code: u16) -> State
-        requires { ⌜ self .modes .depth < 64 ⌝ }
-        ensures { λ r. ⌜ r ≡ pushed code self ⌝ }
-    {
-        let mut lexer = self.lexer;
-        let mut modes = self.modes;
-        let depth = modes.depth;
-        modes.codes[depth] = code;
-        modes.depth = depth + 1;
-        lexer.depth = depth + 1;
-        lexer.mode = code;
-        State { lexer, modes }
-    }
-
-    // lexer.rs `string_mode_stack.pop()`
-    pub fn pop(self) -> State
-        requires { ⌜ self .modes .depth ≤ 64 ⌝ }
-        ensures { λ r. ⌜ r ≡ popped self ⌝ }
-    {
-        let mut lexer = self.lexer;
-        let mut modes = self.modes;
-        let depth = modes.depth;
-        if depth < 2 {
-            modes.depth = 0;
-            lexer.depth = 0;
-            lexer.mode = 0;
-            return State { lexer, modes };
-        }
-        modes.depth = depth - 1;
-        lexer.depth = depth - 1;
-        lexer.mode = modes.codes[depth - 2];
-        State { lexer, modes }
-    }
-
-    // A pop and a push at once.
-    pub fn replace(self, code: u16) -> State
-        requires { ⌜ self .modes .depth ≤ 64 ⌝ }
-        ensures { λ r. ⌜ r ≡ replaced code self ⌝ }
-    {
-        let mut lexer = self.lexer;
-        let mut modes = self.modes;
-        let depth = modes.depth;
-        if depth == 0 {
-            return self.push(code);
-        }
-        modes.codes[depth - 1] = code;
-        lexer.depth = depth;
-        lexer.mode = code;
-        State { lexer, modes }
-    }
-
-    // The modes are changed as a token asked for.
-    pub fn apply(self, change: Change) -> State
-        requires { ⌜ Fits change self ⌝ }
-        ensures { λ r. ⌜ r ≡ changedBy change self ⌝ }
-    {
-        match change {
-            Change::Keep => self,
-            Change::Push(code) => self.push(code),
-            Change::Pop => self.pop(),
-            Change::Replace(code) => self.replace(code),
         }
     }
 }

@@ -2,24 +2,51 @@
 use native.Mathlib.Omega.{arith}
 use mathlib.Core.Path.{_≡_, sym, ap, _∙_}
 use borrow.Author.Needs.{needs}
+use Rattle.state.specs.State.{stateOf}
+use Rattle.lexer.specs.StepLaws.{fits-codes}
 use Rattle.lexer.specs.Invariant.{measure}
 use Rattle.lexer.specs.declared.Half.{Half}
 use Rattle.lexer.specs.declared.What.{What}
+use Rattle.token.specs.declared.Token.{Token}
+use Rattle.token.specs.declared.rows.Row.{Row}
 use Rattle.reading.specs.Reading.{rowOf}
-use Rattle.scan.proofs.Going.{Going, begins, at-end, at-modes, at-full, at-stuck, keeps-is, changes-is, fits, bounds, packs, falls, again}
+use Rattle.scan.proofs.Going.{Going, begins, from-start, at-end, at-modes, at-full, at-stuck, keeps-is, changes-is, bounds, packs, falls, again}
 use Rattle.scan.proofs.read_on.Statement.{statement}
 use Rattle.scan.proofs.read_on.Tie as tie
 
 abbrev Inv-loop : tie.InvT-loop
-Inv-loop source table edition list₀ first lexer₀ modes₀ count₀ list lexer modes count =
-    Going source table edition (record { lexer = lexer₀; modes = modes₀ }) count₀ list₀ (record { lexer = lexer; modes = modes }) count list
+Inv-loop source table edition list₀ first lexer₀ codes₀ count₀ list lexer codes count =
+    Going source table edition (stateOf lexer₀ codes₀) count₀ list₀ (stateOf lexer codes) count list
 
 abbrev μ-loop : tie.MeasureT-loop
-μ-loop source table edition list₀ first lexer₀ modes₀ count₀ list lexer modes count = measure source (record { lexer = lexer; modes = modes })
+μ-loop source table edition list₀ first lexer₀ codes₀ count₀ list lexer codes count = measure source (stateOf lexer codes)
 
 -- what the half found, by what the call answered
 told : {h k : Half} {w : What} → h ≡ k → h .what ≡ w → k .what ≡ w
 told e q = ap (λ (x : Half). x .what) (sym e) ∙ q
+
+-- the record that was made, by what the call answered
+made : {h k : Half} {t : Token} {row : Row} → h ≡ k → row ≡ rowOf t (h .lexer) → row ≡ rowOf t (k .lexer)
+made {h} {k} {t} e q = q ∙ ap (λ (x : Half). rowOf t (x .lexer)) e
+
+-- ---- places: the function's start, the token that was found, that its record has room, and that it is made
+
+abbrev start : tie.At-loop Inv-loop μ-loop → tie.Start Inv-loop μ-loop
+start c = c .before .before .before .before .before .before
+
+abbrev at-half : tie.After-what Inv-loop μ-loop → tie.After-read-half Inv-loop μ-loop
+at-half c = c .before .before .before
+
+abbrev at-token : tie.Else1 Inv-loop μ-loop → tie.After-what Inv-loop μ-loop
+at-token c = c .before .before .before .before
+
+abbrev with-room : tie.After-row-of Inv-loop μ-loop → tie.Else1 Inv-loop μ-loop
+with-room c = c .before .before
+
+abbrev at-row : tie.After-slice-known2 Inv-loop μ-loop → tie.After-row-of Inv-loop μ-loop
+at-row c = c .before .before .before
+
+-- ---- into the loop, and to the half
 
 loop-holds : tie.Need-loop-holds Inv-loop μ-loop
 loop-holds c =
@@ -32,87 +59,104 @@ read-half-requires c κs = (c .loop .inv .ok .fine, c .loop .inv .fit)
 enum-known-what : tie.Need-enum-known-what Inv-loop μ-loop
 enum-known-what c = search needs
 
+-- ---- a token
+
 room-requires : tie.Need-room-requires Inv-loop μ-loop
 room-requires c κs = search needs
 
 same-length : tie.Need-same-length Inv-loop μ-loop
-same-length c = c .before .before .before .before .before .before .before .before .loop .inv .long
+same-length c = at-half (c .before .before .before .before) .before .loop .inv .long
 
 returns : tie.Need-returns Inv-loop μ-loop
 returns c =
-    let at-half = c .before .before .before .before .before .before .before in
-    at-full (at-half .before .loop .inv) _ (told (at-half .read-half .ensures) (c .before .before .before .before .what .given .1))
+    let t = c .before .before .before .before in
+    let h = at-half t in
+    let head = h .before in
+    at-full (from-start (start head .pre .0 .agrees) (head .loop .inv)) _ (told (h .read-half .ensures) (t .what .given .1))
     (omega (arith, c .if1 .taken, c .before .room .ensures))
 
 row-of-requires : tie.Need-row-of-requires Inv-loop μ-loop
 row-of-requires c κs =
-    let at-half = c .before .before .before .before .before .before .before .before in
-    rw (at-half .read-half .ensures) (bounds (at-half .before .loop .inv))
+    let h = at-half (at-token (c .before)) in
+    rw (h .read-half .ensures) (bounds (h .before .loop .inv))
 
 put-row-requires : tie.Need-put-row-requires Inv-loop μ-loop
 put-row-requires c κs =
-    let at-half = c .before .before .before .before .before .before .before .before .before in (
-      omega (arith, c .before .before .if1 .left, c .before .before .before .room .ensures),
-      packs (at-half .before .loop .inv) _ (told (at-half .read-half .ensures) (c .before .before .before .before .before .before .what .given .1))
-          (c .row-of .ensures ∙ ap (λ (x : Half). rowOf (c .before .before .before .before .before .before .what .given .0 .0) (x .lexer)) (at-half .read-half .ensures)),
+    let r = with-room c in
+    let t = at-token r in
+    let h = at-half t in (
+      omega (arith, r .if1 .left, r .before .room .ensures),
+      packs (h .before .loop .inv) _ (told (h .read-half .ensures) (t .what .given .1)) (made (h .read-half .ensures) (c .row-of .ensures)),
     )
 
 add-count : tie.Need-add-count Inv-loop μ-loop
-add-count c = omega (arith, c .before .before .before .before .before .if1 .left, c .before .before .before .before .before .before .room .ensures, c .before .before .before .before .before .before .before .before .before .before .before .before .before .before .before .before .before .before .before .good)
+add-count c =
+    let r = with-room (at-row c) in
+    omega (arith, r .if1 .left, r .before .room .ensures, start (at-half (at-token r) .before) .good)
 
 enum-told : tie.Need-enum-told Inv-loop μ-loop
 enum-told c = search needs
 
 loop-less : tie.Need-loop-less Inv-loop μ-loop
 loop-less c =
-    let at-half = c .before .before .before .before .before .before .before .before .before .before .before .before .before .before in
-    falls (at-half .before .loop .inv) _ (told (at-half .read-half .ensures) (c .before .before .before .before .before .before .before .before .before .before .before .what .given .1))
-    (keeps-is (at-half .before .loop .inv) (at-half .read-half .ensures) (c .enum-told .given .1))
+    let t = at-token (with-room (at-row (c .before .before))) in
+    let h = at-half t in
+    falls (h .before .loop .inv) _ (told (h .read-half .ensures) (t .what .given .1))
+    (keeps-is (h .before .loop .inv) (h .read-half .ensures) (c .enum-told .given .1))
 
 loop-again : tie.Need-loop-again Inv-loop μ-loop
 loop-again c =
-    let at-half = c .before .before .before .before .before .before .before .before .before .before .before .before .before .before in
-    again (at-half .before .loop .inv) _ (told (at-half .read-half .ensures) (c .before .before .before .before .before .before .before .before .before .before .before .what .given .1))
-    (omega (arith, c .before .before .before .before .before .before .before .if1 .left, c .before .before .before .before .before .before .before .before .room .ensures))
-    (c .before .before .before .before .before .row-of .ensures ∙ ap (λ (x : Half). rowOf (c .before .before .before .before .before .before .before .before .before .before .before .what .given .0 .0) (x .lexer)) (at-half .read-half .ensures)) (c .before .before .before .before .put-row .ensures)
-    (keeps-is (at-half .before .loop .inv) (at-half .read-half .ensures) (c .enum-told .given .1))
+    let row = at-row (c .before .before) in
+    let r = with-room row in
+    let t = at-token r in
+    let h = at-half t in
+    again (h .before .loop .inv) _ (told (h .read-half .ensures) (t .what .given .1)) (omega (arith, r .if1 .left, r .before .room .ensures))
+    (made (h .read-half .ensures) (row .row-of .ensures)) (c .before .before .before .before .put-row .ensures)
+    (keeps-is (h .before .loop .inv) (h .read-half .ensures) (c .enum-told .given .1))
 
 apply-requires : tie.Need-apply-requires Inv-loop μ-loop
 apply-requires c κs =
-    let at-half = c .before .before .before .before .before .before .before .before .before .before .before .before .before in
-    fits (at-half .before .loop .inv) (at-half .read-half .ensures)
+    let h = at-half (at-token (with-room (at-row (c .before .before)))) in
+    fits-codes _ _ _ _ (h .before .loop .inv .ok .agrees) (h .read-half .ensures)
 
 loop-less-2 : tie.Need-loop-less-2 Inv-loop μ-loop
 loop-less-2 c =
-    let at-half = c .before .before .before .before .before .before .before .before .before .before .before .before .before .before .before .before in
-    falls (at-half .before .loop .inv) _ (told (at-half .read-half .ensures) (c .before .before .before .before .before .before .before .before .before .before .before .before .before .what .given .1))
-    (changes-is (at-half .before .loop .inv) (at-half .read-half .ensures) (c .before .before .apply .ensures))
+    let t = at-token (with-room (at-row (c .before .before .before))) in
+    let h = at-half t in
+    falls (h .before .loop .inv) _ (told (h .read-half .ensures) (t .what .given .1))
+    (changes-is (h .before .loop .inv) (h .read-half .ensures) (c .apply .ensures))
 
 loop-again-2 : tie.Need-loop-again-2 Inv-loop μ-loop
 loop-again-2 c =
-    let at-half = c .before .before .before .before .before .before .before .before .before .before .before .before .before .before .before .before in
-    again (at-half .before .loop .inv) _ (told (at-half .read-half .ensures) (c .before .before .before .before .before .before .before .before .before .before .before .before .before .what .given .1))
-    (omega (arith, c .before .before .before .before .before .before .before .before .before .if1 .left, c .before .before .before .before .before .before .before .before .before .before .room .ensures))
-    (c .before .before .before .before .before .before .before .row-of .ensures ∙ ap (λ (x : Half). rowOf (c .before .before .before .before .before .before .before .before .before .before .before .before .before .what .given .0 .0) (x .lexer)) (at-half .read-half .ensures)) (c .before .before .before .before .before .before .put-row .ensures)
-    (changes-is (at-half .before .loop .inv) (at-half .read-half .ensures) (c .before .before .apply .ensures))
+    let row = at-row (c .before .before .before) in
+    let r = with-room row in
+    let t = at-token r in
+    let h = at-half t in
+    again (h .before .loop .inv) _ (told (h .read-half .ensures) (t .what .given .1)) (omega (arith, r .if1 .left, r .before .room .ensures))
+    (made (h .read-half .ensures) (row .row-of .ensures)) (c .before .before .before .before .before .put-row .ensures)
+    (changes-is (h .before .loop .inv) (h .read-half .ensures) (c .apply .ensures))
+
+-- ---- the other ways out
 
 enum-told-2 : tie.Need-enum-told-2 Inv-loop μ-loop
 enum-told-2 c = search needs
 
 stuck-requires : tie.Need-stuck-requires Inv-loop μ-loop
 stuck-requires c κs =
-    let at-half = c .before .before .before .before in
-    let b = bounds (at-half .before .loop .inv) in
-    (rw (at-half .read-half .ensures) (omega (arith, b .0, b .1), omega (arith, b .1)), at-half .before .loop .inv .within)
+    let h = c .before .before .before .before in
+    let b = bounds (h .before .loop .inv) in
+    (rw (h .read-half .ensures) (omega (arith, b .0, b .1), omega (arith, b .1)), h .before .loop .inv .within)
 
 same-length-2 : tie.Need-same-length-2 Inv-loop μ-loop
 same-length-2 c = c .before .before .stuck .kept .0 ∙ c .before .before .before .before .before .before .before .before .loop .inv .long
 
 returns-2 : tie.Need-returns-2 Inv-loop μ-loop
 returns-2 c =
-    let at-half = c .before .before .before .before .before .before .before in
-    at-stuck (at-half .before .loop .inv) (told (at-half .read-half .ensures) (c .before .before .before .before .enum-told2 .given .1))
-    (ap (λ (x : Half). x .lexer) (at-half .read-half .ensures)) (c .before .before .stuck .ensures)
+    let told-at = c .before .before .before .before in
+    let h = told-at .before .before .before in
+    let head = h .before in
+    at-stuck (from-start (start head .pre .0 .agrees) (head .loop .inv)) (told (h .read-half .ensures) (told-at .enum-told2 .given .1))
+    (ap (λ (x : Half). x .lexer) (h .read-half .ensures)) (c .before .before .stuck .ensures)
 
 enum-told-3 : tie.Need-enum-told-3 Inv-loop μ-loop
 enum-told-3 c = search needs
@@ -128,8 +172,11 @@ same-length-3 c = c .before .before .before .before .before .before .before .loo
 
 returns-3 : tie.Need-returns-3 Inv-loop μ-loop
 returns-3 c =
-    let at-half = c .before .before .before .before .before .before in
-    at-modes (at-half .before .loop .inv) (told (at-half .read-half .ensures) (c .before .before .before .enum-told3 .given .1)) (c .before .room2 .ensures) (c .full .ensures)
+    let told-at = c .before .before .before in
+    let h = told-at .before .before .before in
+    let head = h .before in
+    at-modes (from-start (start head .pre .0 .agrees) (head .loop .inv)) (told (h .read-half .ensures) (told-at .enum-told3 .given .1))
+    (c .before .room2 .ensures) (c .full .ensures)
 
 enum-told-4 : tie.Need-enum-told-4 Inv-loop μ-loop
 enum-told-4 c = search needs
@@ -139,8 +186,9 @@ same-length-4 c = c .before .before .before .before .loop .inv .long
 
 returns-4 : tie.Need-returns-4 Inv-loop μ-loop
 returns-4 c =
-    let at-half = c .before .before .before in
-    at-end (at-half .before .loop .inv) (told (at-half .read-half .ensures) (c .enum-told4 .given .1))
+    let h = c .before .before .before in
+    let head = h .before in
+    at-end (from-start (start head .pre .0 .agrees) (head .loop .inv)) (told (h .read-half .ensures) (c .enum-told4 .given .1))
 
 pub read-on-spec : {M : Type 1} → statement M
 read-on-spec =
