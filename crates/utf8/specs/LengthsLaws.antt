@@ -1,18 +1,23 @@
--- Where some character stands, its lead byte says how long it is, and its bytes which it is: `char-read`.
+-- Where some character stands, its lead byte says how long it is, and its bytes which it is.
+--     char-read                     at a place
+--     one-len, two-len, three-len   how long the first character is, by the tests on its bytes
+--     other-len, cut-len            it is not m bytes long where the lead byte says otherwise, or where there are not so many
 -- Assumes nothing.
-use Prim.Native.Nat.{ℕ}
+use Prim.Native.Nat.{ℕ, _<_, _≤_}
 use native.Mathlib.Omega.{arith}
 use native.Mathlib.Nat.{add-zero}
-use mathlib.Core.Path.{_≡_, refl, ap, _∙_}
+use mathlib.Core.Path.{_≡_, refl, sym, ap, _∙_}
 use mathlib.Core.List.{List}
 use mathlib.Core.Bool.{Bool, true, false}
 use lib.ListN.{length, getD, drop}
 use lib.Seq.{getD-drop}
 use lib.Dec.{eqb}
+use borrow.Author.Tests.{le-ltb, ne-eqb}
 use Rattle.base.specs.Pick.{pick}
-use Rattle.base.specs.PickLaws.{by-test, by-lt}
+use Rattle.base.specs.PickLaws.{by-test, by-lt, by-eq}
 use Rattle.utf8.specs.Read.{seqLen, secondOk, isTail, code2, code3, code4, fourth, third, second, headOf, decodeHead, readAt}
-use Rattle.utf8.specs.Lengths.{charOf}
+use Rattle.utf8.specs.ReadLaws.{sound}
+use Rattle.utf8.specs.Lengths.{lenOf, charOf}
 use Rattle.utf8.specs.declared.Read.{Read}
 use Rattle.utf8.specs.declared.Read.the-variants.{Char, Bad, Cut}
 
@@ -74,6 +79,54 @@ module _ (c n : ℕ) where
     char-head =
         by-lt (Only (charOf (seqLen (at 0)) l 0)) (length l) 1 (λ h. no-cut (charOf (seqLen (at 0)) l 0))
         (λ h. head-only (seqLen (at 0)))
+
+-- how long the first character is
+module _ (l : List ℕ) where
+  -- what it is not
+  not-len : (m : ℕ) → 0 < m → (r : Read) → decodeHead l ≡ r → ((c : ℕ) → decodeHead l ≡ Char c m → ⊥) → eqb (lenOf r) m ≡ false
+  not-len m h (Char c n) e f = ne-eqb n m (λ q. f c (e ∙ ap (Char c) q))
+  not-len m h Bad e f = ne-eqb 0 m (λ q. omega arith)
+  not-len m h Cut e f = ne-eqb 0 m (λ q. omega arith)
+
+  pub cut-len : (m : ℕ) → 0 < m → length l < m → eqb (lenOf (decodeHead l)) m ≡ false
+  cut-len m h k = not-len m h (decodeHead l) refl (λ c e. omega (arith, sound l c m e .fits))
+
+  said : (k m : ℕ) → m < 4 → lenOf (charOf k l 0) ≡ m → k ≡ m
+  said k m h =
+      by-eq (λ (r : Read). lenOf r ≡ m → k ≡ m) k 1 (λ q e. q ∙ e)
+      (λ _. by-eq (λ (r : Read). lenOf r ≡ m → k ≡ m) k 2 (λ q e. q ∙ e)
+      (λ _. by-eq (λ (r : Read). lenOf r ≡ m → k ≡ m) k 3 (λ q e. q ∙ e) (λ _ e. omega arith)))
+
+  pub other-len : (m : ℕ) → 0 < m → m < 4 → (seqLen (getD l 0 0) ≡ m → ⊥) → eqb (lenOf (decodeHead l)) m ≡ false
+  other-len m h k f =
+      not-len m h (decodeHead l) refl
+      (λ c e. f (said (seqLen (getD l 0 0)) m k (ap lenOf (sym (char-head c m l e) ∙ e))))
+
+  module _ (some : 0 < length l) where
+    pub one-len : seqLen (getD l 0 0) ≡ 1 → lenOf (decodeHead l) ≡ 1
+    unfolding decodeHead headOf
+    one-len e = rw (le-ltb (length l) 1 some, e)
+
+    pub two-len : seqLen (getD l 0 0) ≡ 2 → 2 ≤ length l → eqb (lenOf (decodeHead l)) 2 ≡ secondOk (getD l 0 0) (getD l 1 0)
+    unfolding decodeHead headOf second
+    two-len e h = rw (le-ltb (length l) 1 some, e, le-ltb (length l) 2 h) (tested (secondOk (getD l 0 0) (getD l 1 0)))
+      where
+        tested : (t : Bool) → eqb (lenOf (pick t (Char (code2 (getD l 0 0) (getD l 1 0)) 2) Bad)) 2 ≡ t
+        tested true = refl
+        tested false = refl
+
+    pub three-len : seqLen (getD l 0 0) ≡ 3 → 3 ≤ length l
+        → eqb (lenOf (decodeHead l)) 3 ≡ pick (secondOk (getD l 0 0) (getD l 1 0)) (isTail (getD l 2 0)) false
+    unfolding decodeHead headOf second third
+    three-len e h =
+        rw (le-ltb (length l) 1 some, e, le-ltb (length l) 2 (omega arith), le-ltb (length l) 3 h)
+        (tested (secondOk (getD l 0 0) (getD l 1 0)) (isTail (getD l 2 0)))
+      where
+        tested : (t u : Bool)
+            → eqb (lenOf (pick t (pick u (Char (code3 (getD l 0 0) (getD l 1 0) (getD l 2 0)) 3) Bad) Bad)) 3 ≡ pick t u false
+        tested true true = refl
+        tested true false = refl
+        tested false u = refl
 
 pub char-read : (s : List ℕ) (i c n : ℕ) → readAt s i ≡ Char c n → readAt s i ≡ charOf (seqLen (getD s i 0)) s i
 char-read s i c n p =

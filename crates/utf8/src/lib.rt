@@ -2,10 +2,12 @@
 // that the end of the slice cuts. koto has this from Rust's `str`; here it is added, for bytes that are tested once.
 // Left out: byte order marks, and any repair of what is ill-formed.
 ghost use mathlib.Core.Path.{_≡_};
+ghost use Prim.Native.Nat.{_<_};
+ghost use lib.Dec.{eqb};
+ghost use lib.ListN.{length};
 ghost use Rattle.utf8.specs.Read.{seqLen, secondOk, code2, code3, code4, fourth, third, second, decodeHead, readAt};
 ghost use Rattle.utf8.specs.Lengths.{lenOf};
-ghost use Rattle.utf8.specs.Chars.{onRead, checkFrom};
-ghost use Rattle.utf8.specs.declared.Utf8Check.the-variants.{Fine, BadAt, CutAt};
+ghost use Rattle.utf8.specs.Chars.{checkFrom};
 use base::between;
 
 // What stands at a place.
@@ -181,69 +183,35 @@ pub fn read_char(s: &[u8], at: usize) -> Read
     read_head(&s[at..])
 }
 
-// How many bytes the first character of s has, without putting it together: 0 where there is none. From its fourth byte on; then from its
-// second, of n; then from its first, which says how many there are.
-fn fourth_len(s: &[u8]) -> usize
-    ensures { λ r. ⌜ r ≡ lenOf (fourth (now (s .entry))) ⌝ }
+// Has the first character of l two bytes? Then it is passed without being put together.
+fn is_two(l: &[u8]) -> bool
+    requires { ⌜ 0 < length (now l) ⌝ }
+    ensures { λ r. ⌜ r ≡ eqb (lenOf (decodeHead (now (l .entry)))) 2 ⌝ }
 {
-    if s.len() < 4 {
-        return 0;
+    if lead_len(l[0]) != 2 {
+        return false;
     }
-    if !between(s[3], 0x80, 0xbf) {
-        return 0;
+    if l.len() < 2 {
+        return false;
     }
-    4
+    second_ok(l[0], l[1])
 }
 
-fn tail_len(n: usize, s: &[u8]) -> usize
-    ensures { λ r. ⌜ r ≡ lenOf (second n (now (s .entry))) ⌝ }
+// Has it three?
+fn is_three(l: &[u8]) -> bool
+    requires { ⌜ 0 < length (now l) ⌝ }
+    ensures { λ r. ⌜ r ≡ eqb (lenOf (decodeHead (now (l .entry)))) 3 ⌝ }
 {
-    if s.len() < 2 {
-        return 0;
+    if lead_len(l[0]) != 3 {
+        return false;
     }
-    if !second_ok(s[0], s[1]) {
-        return 0;
+    if l.len() < 3 {
+        return false;
     }
-    if n == 2 {
-        return 2;
+    if !second_ok(l[0], l[1]) {
+        return false;
     }
-    if s.len() < 3 {
-        return 0;
-    }
-    if !between(s[2], 0x80, 0xbf) {
-        return 0;
-    }
-    if n == 3 {
-        return 3;
-    }
-    fourth_len(s)
-}
-
-fn head_len(s: &[u8]) -> usize
-    ensures { λ r. ⌜ r ≡ lenOf (decodeHead (now (s .entry))) ⌝ }
-{
-    if s.len() < 1 {
-        return 0;
-    }
-    let n = lead_len(s[0]);
-    if n == 0 {
-        return 0;
-    }
-    if n == 1 {
-        return 1;
-    }
-    tail_len(n, s)
-}
-
-// Why no character stands at a place of s: the bytes from it on are wrong, or cut. Where one stands, there is nothing to refuse.
-fn refused_at(s: &[u8], at: usize) -> Utf8Check
-    ensures { λ r. ⌜ r ≡ onRead (readAt (now (s .entry)) at) (λ c n. Fine) (BadAt at) (CutAt at) ⌝ }
-{
-    match read_char(s, at) {
-        Read::Char { code: _, len: _ } => Utf8Check::Fine,
-        Read::Bad => Utf8Check::BadAt(at),
-        Read::Cut => Utf8Check::CutAt(at),
-    }
+    between(l[2], 0x80, 0xbf)
 }
 
 // Whether all of s is well formed; if not, where the longest well-formed beginning ends, and whether the bytes there are wrong or cut.
@@ -252,11 +220,29 @@ pub fn check_utf8(s: &[u8]) -> Utf8Check
 {
     let mut i = 0;
     while i < s.len() {
-        let n = head_len(&s[i..]);
-        if n == 0 {
-            return refused_at(s, i);
+        if lead_len(s[i]) == 1 {
+            i += 1;
+            continue;
         }
-        i += n;
+        if is_three(&s[i..]) {
+            i += 3;
+            continue;
+        }
+        if is_two(&s[i..]) {
+            i += 2;
+            continue;
+        }
+        match read_char(s, i) {
+            Read::Char { code: _, len } => {
+                i += len;
+            }
+            Read::Bad => {
+                return Utf8Check::BadAt(i);
+            }
+            Read::Cut => {
+                return Utf8Check::CutAt(i);
+            }
+        }
     }
     Utf8Check::Fine
 }
