@@ -8,6 +8,7 @@ use format::Options;
 use format::Shown;
 use libc::STDOUT_FILENO;
 use parse::Parsed;
+use parse::answer;
 use pool::Counts;
 
 // Format strings over this many bytes are refused.
@@ -71,24 +72,17 @@ fn print_options(options: Options, index: Given) {
 }
 
 // A refusal: its number, and its place or value.
-fn print_refused(number: u64, value: u64) {
+fn print_refused(number: u32, value: u64) {
     io::write_all(STDOUT_FILENO, b"refused");
-    print_number(number);
+    print_number(number as u64);
     print_number(value);
     io::write_all(STDOUT_FILENO, b"\n");
 }
 
-fn print_answer(answer: Parsed) {
-    match answer {
+fn print_answer(parsed: Parsed) {
+    match parsed {
         Parsed::Read { options, index } => print_options(options, index),
-        Parsed::TooLong => print_refused(1, 0),
-        Parsed::BadTable(i) => print_refused(2, i as u64),
-        Parsed::BadUtf8(i) => print_refused(3, i as u64),
-        Parsed::BadState => print_refused(8, 0),
-        Parsed::ExpectedNumber(code) => print_refused(10, code as u64),
-        Parsed::FormatNumberIsTooLarge(value) => print_refused(11, value),
-        Parsed::UnexpectedToken(code) => print_refused(12, code as u64),
-        Parsed::PoolFull => print_refused(13, 0),
+        _ => print_refused(answer::number_of(parsed), answer::value_of(parsed)),
     }
 }
 
@@ -128,7 +122,7 @@ pub fn print_format(text: &[u8])
     ensures { λ r. ⌜ r ≡ tt ⌝ }
 {
     if TEXT_MOST < text.len() {
-        print_refused(1, 0);
+        print_answer(Parsed::TooLong);
         io::write_all(STDOUT_FILENO, b"pool\n");
         return;
     }

@@ -1,20 +1,14 @@
 // `next` and `peek` for C. A cursor is its numbers: taken, queued, the count, and the status as a scan writes it.
 ghost use mathlib.Core.Path.{_≡_};
-ghost use Rattle.lookahead.specs.Next as next;
-ghost use Rattle.lookahead.specs.Peek as peek;
 ghost use Rattle.koto_lexer.specs.Cursors.{statusBy, noRow, wordsOf, nextBy, givenShown, givenRow, givenTaken, givenQueued, NextIs};
 ghost use Rattle.koto_lexer.specs.Cursors.{peekBy, peekedShown, peekedRow, peekedQueued, PeekIs};
-use crate::refusals::BAD_RECORD;
-use crate::refusals::BAD_STATE;
-use crate::refusals::NO_REFUSAL;
-use crate::refusals::PEEK_TOO_FAR;
-use crate::refusals::QUEUE_FULL;
 use crate::scans::END;
 use crate::scans::STUCK;
 use lookahead::Cursor;
 use lookahead::Given;
 use lookahead::Peeked;
 use lookahead::Status;
+use lookahead::answer;
 use token::rows::Row;
 
 // What a status number names.
@@ -90,28 +84,6 @@ fn next_by(list: &[u32], taken: usize, queued: usize, count: usize, status: u32)
     }
 }
 
-fn given_number(given: Given) -> u32
-    ensures { λ r. ⌜ r ≡ next.numberOf given ⌝ }
-{
-    match given {
-        Given::Token { row: _, cursor: _ } => NO_REFUSAL,
-        Given::Nothing => NO_REFUSAL,
-        Given::BadState => BAD_STATE,
-        Given::BadRecord(_) => BAD_RECORD,
-    }
-}
-
-fn given_place(given: Given) -> usize
-    ensures { λ r. ⌜ r ≡ next.placeOf given ⌝ }
-{
-    match given {
-        Given::Token { row: _, cursor: _ } => 0,
-        Given::Nothing => 0,
-        Given::BadState => 0,
-        Given::BadRecord(i) => i,
-    }
-}
-
 fn given_shown(given: Given) -> u32
     ensures { λ r. ⌜ r ≡ givenShown given ⌝ }
 {
@@ -177,8 +149,8 @@ pub extern "C" fn koto_next(
     *queued = given_queued(given, *queued);
     *shown = given_shown(given);
     put_record(record, given_row(given));
-    *place = given_place(given);
-    given_number(given)
+    *place = answer::given_place(given);
+    answer::given_number(given)
 }
 
 // ---- `peek`
@@ -199,32 +171,6 @@ fn peek_by(list: &[u32], taken: usize, queued: usize, count: usize, status: u32,
             n,
         ),
         Named::Nothing => Peeked::BadState,
-    }
-}
-
-fn peeked_number(peeked: Peeked) -> u32
-    ensures { λ r. ⌜ r ≡ peek.numberOf peeked ⌝ }
-{
-    match peeked {
-        Peeked::Token { row: _, cursor: _ } => NO_REFUSAL,
-        Peeked::Nothing { cursor: _ } => NO_REFUSAL,
-        Peeked::BadState => BAD_STATE,
-        Peeked::PeekTooFar => PEEK_TOO_FAR,
-        Peeked::QueueFull => QUEUE_FULL,
-        Peeked::BadRecord(_) => BAD_RECORD,
-    }
-}
-
-fn peeked_place(peeked: Peeked) -> usize
-    ensures { λ r. ⌜ r ≡ peek.placeOf peeked ⌝ }
-{
-    match peeked {
-        Peeked::Token { row: _, cursor: _ } => 0,
-        Peeked::Nothing { cursor: _ } => 0,
-        Peeked::BadState => 0,
-        Peeked::PeekTooFar => 0,
-        Peeked::QueueFull => 0,
-        Peeked::BadRecord(i) => i,
     }
 }
 
@@ -288,6 +234,6 @@ pub extern "C" fn koto_peek(
     *queued = peeked_queued(peeked, *queued);
     *shown = peeked_shown(peeked);
     put_record(record, peeked_row(peeked));
-    *place = peeked_place(peeked);
-    peeked_number(peeked)
+    *place = answer::peeked_place(peeked);
+    answer::peeked_number(peeked)
 }

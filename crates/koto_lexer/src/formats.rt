@@ -1,22 +1,13 @@
 // Parsing a format string, for C. The options are seven numbers in the order of the C struct.
 ghost use mathlib.Core.Path.{_≡_};
-ghost use Rattle.parse.specs.Call.{numberOf, valueOf};
 ghost use Rattle.koto_lexer.specs.Formats.{givenNumber, shownNumber, fillPlace, fillLen, optionsNumbers, noNumbers, numbersOf};
 ghost use Rattle.koto_lexer.specs.Formats.{ParsedTold, ParseIs};
-use crate::refusals::BAD_STATE;
-use crate::refusals::BAD_TABLE;
-use crate::refusals::BAD_UTF8;
-use crate::refusals::EXPECTED_NUMBER;
-use crate::refusals::FORMAT_NUMBER_IS_TOO_LARGE;
-use crate::refusals::NO_REFUSAL;
-use crate::refusals::POOL_FULL;
-use crate::refusals::TOO_LONG;
-use crate::refusals::UNEXPECTED_TOKEN;
 use format::Fill;
 use format::Given;
 use format::Options;
 use format::Shown;
 use parse::Parsed;
+use parse::answer;
 use pool::Counts;
 use pool_lent::Entry;
 
@@ -103,51 +94,13 @@ fn numbers_of(parsed: Parsed) -> [u64; 7]
     }
 }
 
-fn number_of(parsed: Parsed) -> u32
-    ensures { λ r. ⌜ r ≡ numberOf parsed ⌝ }
-{
-    match parsed {
-        Parsed::Read {
-            options: _,
-            index: _,
-        } => NO_REFUSAL,
-        Parsed::TooLong => TOO_LONG,
-        Parsed::BadTable(_) => BAD_TABLE,
-        Parsed::BadUtf8(_) => BAD_UTF8,
-        Parsed::BadState => BAD_STATE,
-        Parsed::ExpectedNumber(_) => EXPECTED_NUMBER,
-        Parsed::FormatNumberIsTooLarge(_) => FORMAT_NUMBER_IS_TOO_LARGE,
-        Parsed::UnexpectedToken(_) => UNEXPECTED_TOKEN,
-        Parsed::PoolFull => POOL_FULL,
-    }
-}
-
-fn value_of(parsed: Parsed) -> u64
-    ensures { λ r. ⌜ r ≡ valueOf parsed ⌝ }
-{
-    match parsed {
-        Parsed::Read {
-            options: _,
-            index: _,
-        } => 0,
-        Parsed::TooLong => 0,
-        Parsed::BadTable(i) => i as u64,
-        Parsed::BadUtf8(i) => i as u64,
-        Parsed::BadState => 0,
-        Parsed::ExpectedNumber(code) => code as u64,
-        Parsed::FormatNumberIsTooLarge(value) => value,
-        Parsed::UnexpectedToken(code) => code as u64,
-        Parsed::PoolFull => 0,
-    }
-}
-
 // Writes an answer's numbers, and hands its refusal on.
 fn tell(parsed: Parsed, options: &mut [u64; 7], value: &mut u64) -> u32
     ensures { λ r. ⌜ ParsedTold parsed (now (options .exit)) (now (value .exit)) r ⌝ }
 {
     *options = numbers_of(parsed);
-    *value = value_of(parsed);
-    number_of(parsed)
+    *value = answer::value_of(parsed);
+    answer::number_of(parsed)
 }
 
 // Parses a format string, and adds its fill to the pool that is lent. Refused are a format string that is too long with 1, then a table that

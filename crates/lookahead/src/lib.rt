@@ -3,6 +3,8 @@
 // The Rust keeps the tokens that it has looked at in a `VecDeque`. Here the list has all of them, so the queue is two numbers over it: the
 // queued tokens are those from `taken` on. This crate shows records through the crate `token`, and knows neither a record's words nor what
 // was scanned. Left out is `KotoLexer::source`: the caller has the source.
+pub mod answer;
+
 ghost use mathlib.Core.Path.{_≡_};
 ghost use Prim.Native.Nat.{_-_, _≤_};
 ghost use Rattle.token.specs.Row.{room};

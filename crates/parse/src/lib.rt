@@ -3,6 +3,8 @@
 // The Rust adds strings to its pool while it reads. Here the format string is read first (the crate `format`), and then its strings are added,
 // of which there are at most two; an addition that finds no room ends the parse before anything else that was wrong, as in the Rust, where
 // it comes first. What the one pass does is the definition (specs/), and that the two stages are the same is proved.
+pub mod answer;
+
 ghost use mathlib.Core.Path.{_≡_};
 ghost use Prim.Native.Nat.{_+_, _≤_};
 ghost use lib.ListN.{length};

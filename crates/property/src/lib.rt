@@ -1,6 +1,7 @@
 // The property table (document 01, "The property table"): the parts of a code point's properties, what a table says of a code point,
 // whether a table is fit, and the table file. The Rust asks its Unicode crates instead; here the table is lent.
 // It knows nothing of UTF-8, clusters and tokens: a code point is a number.
+pub mod answer;
 mod file;
 mod parts;
 mod table;

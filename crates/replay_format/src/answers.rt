@@ -7,8 +7,8 @@ use format::Options;
 use format::Shown;
 use lines::same;
 use parse::Parsed;
+use parse::answer;
 ghost use mathlib.Core.Path.{_≡_};
-ghost use mathlib.Core.List.{[], _∷_};
 ghost use Rattle.lines.specs.Fields.{sameAll};
 ghost use Rattle.replay_format.specs.Answers.{givenNumber, shownNumber, fillOf, optionsOf, answerOf};
 
@@ -63,30 +63,13 @@ fn same_options(text: &[u8], at: usize, options: Options, index: Given) -> usize
     same_fill(text, at, fill)
 }
 
-// The same of a refusal.
-fn same_refused(text: &[u8], at: usize, number: usize, value: usize) -> usize
-    ensures { λ r. ⌜ r ≡ sameAll (now (text .entry)) at (number ∷ value ∷ []) ⌝ }
+// The same of an answer: its number, and then the options, or the refusal's place or value.
+pub fn same_answer(text: &[u8], at: usize, parsed: Parsed) -> usize
+    ensures { λ r. ⌜ r ≡ sameAll (now (text .entry)) at (answerOf parsed) ⌝ }
 {
-    let at = same(text, at, number);
-    same(text, at, value)
-}
-
-// The same of an answer.
-pub fn same_answer(text: &[u8], at: usize, answer: Parsed) -> usize
-    ensures { λ r. ⌜ r ≡ sameAll (now (text .entry)) at (answerOf answer) ⌝ }
-{
-    match answer {
-        Parsed::Read { options, index } => {
-            let at = same(text, at, 0);
-            same_options(text, at, options, index)
-        }
-        Parsed::TooLong => same_refused(text, at, 1, 0),
-        Parsed::BadTable(i) => same_refused(text, at, 2, i),
-        Parsed::BadUtf8(i) => same_refused(text, at, 3, i),
-        Parsed::BadState => same_refused(text, at, 8, 0),
-        Parsed::ExpectedNumber(code) => same_refused(text, at, 10, code as usize),
-        Parsed::FormatNumberIsTooLarge(value) => same_refused(text, at, 11, value as usize),
-        Parsed::UnexpectedToken(code) => same_refused(text, at, 12, code as usize),
-        Parsed::PoolFull => same_refused(text, at, 13, 0),
+    let at = same(text, at, answer::number_of(parsed) as usize);
+    match parsed {
+        Parsed::Read { options, index } => same_options(text, at, options, index),
+        _ => same(text, at, answer::value_of(parsed) as usize),
     }
 }

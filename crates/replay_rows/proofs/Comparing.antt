@@ -1,26 +1,31 @@
 -- What the definitions of `Rows` say at each turn of the code that follows them.
 --     marks-on, marks-not, marks-end    a mark is at i, another number is there, none is there
+--     refused-status                    the status where the `_` of a `match` is told that a scan was refused
 --     by-fit, by-unfit                  record i is shown, or none that may be shown
 --     rows-all, rows-on, rows-end       all records are to be compared, record i is, or none is left
 --     too-many, differs, rest           what a line is found to be: there is no room for the records, a field differs, or the rest decides
 -- Assumes nothing.
 use Prim.Native.Nat.{ℕ, suc, _+_, _-_, _*_, _<_, _≤_}
-use mathlib.Core.Path.{_≡_}
+use mathlib.Core.Path.{_≡_, refl}
 use mathlib.Core.Bool.{Bool, true, false}
-use mathlib.Core.List.{List, _∷_}
+use mathlib.Core.List.{List, [], _∷_}
 use native.Mathlib.Numerals.{add-one}
 use native.Mathlib.Omega.{arith}
 use lib.ListN.{length, drop, getD, drop-of-length-le}
 use lib.Seq.{drop-cons}
+use denote.Enum.Declared.{tagOf}
+use types.Run.{OneOf, miss}
 use borrow.Author.Tests.{eq-eqb, ne-eqb, lt-ltb, le-ltb}
 use Rattle.lines.specs.Fields.{sameAll}
 use Rattle.token.specs.Row.{room, rowWords, shownAt}
 use Rattle.token.specs.declared.rows.Row.{Row}
 use Rattle.token.specs.declared.rows.RowAt.{RowAt}
 use Rattle.token.specs.declared.rows.RowAt.the-variants.{Fit, Unfit}
-use Rattle.reading.specs.Scan.{countOf}
+use Rattle.reading.specs.Scan.{numberOf, countOf}
 use Rattle.reading.specs.declared.Scanned.{Scanned}
-use Rattle.replay_rows.specs.Rows.{mark, allMarks, answerOf, nineOf, sameRow, sameRows, agreesAt}
+use Rattle.reading.specs.declared.Scanned.the-variants.{End, Stuck, TooLong, BadTable, BadUtf8, ListFull, ModesFull}
+use Rattle.reading.proofs.Scanned.{the-type}
+use Rattle.replay_rows.specs.Rows.{mark, allMarks, statusOf, answerOf, nineOf, sameRow, sameRows, agreesAt}
 
 module _ (s : List ℕ) (i : ℕ) where
   -- the number at i stands in front
@@ -38,6 +43,19 @@ module _ (s : List ℕ) (i : ℕ) where
   pub marks-end : length s ≤ i → allMarks (drop i s) ≡ true
   unfolding allMarks
   marks-end h = rw (drop-of-length-le s h)
+
+-- the variants of a refusal
+abbrev keys : List ℕ
+keys = 2 ∷ 3 ∷ 4 ∷ 5 ∷ 6 ∷ []
+
+pub refused-status : (said : Scanned) → OneOf keys (tagOf the-type said) → 100 + numberOf said ≡ statusOf said
+refused-status (End n b) h = absurd (miss keys 0 tt h)
+refused-status (Stuck n b) h = absurd (miss keys 1 tt h)
+refused-status TooLong h = refl
+refused-status (BadTable i) h = refl
+refused-status (BadUtf8 i) h = refl
+refused-status (ListFull n b) h = refl
+refused-status (ModesFull n b) h = refl
 
 module _ (text : List ℕ) (at : ℕ) (list : List ℕ) (i : ℕ) where
   module _ (shown : RowAt) (is : shown ≡ shownAt list i) where

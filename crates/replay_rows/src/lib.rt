@@ -3,6 +3,7 @@
 use lines::same;
 use reading::Scanned;
 use scan::answer::count_of;
+use scan::answer::number_of;
 use scan::answer::place_of;
 use token::rows;
 use token::rows::Row;
@@ -49,11 +50,7 @@ fn status_of(said: Scanned) -> usize
     match said {
         Scanned::End { count: _, byte: _ } => 0,
         Scanned::Stuck { count: _, byte: _ } => 1,
-        Scanned::TooLong => 101,
-        Scanned::BadTable(_) => 102,
-        Scanned::BadUtf8(_) => 103,
-        Scanned::ListFull { count: _, byte: _ } => 104,
-        Scanned::ModesFull { count: _, byte: _ } => 105,
+        _ => 100 + number_of(said) as usize,
     }
 }
 

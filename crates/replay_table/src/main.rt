@@ -1,8 +1,8 @@
 // Replays what the oracle's own check said of table files, good and bad (data/tables.txt; tools/README.md says how it was made): what reading
 // one answers, what it leaves in the row, and what the check of its numbers answers. Then a file with one wrong line, so that a difference
 // is seen to be reported.
-use property::TableCheck;
 use property::TableFile;
+use property::answer;
 ghost use Prim.Native.Nat.{_<_};
 ghost use mathlib.Core.Path.{_≡_};
 ghost use lib.ListN.{length};
@@ -81,38 +81,37 @@ fn row_of(file: &[u8], count: usize) -> [u32; ROOM]
     row
 }
 
-fn file_agrees(case: Case, said: TableFile) -> bool {
-    match said {
-        TableFile::Read(count) => case.number == 0 && case.place == 0 && case.count == count,
-        TableFile::BadFile(place) => case.number == 14 && case.place == place && case.count == 0,
-        TableFile::ListFull => case.number == 4 && case.place == 0 && case.count == 0,
-        TableFile::BadTable(place) => case.number == 2 && case.place == place && case.count == 0,
-    }
+// Reads the file into as much of the row as the line has room for.
+fn read_into(case: Case, file: &[u8], row: &mut [u32]) -> TableFile {
+    let room = lines::within(case.room, row);
+    property::read_table(file, &mut row[..room])
 }
 
-// Reads the file into so much of the row, and compares the answer.
-fn read_agrees(case: Case, file: &[u8], row: &mut [u32]) -> bool {
-    let room = lines::within(case.room, row);
-    file_agrees(case, property::read_table(file, &mut row[..room]))
+fn file_agrees(case: Case, said: TableFile) -> bool {
+    if case.number != answer::read_number(said) as usize {
+        return false;
+    }
+    if case.place != answer::read_place(said) {
+        return false;
+    }
+    match said {
+        TableFile::Read(count) => case.count == count,
+        _ => case.count == 0,
+    }
 }
 
 // Checks the first numbers of the row as a table, and compares the answer.
 fn check_agrees(case: Case, row: &[u32], count: usize) -> bool {
     let n = lines::within(count, row);
-    match property::check_table(&row[..n]) {
-        TableCheck::Fit => case.number == 0,
-        TableCheck::BadTable(place) => case.number == 2 && case.place == place,
+    let said = property::check_table(&row[..n]);
+    if case.number != answer::check_number(said) as usize {
+        return false;
     }
+    case.place == answer::check_place(said)
 }
 
-// The table by itself: a file that 14 or 4 refuses is not asked for one.
-fn table_agrees(case: Case, file: &[u8]) -> bool {
-    if case.number == 14 {
-        return true;
-    }
-    if case.number == 4 {
-        return true;
-    }
+// The same of all numbers of the file.
+fn numbers_agree(case: Case, file: &[u8]) -> bool {
     if file.len() < 8 {
         return false;
     }
@@ -120,18 +119,28 @@ fn table_agrees(case: Case, file: &[u8]) -> bool {
     check_agrees(case, &row_of(file, count), count)
 }
 
+// The table by itself: a file that is refused before its table is looked at is not asked for one.
+fn table_agrees(case: Case, said: TableFile, file: &[u8]) -> bool {
+    match said {
+        TableFile::BadFile(_) => true,
+        TableFile::ListFull => true,
+        _ => numbers_agree(case, file),
+    }
+}
+
 fn agrees(text: &[u8], at: usize) -> bool {
     let mut bytes = io::large_buffer();
     let n = lines::hex(text, at, &mut bytes);
     let case = case_at(text, at);
     let mut row = fresh_row();
-    if !read_agrees(case, &bytes[..n], &mut row) {
+    let said = read_into(case, &bytes[..n], &mut row);
+    if !file_agrees(case, said) {
         return false;
     }
     if !lines::same_numbers(&row, &row_of(&bytes[..n], case.count)) {
         return false;
     }
-    table_agrees(case, &bytes[..n])
+    table_agrees(case, said, &bytes[..n])
 }
 
 fn replay_lines(name: &[u8], text: &[u8]) {

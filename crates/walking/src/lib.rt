@@ -11,6 +11,7 @@ use lookahead::Cursor;
 use lookahead::Given;
 use lookahead::Peeked;
 use lookahead::Status;
+use lookahead::answer;
 use reading::Scanned;
 use token::rows::Row;
 ghost use mathlib.Core.Path.{_≡_};
@@ -67,8 +68,11 @@ fn told_given(before: Cursor, given: Given) -> Told
             what: What::Nothing,
             cursor: before,
         },
-        Given::BadState => refused(8, 0, before),
-        Given::BadRecord(i) => refused(9, i, before),
+        _ => refused(
+            answer::given_number(given),
+            answer::given_place(given),
+            before,
+        ),
     }
 }
 
@@ -85,10 +89,11 @@ fn told_peeked(before: Cursor, peeked: Peeked) -> Told
             what: What::Nothing,
             cursor,
         },
-        Peeked::BadState => refused(8, 0, before),
-        Peeked::PeekTooFar => refused(6, 0, before),
-        Peeked::QueueFull => refused(7, 0, before),
-        Peeked::BadRecord(i) => refused(9, i, before),
+        _ => refused(
+            answer::peeked_number(peeked),
+            answer::peeked_place(peeked),
+            before,
+        ),
     }
 }
 

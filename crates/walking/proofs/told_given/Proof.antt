@@ -1,6 +1,7 @@
--- `walking::told_given` meets its contract: it answers by the cases of `toldGiven`. Assumes nothing.
+-- `walking::told_given` meets its contract: it answers by the cases of `toldGiven`, a refusal by its number. Assumes nothing.
 use borrow.Author.Needs.{needs}
 use mathlib.Core.Path.{_∙_}
+use Rattle.walking.proofs.Telling.{given-refused}
 use Rattle.walking.proofs.told_given.Statement.{statement}
 use Rattle.walking.proofs.told_given.Tie as tie
 
@@ -10,17 +11,14 @@ enum-known-given c = search needs
 enum-told : tie.Need-enum-told
 enum-told c = search needs
 
-enum-told-2 : tie.Need-enum-told-2
-enum-told-2 c = search needs
+given-number-requires : tie.Need-given-number-requires
+given-number-requires c κs = search needs
+
+given-place-requires : tie.Need-given-place-requires
+given-place-requires c κs = search needs
 
 refused-requires : tie.Need-refused-requires
 refused-requires c κs = search needs
-
-enum-known-given-2 : tie.Need-enum-known-given-2
-enum-known-given-2 c = search needs
-
-refused-requires-2 : tie.Need-refused-requires-2
-refused-requires-2 c κs = search needs
 
 returns : tie.Need-returns
 returns c = rw (c .before .given .given .1)
@@ -29,10 +27,12 @@ returns-2 : tie.Need-returns-2
 returns-2 c = rw (c .enum-told .given .1)
 
 returns-3 : tie.Need-returns-3
-returns-3 c = c .refused .ensures ∙ rw (c .before .enum-told2 .given .1)
-
-returns-4 : tie.Need-returns-4
-returns-4 c = c .refused2 .ensures ∙ rw (c .before .before .given2 .given .1)
+returns-3 c =
+    let place = c .before in
+    let number = place .before in
+    let arm = number .before in
+    c .refused .ensures
+    ∙ rw (number .given-number .ensures, place .given-place .ensures) (given-refused _ (arm .before .args .given) (arm .match .keys3))
 
 pub told-given-spec : {M : Type 1} → statement M
 told-given-spec =
@@ -40,11 +40,9 @@ told-given-spec =
     (tie.spec
     enum-known-given
     enum-told
-    enum-told-2
+    given-number-requires
+    given-place-requires
     refused-requires
-    enum-known-given-2
-    refused-requires-2
     returns
     returns-2
-    returns-3
-    returns-4)
+    returns-3)

@@ -1,0 +1,50 @@
+// Document 01's numbers of what a check of a table and the reading of its file answer, for whoever prints them or hands them on.
+ghost use mathlib.Core.Path.{_≡_};
+ghost use Rattle.property.specs.Fit as fit;
+ghost use Rattle.property.specs.File as file;
+use crate::file::TableFile;
+use crate::table::TableCheck;
+
+// The number of a check's refusal; 0 where there is none.
+pub fn check_number(check: TableCheck) -> u32
+    ensures { λ r. ⌜ r ≡ fit.numberOf check ⌝ }
+{
+    match check {
+        TableCheck::Fit => 0,
+        TableCheck::BadTable(_) => 2,
+    }
+}
+
+// Its place; 0 where there is none.
+pub fn check_place(check: TableCheck) -> usize
+    ensures { λ r. ⌜ r ≡ fit.placeOf check ⌝ }
+{
+    match check {
+        TableCheck::Fit => 0,
+        TableCheck::BadTable(i) => i,
+    }
+}
+
+// The number of a reading's refusal; 0 where there is none.
+pub fn read_number(read: TableFile) -> u32
+    ensures { λ r. ⌜ r ≡ file.numberOf read ⌝ }
+{
+    match read {
+        TableFile::Read(_) => 0,
+        TableFile::BadFile(_) => 14,
+        TableFile::ListFull => 4,
+        TableFile::BadTable(_) => 2,
+    }
+}
+
+// Its place; 0 where there is none.
+pub fn read_place(read: TableFile) -> usize
+    ensures { λ r. ⌜ r ≡ file.placeOf read ⌝ }
+{
+    match read {
+        TableFile::Read(_) => 0,
+        TableFile::BadFile(i) => i,
+        TableFile::ListFull => 0,
+        TableFile::BadTable(i) => i,
+    }
+}
