@@ -2,8 +2,8 @@
 ghost use mathlib.Core.Path.{_≡_};
 ghost use Rattle.utf8.specs.Answer.{numberOf, placeOf};
 ghost use Rattle.koto_lexer.specs.Bytes.{readNumber, codeOf, lenOf, cutOf, checkCut, ReadCharIs, CheckUtf8Is};
-use crate::refusals::BAD_UTF8;
-use crate::refusals::NO_REFUSAL;
+use base::refusals::BAD_UTF8;
+use base::refusals::NO_REFUSAL;
 use utf8::Read;
 use utf8::Utf8Check;
 

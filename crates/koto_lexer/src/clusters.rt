@@ -2,10 +2,10 @@
 ghost use mathlib.Core.Path.{_≡_};
 ghost use Rattle.cluster.specs.Call.{numberOf};
 ghost use Rattle.koto_lexer.specs.Clusters.{lenOf, placeOf, FirstClusterIs};
-use crate::refusals::BAD_TABLE;
-use crate::refusals::BAD_UTF8;
-use crate::refusals::NO_REFUSAL;
-use crate::refusals::TOO_LONG;
+use base::refusals::BAD_TABLE;
+use base::refusals::BAD_UTF8;
+use base::refusals::NO_REFUSAL;
+use base::refusals::TOO_LONG;
 use cluster::Cluster;
 
 fn number_of(cluster: Cluster) -> u32

@@ -8,7 +8,6 @@ mod clusters;
 mod cursors;
 mod formats;
 mod pools;
-mod refusals;
 mod scans;
 mod tables;
 

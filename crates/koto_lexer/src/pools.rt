@@ -2,10 +2,10 @@
 ghost use mathlib.Core.Path.{_≡_};
 ghost use Rattle.pool.specs.Pool.{numberOf};
 ghost use Rattle.koto_lexer.specs.Pools.{indexOf, placeOf, AddedTold, AddStringIs};
-use crate::refusals::BAD_STATE;
-use crate::refusals::BAD_UTF8;
-use crate::refusals::NO_REFUSAL;
-use crate::refusals::POOL_FULL;
+use base::refusals::BAD_STATE;
+use base::refusals::BAD_UTF8;
+use base::refusals::NO_REFUSAL;
+use base::refusals::POOL_FULL;
 use pool::Added;
 use pool::Counts;
 use pool_lent::Entry;

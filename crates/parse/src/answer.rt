@@ -2,6 +2,15 @@
 ghost use mathlib.Core.Path.{_≡_};
 ghost use Rattle.parse.specs.Call.{numberOf, valueOf};
 use crate::Parsed;
+use base::refusals::BAD_STATE;
+use base::refusals::BAD_TABLE;
+use base::refusals::BAD_UTF8;
+use base::refusals::EXPECTED_NUMBER;
+use base::refusals::FORMAT_NUMBER_IS_TOO_LARGE;
+use base::refusals::NO_REFUSAL;
+use base::refusals::POOL_FULL;
+use base::refusals::TOO_LONG;
+use base::refusals::UNEXPECTED_TOKEN;
 
 // The refusal's number; 0 where there is no refusal.
 pub fn number_of(parsed: Parsed) -> u32
@@ -11,15 +20,15 @@ pub fn number_of(parsed: Parsed) -> u32
         Parsed::Read {
             options: _,
             index: _,
-        } => 0,
-        Parsed::TooLong => 1,
-        Parsed::BadTable(_) => 2,
-        Parsed::BadUtf8(_) => 3,
-        Parsed::BadState => 8,
-        Parsed::ExpectedNumber(_) => 10,
-        Parsed::FormatNumberIsTooLarge(_) => 11,
-        Parsed::UnexpectedToken(_) => 12,
-        Parsed::PoolFull => 13,
+        } => NO_REFUSAL,
+        Parsed::TooLong => TOO_LONG,
+        Parsed::BadTable(_) => BAD_TABLE,
+        Parsed::BadUtf8(_) => BAD_UTF8,
+        Parsed::BadState => BAD_STATE,
+        Parsed::ExpectedNumber(_) => EXPECTED_NUMBER,
+        Parsed::FormatNumberIsTooLarge(_) => FORMAT_NUMBER_IS_TOO_LARGE,
+        Parsed::UnexpectedToken(_) => UNEXPECTED_TOKEN,
+        Parsed::PoolFull => POOL_FULL,
     }
 }
 

@@ -4,14 +4,18 @@ ghost use Rattle.property.specs.Fit as fit;
 ghost use Rattle.property.specs.File as file;
 use crate::file::TableFile;
 use crate::table::TableCheck;
+use base::refusals::BAD_FILE;
+use base::refusals::BAD_TABLE;
+use base::refusals::LIST_FULL;
+use base::refusals::NO_REFUSAL;
 
 // The number of a check's refusal; 0 where there is none.
 pub fn check_number(check: TableCheck) -> u32
     ensures { λ r. ⌜ r ≡ fit.numberOf check ⌝ }
 {
     match check {
-        TableCheck::Fit => 0,
-        TableCheck::BadTable(_) => 2,
+        TableCheck::Fit => NO_REFUSAL,
+        TableCheck::BadTable(_) => BAD_TABLE,
     }
 }
 
@@ -30,10 +34,10 @@ pub fn read_number(read: TableFile) -> u32
     ensures { λ r. ⌜ r ≡ file.numberOf read ⌝ }
 {
     match read {
-        TableFile::Read(_) => 0,
-        TableFile::BadFile(_) => 14,
-        TableFile::ListFull => 4,
-        TableFile::BadTable(_) => 2,
+        TableFile::Read(_) => NO_REFUSAL,
+        TableFile::BadFile(_) => BAD_FILE,
+        TableFile::ListFull => LIST_FULL,
+        TableFile::BadTable(_) => BAD_TABLE,
     }
 }
 

@@ -1,6 +1,12 @@
 // Document 01's numbers of a scan's answer, for whoever prints it or hands it on.
 ghost use mathlib.Core.Path.{_≡_};
 ghost use Rattle.reading.specs.Scan.{numberOf, placeOf, countOf};
+use base::refusals::BAD_TABLE;
+use base::refusals::BAD_UTF8;
+use base::refusals::LIST_FULL;
+use base::refusals::MODES_FULL;
+use base::refusals::NO_REFUSAL;
+use base::refusals::TOO_LONG;
 use reading::Scanned;
 
 // The refusal's number; 0 where there is no refusal.
@@ -8,13 +14,13 @@ pub fn number_of(scanned: Scanned) -> u32
     ensures { λ r. ⌜ r ≡ numberOf scanned ⌝ }
 {
     match scanned {
-        Scanned::End { count: _, byte: _ } => 0,
-        Scanned::Stuck { count: _, byte: _ } => 0,
-        Scanned::TooLong => 1,
-        Scanned::BadTable(_) => 2,
-        Scanned::BadUtf8(_) => 3,
-        Scanned::ListFull { count: _, byte: _ } => 4,
-        Scanned::ModesFull { count: _, byte: _ } => 5,
+        Scanned::End { count: _, byte: _ } => NO_REFUSAL,
+        Scanned::Stuck { count: _, byte: _ } => NO_REFUSAL,
+        Scanned::TooLong => TOO_LONG,
+        Scanned::BadTable(_) => BAD_TABLE,
+        Scanned::BadUtf8(_) => BAD_UTF8,
+        Scanned::ListFull { count: _, byte: _ } => LIST_FULL,
+        Scanned::ModesFull { count: _, byte: _ } => MODES_FULL,
     }
 }
 

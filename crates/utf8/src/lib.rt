@@ -183,35 +183,35 @@ pub fn read_char(s: &[u8], at: usize) -> Read
     read_head(&s[at..])
 }
 
-// Has the first character of l two bytes? Then it is passed without being put together.
-fn is_two(l: &[u8]) -> bool
-    requires { ⌜ 0 < length (now l) ⌝ }
-    ensures { λ r. ⌜ r ≡ eqb (lenOf (decodeHead (now (l .entry)))) 2 ⌝ }
+// Has the first character of s two bytes? Then it is passed without being put together.
+fn is_two(s: &[u8]) -> bool
+    requires { ⌜ 0 < length (now s) ⌝ }
+    ensures { λ r. ⌜ r ≡ eqb (lenOf (decodeHead (now (s .entry)))) 2 ⌝ }
 {
-    if lead_len(l[0]) != 2 {
+    if lead_len(s[0]) != 2 {
         return false;
     }
-    if l.len() < 2 {
+    if s.len() < 2 {
         return false;
     }
-    second_ok(l[0], l[1])
+    second_ok(s[0], s[1])
 }
 
 // Has it three?
-fn is_three(l: &[u8]) -> bool
-    requires { ⌜ 0 < length (now l) ⌝ }
-    ensures { λ r. ⌜ r ≡ eqb (lenOf (decodeHead (now (l .entry)))) 3 ⌝ }
+fn is_three(s: &[u8]) -> bool
+    requires { ⌜ 0 < length (now s) ⌝ }
+    ensures { λ r. ⌜ r ≡ eqb (lenOf (decodeHead (now (s .entry)))) 3 ⌝ }
 {
-    if lead_len(l[0]) != 3 {
+    if lead_len(s[0]) != 3 {
         return false;
     }
-    if l.len() < 3 {
+    if s.len() < 3 {
         return false;
     }
-    if !second_ok(l[0], l[1]) {
+    if !second_ok(s[0], s[1]) {
         return false;
     }
-    between(l[2], 0x80, 0xbf)
+    between(s[2], 0x80, 0xbf)
 }
 
 // Whether all of s is well formed; if not, where the longest well-formed beginning ends, and whether the bytes there are wrong or cut.

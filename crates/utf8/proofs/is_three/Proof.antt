@@ -25,7 +25,7 @@ lead-len-requires c κs = search needs
 returns : tie.Need-returns
 returns c =
     let start = c .before .before .before .before in
-    sym (other-len (now (start .args .l)) 3 (omega arith) (omega arith) (λ e. c .if1 .taken (c .before .lead-len .ensures ∙ e)))
+    sym (other-len (now (start .args .s)) 3 (omega arith) (omega arith) (λ e. c .if1 .taken (c .before .lead-len .ensures ∙ e)))
 
 returns-2 : tie.Need-returns-2
 returns-2 c = sym (cut-len _ 3 (omega arith) (c .if2 .taken))
@@ -41,7 +41,7 @@ second-ok-requires c κs = search needs
 
 -- the bytes, and the answer by what was said of the second
 abbrev bytes : tie.After-second-ok → List ℕ
-bytes c = now (c .before .before .before .before .before .before .before .before .args .l)
+bytes c = now (c .before .before .before .before .before .before .before .before .args .s)
 
 by-second : (c : tie.After-second-ok) (t : Bool) → c .second-ok .result ≡ t
     → pick t (isTail (getD (bytes c) 2 0)) false ≡ eqb (lenOf (decodeHead (bytes c))) 3

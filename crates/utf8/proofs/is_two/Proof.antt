@@ -16,7 +16,7 @@ lead-len-requires c κs = search needs
 returns : tie.Need-returns
 returns c =
     let start = c .before .before .before .before in
-    sym (other-len (now (start .args .l)) 2 (omega arith) (omega arith) (λ e. c .if1 .taken (c .before .lead-len .ensures ∙ e)))
+    sym (other-len (now (start .args .s)) 2 (omega arith) (omega arith) (λ e. c .if1 .taken (c .before .lead-len .ensures ∙ e)))
 
 returns-2 : tie.Need-returns-2
 returns-2 c = sym (cut-len _ 2 (omega arith) (c .if2 .taken))
@@ -36,7 +36,7 @@ returns-3 c =
     let lead = room .before .before in
     let start = lead .before .before .before in
     c .second-ok .ensures
-    ∙ sym (two-len (now (start .args .l)) (start .pre) (sym (lead .lead-len .ensures) ∙ room .before .if1 .left) (room .if2 .left))
+    ∙ sym (two-len (now (start .args .s)) (start .pre) (sym (lead .lead-len .ensures) ∙ room .before .if1 .left) (room .if2 .left))
 
 pub is-two-spec : {M : Type 1} → statement M
 is-two-spec =

@@ -1,4 +1,4 @@
-// Document 01, "Refusal numbers": what a call returns. specs/Refusal.antt of the crate `base` has the same numbers.
+// Document 01, "Refusal numbers": each number once, under its name, as in specs/Refusal.antt.
 pub const NO_REFUSAL: u32 = 0;
 
 pub const TOO_LONG: u32 = 1;
