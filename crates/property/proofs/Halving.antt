@@ -2,17 +2,14 @@
 --     Between         what is kept: the run sought is from lo on and before hi
 --     whole           all of the table, at the start
 --     lower, upper    one turn
---     met             the end: one run is left, and it has the code point
+--     met             the end: one run is left, which has the code point
 -- Assumes nothing.
 use Prim.Native.Nat.{ℕ, _+_, _<_, _≤_}
 use native.Mathlib.Omega.{arith}
-use mathlib.Core.Path.{_≡_, sym}
 use mathlib.Core.List.{List}
-use lib.ListN.{length, getD}
-use Rattle.base.specs.PickLaws.{split-eq}
-use Rattle.property.specs.Parts.{propertiesOf}
-use Rattle.property.specs.Table.{propertiesAt, startAt, Rises}
-use Rattle.property.specs.TableLaws.{last-run}
+use lib.ListN.{length}
+use Rattle.property.specs.Table.{startAt, HasRun, Rises}
+use Rattle.property.specs.TableLaws.{all-above}
 
 pub record Between (table : List ℕ) (code lo hi : ℕ) : Type 0 where
   pub order : lo < hi
@@ -27,17 +24,11 @@ whole table code r =
 module _ (table : List ℕ) (code lo hi : ℕ) (b : Between table code lo hi) where
   pub lower : Rises table → (mid : ℕ) → lo < mid → mid < hi → code < startAt table mid → Between table code lo mid
   lower r mid h i t =
-      record {
-        order = h;
-        within = omega (arith, b .within);
-        low = b .low;
-        above = λ k m n. split-eq mid k (λ e. rw e at t) (λ e. omega (arith, t, r .rising mid k (omega arith) n));
-      }
+      record { order = h; within = omega (arith, b .within); low = b .low; above = all-above table code mid r t }
 
   pub upper : (mid : ℕ) → mid < hi → startAt table mid ≤ code → Between table code mid hi
   upper mid h t = record { order = h; within = b .within; low = t; above = b .above }
 
-  pub met : hi ≤ lo + 1 → propertiesOf (getD table lo 0) ≡ propertiesAt table code
+  pub met : hi ≤ lo + 1 → HasRun table code lo
   met h =
-      sym
-      (last-run 0 table code lo (omega (arith, b .order, b .within)) (b .low) (λ j i m. b .above j (omega (arith, b .order)) m))
+      record { within = omega (arith, b .order, b .within); low = b .low; above = λ j i m. b .above j (omega (arith, b .order)) m }

@@ -1,8 +1,8 @@
 -- What the quick tests of a table ask (`QuickLaws` has what they settle). No public contract cites them.
 -- Assumes nothing.
-use Prim.Native.Nat.{ℕ}
+use Prim.Native.Nat.{ℕ, _+_}
 use mathlib.Core.List.{List}
-use mathlib.Core.Bool.{Bool, _&&_}
+use mathlib.Core.Bool.{Bool, _&&_, _||_}
 use lib.Dec.{ltb, leb, eqb}
 use lib.ListN.{length, getD}
 use Rattle.property.specs.Parts.{propertiesOf}
@@ -10,6 +10,11 @@ use Rattle.property.specs.Table.{startAt}
 use Rattle.property.specs.Small.{smallTable}
 use Rattle.property.specs.First.{allGood}
 use Rattle.property.specs.Fit.{startOk, propertiesOk, asciiCount}
+
+-- the run k has the code point c, by its own start and the next one's
+unfoldable pub hasCode : List ℕ → ℕ → ℕ → Bool
+hasCode table c k =
+    ltb k (length table) && (leb (startAt table k) c && (eqb (k + 1) (length table) || ltb c (startAt table (k + 1))))
 
 -- the run rules at the run i, but for its start's bound
 unfoldable pub followsOk : List ℕ → ℕ → Bool

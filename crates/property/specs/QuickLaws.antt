@@ -1,4 +1,5 @@
 -- What the quick tests of a table settle.
+--     has-code                   a run has a code point by its own start and the next one's
 --     one-more, all-good         a test that holds at each number: at one number more; none is bad
 --     unless                     a rule that is asked only where another test holds, without a branch
 --     run-parts                  the run rules are `followsOk` and a start at most at the last code point
@@ -11,22 +12,31 @@ use native.Mathlib.Numerals.{add-one}
 use mathlib.Core.Path.{_≡_, refl, sym, ap, _∙_}
 use mathlib.Core.List.{List}
 use mathlib.Core.Bool.{Bool, true, false, not, _&&_, _||_, and-assoc, and-comm}
-use lib.Dec.{ltb, leb}
+use lib.Dec.{ltb, leb, eqb}
 use lib.ListN.{length, getD, take}
 use lib.Seq.{ext-getD, getD-take, length-take-le}
 use borrow.Author.Tests.{eq-eqb, ne-eqb, eqb-true, ltb-true, leb-true, le-leb}
 use Rattle.base.specs.Pick.{pick}
 use Rattle.base.specs.PickLaws.{split-eq}
 use Rattle.property.specs.Parts.{propertiesOf}
-use Rattle.property.specs.Table.{lastFrom, propertiesAt, startAt, Rises}
-use Rattle.property.specs.TableLaws.{first-runs}
+use Rattle.property.specs.Table.{lastFrom, propertiesAt, startAt, HasRun, Rises}
+use Rattle.property.specs.TableLaws.{all-above, in-run, first-runs}
 use Rattle.property.specs.Small.{smallTable}
 use Rattle.property.specs.SmallLaws.{small-is-fit}
 use Rattle.property.specs.First.{firstBad, allGood}
 use Rattle.property.specs.FirstLaws.{none-bad}
 use Rattle.property.specs.Fit.{startOk, propertiesOk, runOk, asciiOk, startMost}
 use Rattle.property.specs.FitLaws.{and-left, and-right}
-use Rattle.property.specs.Quick.{followsOk, smallAt, beginsAsSmall}
+use Rattle.property.specs.Quick.{hasCode, followsOk, smallAt, beginsAsSmall}
+
+pub has-code : (table : List ℕ) (c k : ℕ) → Rises table → hasCode table c k ≡ true → HasRun table c k
+unfolding hasCode
+has-code table c k r e =
+    let starts = and-right (ltb k (length table)) _ e in
+    let ends = and-right (leb (startAt table k) c) _ starts in
+    in-run table c k r (ltb-true k (length table) (and-left (ltb k (length table)) _ e))
+    (leb-true (startAt table k) c (and-left (leb (startAt table k) c) _ starts))
+    (λ h. ltb-true c (startAt table (k + 1)) (rw (ne-eqb (k + 1) (length table) (λ q. omega arith)) at ends))
 
 module _ (ok : ℕ → Bool) where
   pub one-more : (n : ℕ) → allGood ok (n + 1) ≡ (allGood ok n && ok n)
@@ -107,10 +117,6 @@ module _ (table : List ℕ) where
 
 -- ---- code points 0 to 127
 
--- a run starts above c, and so do all after it
-above : (table : List ℕ) (c n : ℕ) → Rises table → c < startAt table n → (j : ℕ) → n ≤ j → j < length table → c < startAt table j
-above table c n r h j i l = split-eq n j (λ e. rw e at h) (λ e. omega (arith, r .rising n j (omega arith) l))
-
 pub small-next : (15 < length smallTable) × (128 ≤ startAt smallTable 15)
 unfolding smallTable
 small-next = omega arith
@@ -136,6 +142,6 @@ module _ (table : List ℕ) (begins : beginsAsSmall table ≡ true) where
       none-bad (asciiOk table) 0 128
       (λ c _ h.
       eq-eqb (propertiesAt table c) _
-      (first-runs 15 0 table c (above table c 15 r (omega (arith, next-above)))
+      (first-runs 15 0 table c (all-above table c 15 r (omega (arith, next-above)))
       ∙ ap (λ (l : List ℕ). lastFrom 0 l c) same-runs
-      ∙ sym (first-runs 15 0 smallTable c (above smallTable c 15 (small-is-fit .rises) (omega (arith, small-next))))))
+      ∙ sym (first-runs 15 0 smallTable c (all-above smallTable c 15 (small-is-fit .rises) (omega (arith, small-next))))))

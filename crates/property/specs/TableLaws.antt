@@ -1,5 +1,7 @@
 -- Laws of `propertiesAt`.
---     last-run, in-run      the answer is that of the run k: by its start and all later ones; where starts rise, by its start and the next
+--     run-properties        the answer is that of the run that has the code point
+--     one-run               no second run has it
+--     all-above, in-run     where starts rise: a run that starts above the code point, and all after it; a run has it by its start and the next
 --     first-runs            where all later runs start above the code point, the first n give the answer
 --     of-runs               what holds of every run's properties, and of 0, holds of every code point's
 --     properties-below, width-most    bounds that every list keeps
@@ -11,9 +13,9 @@ use mathlib.Core.List.{List, [], _∷_}
 use lib.Dec.{ltb}
 use lib.ListN.{length, getD, take}
 use borrow.Author.Tests.{lt-ltb, le-ltb}
-use Rattle.base.specs.PickLaws.{by-test, split-eq}
+use Rattle.base.specs.PickLaws.{by-test, split-lt, split-eq}
 use Rattle.property.specs.Parts.{startOf, propertiesOf, widthOf}
-use Rattle.property.specs.Table.{lastFrom, propertiesAt, startAt, Rises}
+use Rattle.property.specs.Table.{lastFrom, propertiesAt, startAt, HasRun, Rises}
 
 -- no run starts at c or before
 none-more : (p : ℕ) (l : List ℕ) (c : ℕ) → ((j : ℕ) → j < length l → c < startAt l j) → lastFrom p l c ≡ p
@@ -29,7 +31,7 @@ first-runs zero p l c above = none-more p l c (λ j h. above j (omega arith) h)
 first-runs (suc n) p [] c above = refl
 first-runs (suc n) p (r ∷ rs) c above = first-runs n _ rs c (λ j i h. above (suc j) (omega arith) (omega arith))
 
-pub last-run :
+last-run :
     (p : ℕ) (l : List ℕ) (c k : ℕ) → k < length l → startAt l k ≤ c → ((j : ℕ) → k < j → j < length l → c < startAt l j)
     → lastFrom p l c ≡ propertiesOf (getD l k 0)
 unfolding lastFrom
@@ -38,15 +40,24 @@ last-run p (r ∷ rs) c zero h low above =
     rw (le-ltb c (startOf r) low) (none-more (propertiesOf r) rs c (λ j i. above (suc j) (omega arith) (omega arith)))
 last-run p (r ∷ rs) c (suc k) h low above = last-run _ rs c k (omega arith) low (λ j i m. above (suc j) (omega arith) (omega arith))
 
--- a run ends before the next one's start
-pub in-run :
-    (table : List ℕ) (c k : ℕ) → Rises table → k < length table → startAt table k ≤ c → (k + 1 < length table → c < startAt table (k + 1))
-    → propertiesAt table c ≡ propertiesOf (getD table k 0)
-in-run table c k r h low high =
-    last-run 0 table c k h low
-    (λ j i m.
-    split-eq (k + 1) j (λ e. let n : c < startAt table (k + 1) = high (omega arith) in rw e at n)
-    (λ e. omega (arith, high (omega arith), r .rising (k + 1) j (omega arith) m)))
+module _ (table : List ℕ) (c : ℕ) where
+  pub run-properties : (k : ℕ) → HasRun table c k → propertiesAt table c ≡ propertiesOf (getD table k 0)
+  run-properties k h = last-run 0 table c k (h .within) (h .low) (h .above)
+
+  -- of two runs the later one starts at most at c, and so the earlier one does not have it
+  pub one-run : (j k : ℕ) → HasRun table c j → HasRun table c k → j ≡ k
+  one-run j k h i =
+      split-lt j k (λ l. absurd (omega (arith, h .above k l (i .within), i .low)))
+      (λ l. split-lt k j (λ m. absurd (omega (arith, i .above j m (h .within), h .low))) (λ m. omega arith))
+
+  pub all-above : (n : ℕ) → Rises table → c < startAt table n → (j : ℕ) → n ≤ j → j < length table → c < startAt table j
+  all-above n r h j i l = split-eq n j (λ e. rw e at h) (λ e. omega (arith, r .rising n j (omega arith) l))
+
+  -- a run ends before the next one's start
+  pub in-run : (k : ℕ) → Rises table → k < length table → startAt table k ≤ c → (k + 1 < length table → c < startAt table (k + 1))
+      → HasRun table c k
+  in-run k r h low high =
+      record { within = h; low = low; above = λ j i m. all-above (k + 1) r (high (omega arith)) j (omega arith) m }
 
 module _ (P : ℕ → Type 0) where
   of-runs-from :

@@ -17,4 +17,7 @@ pub use parts::width_of;
 pub use table::TableCheck;
 pub use table::check_table;
 pub use table::lookup;
+pub use table::properties_in;
+pub use table::run_near;
+pub use table::run_of;
 pub use table::small_table;

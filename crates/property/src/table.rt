@@ -5,13 +5,13 @@ use crate::parts::is_id_start;
 ghost use mathlib.Core.Path.{_≡_};
 ghost use Prim.Native.Nat.{_<_};
 ghost use lib.Dec.{leb};
-ghost use lib.ListN.{length};
-ghost use Rattle.property.specs.Parts.{startOf};
-ghost use Rattle.property.specs.Table.{propertiesAt, Rises};
+ghost use lib.ListN.{length, getD};
+ghost use Rattle.property.specs.Parts.{startOf, propertiesOf};
+ghost use Rattle.property.specs.Table.{propertiesAt, Rises, HasRun};
 ghost use Rattle.property.specs.Small.{smallTable};
 ghost use Rattle.property.specs.First.{firstBad, allGood};
 ghost use Rattle.property.specs.Fit.{startOk, propertiesOk, runOk, startMost, asciiOk, tableCheck};
-ghost use Rattle.property.specs.Quick.{followsOk, beginsAsSmall};
+ghost use Rattle.property.specs.Quick.{hasCode, followsOk, beginsAsSmall};
 
 // A table has 1 to 8,000 numbers.
 pub const MOST: usize = 8000;
@@ -26,10 +26,10 @@ pub enum TableCheck {
     BadTable(usize),
 }
 
-// The properties of a code point, by halving: the run that has it is from lo on and before hi.
-pub fn lookup(table: &[u32], code: u32) -> u32
+// The run that has a code point, by halving: it is from lo on and before hi.
+pub fn run_of(table: &[u32], code: u32) -> usize
     requires { ⌜ Rises (now table) ⌝ }
-    ensures { λ r. ⌜ r ≡ propertiesAt (now (table .entry)) code ⌝ }
+    ensures { λ r. ⌜ HasRun (now (table .entry)) code r ⌝ }
 {
     let mut lo = 0;
     let mut hi = table.len();
@@ -41,7 +41,50 @@ pub fn lookup(table: &[u32], code: u32) -> u32
             lo = mid;
         }
     }
-    table[lo] % 2048
+    lo
+}
+
+// Whether a run has a code point, by its own start and the next one's.
+fn has_code(table: &[u32], code: u32, run: usize) -> bool
+    ensures { λ r. ⌜ r ≡ hasCode (now (table .entry)) code run ⌝ }
+{
+    if table.len() <= run {
+        return false;
+    }
+    if code < table[run] / 2048 {
+        return false;
+    }
+    if run + 1 == table.len() {
+        return true;
+    }
+    code < table[run + 1] / 2048
+}
+
+// The run that has a code point. The run `near` is tried first; it may be any number.
+pub fn run_near(table: &[u32], code: u32, near: usize) -> usize
+    requires { ⌜ Rises (now table) ⌝ }
+    ensures { λ r. ⌜ HasRun (now (table .entry)) code r ⌝ }
+{
+    if has_code(table, code, near) {
+        return near;
+    }
+    run_of(table, code)
+}
+
+// The properties of a run's code points.
+pub fn properties_in(table: &[u32], run: usize) -> u32
+    requires { ⌜ run < length (now table) ⌝ }
+    ensures { λ r. ⌜ r ≡ propertiesOf (getD (now (table .entry)) run 0) ⌝ }
+{
+    table[run] % 2048
+}
+
+// The properties of a code point.
+pub fn lookup(table: &[u32], code: u32) -> u32
+    requires { ⌜ Rises (now table) ⌝ }
+    ensures { λ r. ⌜ r ≡ propertiesAt (now (table .entry)) code ⌝ }
+{
+    properties_in(table, run_of(table, code))
 }
 
 // The first run starts at 0, and starts rise strictly.

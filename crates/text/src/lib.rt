@@ -14,7 +14,7 @@ ghost use Rattle.text.specs.Tests.{isWhitespace, isBinaryDigit, isOctalD
 ghost use Rattle.text.specs.Ascii.{asciiProperties};
 ghost use Rattle.text.specs.Count.{countWhile, runTest};
 ghost use Rattle.text.specs.Stands.{Stands};
-ghost use Rattle.text.specs.Chars.{CharIs, DecodedIs, LenIs};
+ghost use Rattle.text.specs.Chars.{asciiChar, CharIs, DecodedIs, LenIs};
 use base::between;
 use position::Reach;
 
@@ -209,6 +209,17 @@ pub fn char_len(source: &[u8], at: usize) -> usize
     c.len
 }
 
+// An ASCII character. Its properties are the same in every fit table.
+fn ascii_char(b: u8) -> Char
+    ensures { λ r. ⌜ r ≡ asciiChar b ⌝ }
+{
+    Char {
+        code: b as u32,
+        len: 1,
+        properties: ascii_properties(b),
+    }
+}
+
 // The character at `at`, with its properties looked up.
 fn wide_char(source: &[u8], table: &[u32], at: usize) -> Char
     requires { ⌜ WellFormed (drop at (now source)) × (at < length (now source)) ⌝ }
@@ -231,13 +242,50 @@ pub fn char_at(source: &[u8], table: &[u32], at: usize) -> Char
 {
     let b = source[at];
     if b < 0x80 {
-        return Char {
-            code: b as u32,
-            len: 1,
-            properties: ascii_properties(b),
-        };
+        return ascii_char(b);
     }
     wide_char(source, table, at)
+}
+
+// A character, and the run to try first for the next one.
+struct Near {
+    char: Char,
+    run: usize,
+}
+
+// The character at `at`, with its properties looked up. The run `near` is tried first, which may be any number.
+fn wide_near(source: &[u8], table: &[u32], at: usize, near: usize) -> Near
+    requires { ⌜ WellFormed (drop at (now source)) × (at < length (now source)) ⌝ }
+    requires { ⌜ FitTable (now table) ⌝ }
+    ensures { λ r. ⌜ CharIs (now (source .entry)) (now (table .entry)) at (r .char) ⌝ }
+{
+    let c = decode(source, at);
+    let run = property::run_near(table, c.code, near);
+    Near {
+        char: Char {
+            code: c.code,
+            len: c.len,
+            properties: property::properties_in(table, run),
+        },
+        run: run,
+    }
+}
+
+// The character at `at`, as `char_at` gives it. In a name most characters are in the run of the one before, so that run is tried first.
+// It has one caller, so that LLVM inlines it there.
+fn char_near(source: &[u8], table: &[u32], at: usize, near: usize) -> Near
+    requires { ⌜ WellFormed (drop at (now source)) × (at < length (now source)) ⌝ }
+    requires { ⌜ FitTable (now table) ⌝ }
+    ensures { λ r. ⌜ CharIs (now (source .entry)) (now (table .entry)) at (r .char) ⌝ }
+{
+    let b = source[at];
+    if b < 0x80 {
+        return Near {
+            char: ascii_char(b),
+            run: near,
+        };
+    }
+    wide_near(source, table, at, near)
 }
 
 fn is_line_end(code: u32) -> bool
@@ -285,18 +333,20 @@ pub fn run_utf8(source: &[u8], table: &[u32], start: Reach, test: u8) -> Reach
 {
     let mut reach = start;
     let mut i = reach.byte.0;
+    let mut near = 0;
     while i < source.len() {
         if passes_at_once(test, source[i]) {
             reach = reach.along_ascii(1);
             i = reach.byte.0;
             continue;
         }
-        let c = char_at(source, table, i);
-        if !passes_utf8(test, c.code, c.properties) {
+        let c = char_near(source, table, i, near);
+        if !passes_utf8(test, c.char.code, c.char.properties) {
             return reach;
         }
-        reach = reach.along(c.len, property::width_of(c.properties));
+        reach = reach.along(c.char.len, property::width_of(c.char.properties));
         i = reach.byte.0;
+        near = c.run;
     }
     reach
 }

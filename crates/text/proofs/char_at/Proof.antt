@@ -9,17 +9,14 @@ use Rattle.text.proofs.char_at.Tie as tie
 shared-slice-read-b : tie.Need-shared-slice-read-b
 shared-slice-read-b c = search needs
 
-cast-t8 : tie.Need-cast-t8
-cast-t8 c = search needs
-
-ascii-properties-requires : tie.Need-ascii-properties-requires
-ascii-properties-requires c κs = search needs
+ascii-char-requires : tie.Need-ascii-char-requires
+ascii-char-requires c κs = search needs
 
 returns : tie.Need-returns
 returns c =
     let start = c .before .before .before .before .before in
     ascii-is (now (start .args .source)) (start .args .at) (start .pre .0 .0) (start .pre .0 .1) _ (start .pre .1) (c .before .if1 .taken) _
-    (c .ascii-properties .ensures)
+    (c .ascii-char .ensures)
 
 wide-char-requires : tie.Need-wide-char-requires
 wide-char-requires c κs = search needs
@@ -32,8 +29,7 @@ char-at-spec =
     tie.close
     (tie.spec
     shared-slice-read-b
-    cast-t8
-    ascii-properties-requires
+    ascii-char-requires
     returns
     wide-char-requires
     returns-2)

@@ -15,10 +15,10 @@ use Rattle.text.proofs.run_utf8.Statement.{statement}
 use Rattle.text.proofs.run_utf8.Tie as tie
 
 abbrev Inv-loop : tie.InvT-loop
-Inv-loop source table test reach₀ i₀ reach i = Running test source table reach₀ reach i
+Inv-loop source table test reach₀ i₀ near₀ reach i near = Running test source table reach₀ reach i
 
 abbrev μ-loop : tie.MeasureT-loop
-μ-loop source table test reach₀ i₀ reach i = length source - i
+μ-loop source table test reach₀ i₀ near₀ reach i near = length source - i
 
 -- from a turn to where the loop stands
 abbrev turn : tie.After-passes-at-once Inv-loop μ-loop → tie.At-loop Inv-loop μ-loop
@@ -48,8 +48,8 @@ loop-again c =
     once-on _ _ _ (turn at .loop .inv) (turn at .before .before .before .pre .1) (at .before .before .loop-test .taken)
     (sym (at .passes-at-once .ensures) ∙ c .before .if1 .taken) _ (c .along-ascii .ensures)
 
-char-at-requires : tie.Need-char-at-requires Inv-loop μ-loop
-char-at-requires c κs =
+char-near-requires : tie.Need-char-near-requires Inv-loop μ-loop
+char-near-requires c κs =
     let at = c .before in
     ((runs-well _ _ _ (turn at .loop .inv), at .before .before .loop-test .taken), turn at .before .before .before .pre .1)
 
@@ -59,8 +59,8 @@ passes-utf8-requires c κs = search needs
 returns : tie.Need-returns Inv-loop μ-loop
 returns c =
     let d = c .before .before in
-    runs-stop _ _ _ (turn (d .before .before) .loop .inv) _ (d .char-at .ensures)
-    (ap (testUtf8 _ _) (sym (d .char-at .ensures .properties)) ∙ sym (c .before .passes-utf8 .ensures) ∙ not-true _ (c .if2 .taken))
+    runs-stop _ _ _ (turn (d .before .before) .loop .inv) _ (d .char-near .ensures)
+    (ap (testUtf8 _ _) (sym (d .char-near .ensures .properties)) ∙ sym (c .before .passes-utf8 .ensures) ∙ not-true _ (c .if2 .taken))
 
 width-of-requires : tie.Need-width-of-requires Inv-loop μ-loop
 width-of-requires c κs = search needs
@@ -68,27 +68,27 @@ width-of-requires c κs = search needs
 along-requires : tie.Need-along-requires Inv-loop μ-loop
 along-requires c κs =
     let d = c .before .before .before in
-    runs-fit _ _ _ (turn (d .before .before) .loop .inv) _ (d .char-at .ensures) _ (rw (c .width-of .ensures) (width-most _))
+    runs-fit _ _ _ (turn (d .before .before) .loop .inv) _ (d .char-near .ensures) _ (rw (c .width-of .ensures) (width-most _))
 
 -- the reach after a turn
 after : (c : tie.After-along Inv-loop μ-loop)
     → let d = c .before .before .before .before in
-    c .along .result ≡ alongBy (d .char-at .result .len) (widthOf (d .char-at .result .properties)) (turn (d .before .before) .loop .reach)
+    c .along .result ≡ alongBy (d .char-near .result .char .len) (widthOf (d .char-near .result .char .properties)) (turn (d .before .before) .loop .reach)
 after c =
     let d = c .before .before .before .before in
     c .along .ensures
-    ∙ ap (λ (w : ℕ). alongBy (d .char-at .result .len) w (turn (d .before .before) .loop .reach)) (c .before .width-of .ensures)
+    ∙ ap (λ (w : ℕ). alongBy (d .char-near .result .char .len) w (turn (d .before .before) .loop .reach)) (c .before .width-of .ensures)
 
 loop-less-2 : tie.Need-loop-less-2 Inv-loop μ-loop
 loop-less-2 c =
     let d = c .before .before .before .before in
-    runs-fall _ _ _ (turn (d .before .before) .loop .inv) _ (d .char-at .ensures) _ (after c)
+    runs-fall _ _ _ (turn (d .before .before) .loop .inv) _ (d .char-near .ensures) _ (after c)
 
 loop-again-2 : tie.Need-loop-again-2 Inv-loop μ-loop
 loop-again-2 c =
     let d = c .before .before .before .before in
-    runs-on _ _ _ (turn (d .before .before) .loop .inv) _ (d .char-at .ensures)
-    (ap (testUtf8 _ _) (sym (d .char-at .ensures .properties))
+    runs-on _ _ _ (turn (d .before .before) .loop .inv) _ (d .char-near .ensures)
+    (ap (testUtf8 _ _) (sym (d .char-near .ensures .properties))
     ∙ sym (c .before .before .before .passes-utf8 .ensures)
     ∙ not-false _ (c .before .before .if2 .left))
     _ (after c)
@@ -108,7 +108,7 @@ run-utf8-spec =
     along-ascii-requires
     loop-less
     loop-again
-    char-at-requires
+    char-near-requires
     passes-utf8-requires
     returns
     width-of-requires
