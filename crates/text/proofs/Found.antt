@@ -1,4 +1,4 @@
--- The character that `char_at` and `char_near` come to, on plain values.
+-- The character that `char_at` and `run_utf8` come to, on plain values.
 --     ascii-is, read-is          an ASCII byte, with the properties that the code gives it; a character that is read, and looked up
 --     short, long                what stands where the lead byte says up to three bytes, or four
 -- Assumes nothing.
@@ -15,10 +15,10 @@ use Rattle.utf8.specs.CharsLaws.{at-char, rest-at, ascii-at}
 use Rattle.utf8.specs.declared.Read.the-variants as read
 use Rattle.property.specs.Table.{propertiesAt}
 use Rattle.property.specs.FitLaws.{FitTable}
-use Rattle.text.specs.Chars.{asciiChar, CharIs}
+use Rattle.text.specs.Ascii.{asciiProperties}
+use Rattle.text.specs.Chars.{CharIs}
 use Rattle.text.specs.CountLaws.{ascii-properties}
 use Rattle.text.specs.FollowLaws.{here}
-use Rattle.text.specs.declared.Char.{Char}
 
 module _ (s : List ℕ) (i : ℕ) (w : WellFormed (drop i s)) where
   pub read-is : (table : List ℕ) (c n p : ℕ) → readAt s i ≡ read.Char c n → p ≡ propertiesAt table c
@@ -26,8 +26,9 @@ module _ (s : List ℕ) (i : ℕ) (w : WellFormed (drop i s)) where
   read-is table c n p e f = record { at = at-char s i c n e; properties = f; well = rest-at s i c n w e }
 
   module _ (h : i < length s) where
-    pub ascii-is : (table : List ℕ) → FitTable table → getD s i 0 < 0x80 → (c : Char) → c ≡ asciiChar (getD s i 0) → CharIs s table i c
-    ascii-is table fit k c e = rw e (read-is table _ _ _ (ascii-at s i h k) (ascii-properties table fit _ k))
+    pub ascii-is : (table : List ℕ) → FitTable table → getD s i 0 < 0x80 → (p : ℕ) → p ≡ asciiProperties (getD s i 0)
+        → CharIs s table i (record { code = getD s i 0; len = 1; properties = p })
+    ascii-is table fit k p e = read-is table _ _ p (ascii-at s i h k) (e ∙ ascii-properties table fit _ k)
 
     -- by the length n that the lead byte says
     module _ (n : ℕ) (e : n ≡ seqLen (getD s i 0)) where

@@ -9,13 +9,8 @@ use Rattle.utf8.specs.Read.{readAt}
 use Rattle.utf8.specs.CharsLaws.{At}
 use Rattle.utf8.specs.declared.Read.the-variants as read
 use Rattle.property.specs.Table.{propertiesAt}
-use Rattle.text.specs.Ascii.{asciiProperties}
 use Rattle.text.specs.declared.Char.{Char}
 use Rattle.text.specs.declared.Decoded.{Decoded}
-
--- the ASCII character b
-abbrev pub asciiChar : ℕ → Char
-asciiChar b = record { code = b; len = 1; properties = asciiProperties b }
 
 -- the character c stands at the place i of s, with the table's properties; what follows it is well formed again
 pub record CharIs (s table : List ℕ) (i : ℕ) (c : Char) : Type 0 where

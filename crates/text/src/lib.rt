@@ -14,7 +14,7 @@ ghost use Rattle.text.specs.Tests.{isWhitespace, isBinaryDigit, isOctalD
 ghost use Rattle.text.specs.Ascii.{asciiProperties};
 ghost use Rattle.text.specs.Count.{countWhile, runTest};
 ghost use Rattle.text.specs.Stands.{Stands};
-ghost use Rattle.text.specs.Chars.{asciiChar, CharIs, DecodedIs, LenIs};
+ghost use Rattle.text.specs.Chars.{CharIs, DecodedIs, LenIs};
 use base::between;
 use position::Reach;
 
@@ -209,51 +209,13 @@ pub fn char_len(source: &[u8], at: usize) -> usize
     c.len
 }
 
-// An ASCII character. Its properties are the same in every fit table.
-fn ascii_char(b: u8) -> Char
-    ensures { λ r. ⌜ r ≡ asciiChar b ⌝ }
-{
-    Char {
-        code: b as u32,
-        len: 1,
-        properties: ascii_properties(b),
-    }
-}
-
-// The character at `at`, with its properties looked up.
-fn wide_char(source: &[u8], table: &[u32], at: usize) -> Char
-    requires { ⌜ WellFormed (drop at (now source)) × (at < length (now source)) ⌝ }
-    requires { ⌜ FitTable (now table) ⌝ }
-    ensures { λ r. ⌜ CharIs (now (source .entry)) (now (table .entry)) at r ⌝ }
-{
-    let c = decode(source, at);
-    Char {
-        code: c.code,
-        len: c.len,
-        properties: property::lookup(table, c.code),
-    }
-}
-
-// The character at `at`.
-pub fn char_at(source: &[u8], table: &[u32], at: usize) -> Char
-    requires { ⌜ WellFormed (drop at (now source)) × (at < length (now source)) ⌝ }
-    requires { ⌜ FitTable (now table) ⌝ }
-    ensures { λ r. ⌜ CharIs (now (source .entry)) (now (table .entry)) at r ⌝ }
-{
-    let b = source[at];
-    if b < 0x80 {
-        return ascii_char(b);
-    }
-    wide_char(source, table, at)
-}
-
 // A character, and the run to try first for the next one.
 struct Near {
     char: Char,
     run: usize,
 }
 
-// The character at `at`, with its properties looked up. The run `near` is tried first, which may be any number.
+// The character at `at`, with its properties looked up.
 fn wide_near(source: &[u8], table: &[u32], at: usize, near: usize) -> Near
     requires { ⌜ WellFormed (drop at (now source)) × (at < length (now source)) ⌝ }
     requires { ⌜ FitTable (now table) ⌝ }
@@ -267,12 +229,12 @@ fn wide_near(source: &[u8], table: &[u32], at: usize, near: usize) -> Near
             len: c.len,
             properties: property::properties_in(table, run),
         },
-        run: run,
+        run,
     }
 }
 
-// The character at `at`, as `char_at` gives it. In a name most characters are in the run of the one before, so that run is tried first.
-// It has one caller, so that LLVM inlines it there.
+// The character at `at`. The run `near` is tried first, which may be any number. It has two callers, so that LLVM inlines it in neither,
+// but inlines `run_utf8`.
 fn char_near(source: &[u8], table: &[u32], at: usize, near: usize) -> Near
     requires { ⌜ WellFormed (drop at (now source)) × (at < length (now source)) ⌝ }
     requires { ⌜ FitTable (now table) ⌝ }
@@ -281,11 +243,25 @@ fn char_near(source: &[u8], table: &[u32], at: usize, near: usize) -> Near
     let b = source[at];
     if b < 0x80 {
         return Near {
-            char: ascii_char(b),
+            char: Char {
+                code: b as u32,
+                len: 1,
+                properties: ascii_properties(b),
+            },
             run: near,
         };
     }
     wide_near(source, table, at, near)
+}
+
+// The character at `at`. No run is tried first: the count is no run's number.
+pub fn char_at(source: &[u8], table: &[u32], at: usize) -> Char
+    requires { ⌜ WellFormed (drop at (now source)) × (at < length (now source)) ⌝ }
+    requires { ⌜ FitTable (now table) ⌝ }
+    ensures { λ r. ⌜ CharIs (now (source .entry)) (now (table .entry)) at r ⌝ }
+{
+    let c = char_near(source, table, at, table.len());
+    c.char
 }
 
 fn is_line_end(code: u32) -> bool
@@ -333,6 +309,7 @@ pub fn run_utf8(source: &[u8], table: &[u32], start: Reach, test: u8) -> Reach
 {
     let mut reach = start;
     let mut i = reach.byte.0;
+    // The run of the last character that was looked up: in a name most others are in it too.
     let mut near = 0;
     while i < source.len() {
         if passes_at_once(test, source[i]) {
