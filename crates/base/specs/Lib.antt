@@ -2,5 +2,8 @@ pub mod Pick
 pub mod PickLaws
 pub mod Range
 pub mod RangeLaws
+pub mod All
+pub mod AllLaws
+pub mod ListLaws
 pub mod Cases
 pub mod Refusal

@@ -16,11 +16,11 @@ use lib.Seq.{drop-drop, take-append-seam, drop-append-seam}
 use borrow.Author.Tests.{eqb-true, ltb-true}
 use Rattle.base.specs.Pick.{pick}
 use Rattle.base.specs.PickLaws.{by-test}
+use Rattle.base.specs.AllLaws.{and-left, and-right}
 use Rattle.utf8.specs.Encode.{encode, encodeAll, Scalars, WellFormed}
 use Rattle.utf8.specs.EncodeLaws.{all-append}
 use Rattle.utf8.specs.Chars.{chars}
 use Rattle.utf8.specs.CharsLaws.{chars-well}
-use Rattle.property.specs.FitLaws.{and-left, and-right}
 use Rattle.cluster.specs.First.{firstSize, firstEnd}
 use Rattle.format.specs.Options.{noOptions, withWidth, withPrecision}
 use Rattle.format.specs.Parse.{start, alignment, minWidth, precision, type, end, noChar, peeked, lenUtf8, zeroDigit, isSign, consumeU32}

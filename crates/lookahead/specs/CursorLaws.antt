@@ -10,11 +10,10 @@
 use Prim.Native.Nat.{ℕ, _+_, _-_, _≤_, _<_}
 use native.Mathlib.Omega.{arith}
 use mathlib.Core.Path.{_≡_, refl, sym, ap, _∙_}
-use mathlib.Core.Bool.{Bool, true, false}
+use mathlib.Core.Bool.{true, false, false≢true}
 use lib.Dec.{ltb}
 use borrow.Author.Tests.{ltb-true, ltb-false, leb-true, lt-ltb, le-ltb, le-leb}
-use Rattle.base.specs.Pick.{pick}
-use Rattle.base.specs.PickLaws.{by-lt}
+use Rattle.base.specs.PickLaws.{by-lt, is-second}
 use Rattle.lookahead.specs.Cursor.{queueMost, fitBy, isFit, startCursor, lastPlace, recordAt, ahead}
 use Rattle.lookahead.specs.Next.{movedOn}
 use Rattle.lookahead.specs.Peek.{hasMore, queuedOne}
@@ -29,16 +28,12 @@ pub record Fits (room : ℕ) (c : Cursor) : Type 0 where
   pub queued : c .queued ≤ queueMost
   pub by-status : fitBy c (c .status) ≡ true
 
-unpick : (t x : Bool) → pick t false x ≡ true → (t ≡ false) × (x ≡ true)
-unpick true x e = let z : _≡_ {A = ℕ} 0 1 = cc in absurd (omega arith)
-unpick false x e = (refl, e)
-
 pub fits-of : (room : ℕ) (c : Cursor) → isFit room c ≡ true → Fits room c
 unfolding isFit
 fits-of room c e =
-    let a = unpick (ltb room (c .count)) _ e in
-    let b = unpick (ltb (c .count) (c .taken)) _ (a .1) in
-    let d = unpick (ltb queueMost (c .queued)) _ (b .1) in
+    let a = is-second (ltb room (c .count)) false _ true false≢true e in
+    let b = is-second (ltb (c .count) (c .taken)) false _ true false≢true (a .1) in
+    let d = is-second (ltb queueMost (c .queued)) false _ true false≢true (b .1) in
     record {
       count = ltb-false room (c .count) (a .0);
       taken = ltb-false (c .count) (c .taken) (b .0);

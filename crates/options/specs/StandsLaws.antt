@@ -7,12 +7,13 @@
 use Prim.Native.Nat.{ℕ, zero, suc, _+_, _-_, _≤_, _<_}
 use native.Mathlib.Omega.{arith}
 use mathlib.Core.Path.{_≡_, refl, sym, ap, subst, _∙_}
-use mathlib.Core.Bool.{Bool, true, false, _&&_, _||_}
+use mathlib.Core.Bool.{Bool, true, false, _||_}
 use mathlib.Core.List.{List, [], _∷_, _++_}
 use lib.ListN.{length, getD, take, drop, length-append}
 use borrow.Author.Tests.{eqb-true, eq-eqb, ne-eqb}
 use Rattle.base.specs.Pick.{pick}
 use Rattle.base.specs.PickLaws.{split-eq}
+use Rattle.base.specs.AllLaws.{and-left}
 use Rattle.utf8.specs.Encode.{encode, encodeAll, WellFormed}
 use Rattle.utf8.specs.EncodeLaws.{encode1, encode-some}
 use Rattle.utf8.specs.Chars.{chars}
@@ -69,10 +70,6 @@ one-byte (suc m) (c ∷ cs) a =
 either : {G : Type 0} (s t : Bool) → (s ≡ true → G) → (t ≡ true → G) → (s || t) ≡ true → G
 either true t f g e = f refl
 either false t f g e = g e
-
-and-left : (s t : Bool) → (s && t) ≡ true → s ≡ true
-and-left true t e = refl
-and-left false t e = e
 
 module _ (edition : ℕ) (look : ℕ → ℕ) where
   module _ (cs : List ℕ) where

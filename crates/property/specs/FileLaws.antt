@@ -9,16 +9,16 @@ use native.Mathlib.Omega.{arith}
 use native.Mathlib.Nat.{add-assoc}
 use mathlib.Core.Path.{_≡_, refl, sym, ap, _∙_}
 use mathlib.Core.List.{List, [], _∷_, _++_}
-use mathlib.Core.Bool.{Bool, true, false}
 use lib.Dec.{ltb}
 use lib.ListN.{length, getD, take, drop, length-drop, take-append-drop, List·getD-append}
-use lib.Seq.{getD-drop, getD-take, drop-cons, ext-getD, length-take-le}
+use lib.Seq.{getD-drop, drop-cons}
 use borrow.Author.Tests.{lt-ltb, le-ltb, eq-eqb, ltb-false, eqb-true}
-use Rattle.base.specs.Pick.{pick}
+use Rattle.base.specs.PickLaws.{is-second}
+use Rattle.base.specs.AllLaws.{and-right}
+use Rattle.base.specs.ListLaws.{same-start}
 use Rattle.property.specs.First.{firstBad}
 use Rattle.property.specs.FirstLaws.{none-bad, good-before}
 use Rattle.property.specs.Fit.{tableCheck}
-use Rattle.property.specs.FitLaws.{and-right}
 use Rattle.property.specs.File.{mark, bytes16, bytes32, numberBytes, fileOf, markOk, number32, countOf, numbersIn, numbersOf, endOf, onFit, readTable, ReadTableIs, numberOf}
 use Rattle.property.specs.declared.table.TableCheck.{TableCheck}
 use Rattle.property.specs.declared.table.TableCheck.the-variants as table
@@ -140,11 +140,6 @@ bytes-back (suc n) (a ∷ b ∷ c ∷ d ∷ l) small e =
     ap (λ (k : List ℕ). k ++ numberBytes (numbersIn n l)) (four a b c d (small 0) (small 1) (small 2))
     ∙ ap (λ (k : List ℕ). a ∷ b ∷ c ∷ d ∷ k) (bytes-back n l (λ i. small (suc (suc (suc (suc i))))) (omega arith))
 
--- a test that would have refused was false
-read-on : (t : Bool) (a b : TableFile) (n : ℕ) → (numberOf a ≡ 0 → ⊥) → pick t a b ≡ Read n → (t ≡ false) × (b ≡ Read n)
-read-on true a b n h e = absurd (h (ap numberOf e))
-read-on false a b n h e = (refl, e)
-
 read-fit : (a : TableCheck) (m n : ℕ) → onFit a (Read m) ≡ Read n → (a ≡ table.Fit) × (m ≡ n)
 read-fit table.Fit m n e = (refl, cc)
 read-fit (table.BadTable i) m n e = absurd (let z : _≡_ {A = ℕ} 0 1 = cc in omega arith)
@@ -159,11 +154,8 @@ module _ (file : List ℕ) (small : Bytes file) where
   front : 6 ≤ firstBad (markOk file) 0 6 → 6 ≤ length file → take 6 file ≡ mark
   unfolding markOk mark
   front m h =
-      ext-getD 0 (take 6 file) mark (length-take-le 6 file h)
-      (λ i l.
-      let k : i < 6 = omega (arith, length-take-le 6 file h) in
-      getD-take 6 file i 0 k
-      ∙ eqb-true _ _ (and-right (ltb i (length file)) _ (good-before (markOk file) 0 6 i (omega arith) (omega arith))))
+      same-start 6 file mark h (omega arith)
+      (λ i k. eqb-true _ _ (and-right (ltb i (length file)) _ (good-before (markOk file) 0 6 i (omega arith) (omega arith))))
 
   back : length file ≡ endOf file → drop 6 file ≡ bytes16 (length (numbersOf file)) ++ numberBytes (numbersOf file)
   back e =
@@ -185,11 +177,11 @@ module _ (file : List ℕ) (small : Bytes file) where
   pub file-of-read : (room n : ℕ) → readTable file room ≡ Read n → FileRead file room n
   unfolding readTable
   file-of-read room n e =
-      let p = read-on (ltb (firstBad (markOk file) 0 6) 6) _ _ n (λ z. omega arith) e in
-      let q = read-on (ltb (length file) 8) _ _ n (λ z. omega arith) (p .1) in
-      let r = read-on (ltb (length file) (endOf file)) _ _ n (λ z. omega arith) (q .1) in
-      let s = read-on (ltb (endOf file) (length file)) _ _ n (λ z. omega arith) (r .1) in
-      let t = read-on (ltb room (countOf file)) _ _ n (λ z. omega arith) (s .1) in
+      let p = is-second (ltb (firstBad (markOk file) 0 6) 6) _ _ (Read n) (λ z. omega (arith, ap numberOf z)) e in
+      let q = is-second (ltb (length file) 8) _ _ (Read n) (λ z. omega (arith, ap numberOf z)) (p .1) in
+      let r = is-second (ltb (length file) (endOf file)) _ _ (Read n) (λ z. omega (arith, ap numberOf z)) (q .1) in
+      let s = is-second (ltb (endOf file) (length file)) _ _ (Read n) (λ z. omega (arith, ap numberOf z)) (r .1) in
+      let t = is-second (ltb room (countOf file)) _ _ (Read n) (λ z. omega (arith, ap numberOf z)) (s .1) in
       let u = read-fit (tableCheck (numbersOf file)) _ n (t .1) in
       let low : endOf file ≤ length file = ltb-false _ _ (r .0) in
       let high : length file ≤ endOf file = ltb-false _ _ (s .0) in

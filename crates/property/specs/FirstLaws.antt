@@ -1,14 +1,17 @@
 -- Laws of `firstBad`.
 --     good-before, bad-there, at-most    what the answer is: the test holds before it, fails at it, and it is at most the end
 --     is-first, none-bad, some-bad       the converse: what makes a number the answer, or the end, or neither the end nor past it
+--     all-good                           a test that holds at each number: the end is the answer
 --     Going, start, next, here, done     a loop that tries one number after the other: what it keeps, a turn, the two ends
 -- Assumes nothing.
 use Prim.Native.Nat.{ℕ, zero, suc, _+_, _-_, _<_, _≤_}
 use native.Mathlib.Omega.{arith}
 use native.Mathlib.Numerals.{add-one}
-use mathlib.Core.Path.{_≡_, sym}
+use mathlib.Core.Path.{_≡_, sym, _∙_}
 use mathlib.Core.Bool.{Bool, true, false}
 use Rattle.base.specs.PickLaws.{by-test, split-lt, split-eq}
+use Rattle.base.specs.All.{allGood}
+use Rattle.base.specs.AllLaws.{good-at}
 use Rattle.property.specs.First.{firstBad}
 
 module _ (ok : ℕ → Bool) where
@@ -37,6 +40,9 @@ module _ (ok : ℕ → Bool) where
   none-bad i (suc n) good =
       rw (good i (omega arith) (omega arith))
       (omega (arith, none-bad (suc i) n (λ k h l. good k (omega arith) (omega arith))))
+
+  pub all-good : (n : ℕ) → allGood ok n ≡ true → firstBad ok 0 n ≡ n
+  all-good n e = none-bad 0 n (λ k _ h. good-at ok n k (omega arith) e) ∙ omega arith
 
   pub some-bad : (i n k : ℕ) → i ≤ k → k < i + n → ok k ≡ false → firstBad ok i n < i + n
   some-bad i n k h l bad =

@@ -7,41 +7,30 @@
 -- Assumes nothing.
 use Prim.Native.Nat.{ℕ, zero, suc, _-_, _<_, _≤_}
 use native.Mathlib.Omega.{arith}
-use mathlib.Core.Path.{_≡_, refl, _∙_}
+use mathlib.Core.Path.{_≡_, refl, ap, _∙_}
 use mathlib.Core.List.{List}
-use mathlib.Core.Bool.{Bool, true, false, _&&_}
+use mathlib.Core.Bool.{Bool, true, false}
 use lib.Dec.{ltb, leb, eqb·suc-zero}
 use lib.ListN.{length, getD}
 use borrow.Author.Tests.{eqb-true, ltb-true, ltb-false, leb-true, eq-eqb, ne-eqb, lt-ltb, le-ltb}
 use Rattle.base.specs.Pick.{pick}
-use Rattle.base.specs.PickLaws.{split-eq}
+use Rattle.base.specs.PickLaws.{split-eq, is-second}
+use Rattle.base.specs.AllLaws.{and-left, and-right}
 use Rattle.property.specs.Parts.{propertiesOf, xidStart, xidContinue, classOf}
 use Rattle.property.specs.Table.{propertiesAt, startAt, Rises}
 use Rattle.property.specs.TableLaws.{of-runs}
 use Rattle.property.specs.Small.{smallTable}
 use Rattle.property.specs.First.{firstBad}
 use Rattle.property.specs.FirstLaws.{good-before, none-bad, some-bad, is-first}
-use Rattle.property.specs.Fit.{startOk, propertiesOk, runOk, asciiOk, countOk, tableCheck}
+use Rattle.property.specs.Fit.{startOk, propertiesOk, runOk, asciiOk, countOk, tableCheck, numberOf}
 use Rattle.property.specs.declared.table.TableCheck.{TableCheck}
 use Rattle.property.specs.declared.table.TableCheck.the-variants.{Fit, BadTable}
 
 -- ---- tests that passed
 
-pub and-left : (a b : Bool) → (a && b) ≡ true → a ≡ true
-and-left true b e = refl
-and-left false b e = e
-
-pub and-right : (a b : Bool) → (a && b) ≡ true → b ≡ true
-and-right true b e = e
-and-right false b e = absurd (let z : _≡_ {A = ℕ} 0 1 = cc in omega arith)
-
 passed : (t : Bool) (r : TableCheck) (i : ℕ) → pick t r (BadTable i) ≡ Fit → (t ≡ true) × (r ≡ Fit)
 passed true r i e = (refl, e)
 passed false r i e = absurd (let z : _≡_ {A = ℕ} 0 1 = cc in omega arith)
-
-not-refused : (t : Bool) (r : TableCheck) (i : ℕ) → pick t (BadTable i) r ≡ Fit → (t ≡ false) × (r ≡ Fit)
-not-refused true r i e = absurd (let z : _≡_ {A = ℕ} 0 1 = cc in omega arith)
-not-refused false r i e = (refl, e)
 
 -- ---- the run rules, at every run
 
@@ -94,8 +83,8 @@ module _ (table : List ℕ) where
   fit-of e =
       let count = length table in
       let p = passed (countOk count) _ _ e in
-      let q = not-refused (ltb (firstBad (runOk table) 0 count) count) _ _ (p .1) in
-      let a = not-refused (ltb (firstBad (asciiOk table) 0 128) 128) _ _ (q .1) in
+      let q = is-second (ltb (firstBad (runOk table) 0 count) count) _ _ Fit (λ z. omega (arith, ap numberOf z)) (p .1) in
+      let a = is-second (ltb (firstBad (asciiOk table) 0 128) 128) _ _ Fit (λ z. omega (arith, ap numberOf z)) (q .1) in
       let all : 128 ≤ firstBad (asciiOk table) 0 128 = ltb-false _ _ (a .0) in
       let runs : RunsOk table = runs-done table (ltb-false _ _ (q .0)) in
       record {

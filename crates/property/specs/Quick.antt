@@ -1,14 +1,14 @@
--- What the quick tests of a table ask (`QuickLaws` has what they settle). No public contract cites them.
+-- What the quick tests of a table ask (`QuickLaws` has what they settle, and `has-code` of `TableLaws`). No public contract cites them.
 -- Assumes nothing.
 use Prim.Native.Nat.{ℕ, _+_}
 use mathlib.Core.List.{List}
 use mathlib.Core.Bool.{Bool, _&&_, _||_}
 use lib.Dec.{ltb, leb, eqb}
 use lib.ListN.{length, getD}
+use Rattle.base.specs.All.{allGood}
 use Rattle.property.specs.Parts.{propertiesOf}
 use Rattle.property.specs.Table.{startAt}
 use Rattle.property.specs.Small.{smallTable}
-use Rattle.property.specs.First.{allGood}
 use Rattle.property.specs.Fit.{startOk, propertiesOk, asciiCount}
 
 -- the run k has the code point c, by its own start and the next one's

@@ -1,56 +1,30 @@
 -- What the quick tests of a table settle.
---     has-code                   a run has a code point by its own start and the next one's
---     one-more, all-good         a test that holds at each number: at one number more; none is bad
 --     unless                     a rule that is asked only where another test holds, without a branch
 --     run-parts                  the run rules are `followsOk` and a start at most at the last code point
 --     Quick, quick-first, quick-next, quick-done    a loop over the runs: what it keeps, after the first run, after one more, at the end
 --     small-next, no-bad-ascii   the small table's first run above 127; a table that begins as it does agrees with it on 0 to 127
 -- Assumes nothing.
-use Prim.Native.Nat.{ℕ, zero, suc, _+_, _-_, _<_, _≤_}
+use Prim.Native.Nat.{ℕ, _+_, _-_, _<_, _≤_}
 use native.Mathlib.Omega.{arith}
-use native.Mathlib.Numerals.{add-one}
 use mathlib.Core.Path.{_≡_, refl, sym, ap, _∙_}
 use mathlib.Core.List.{List}
 use mathlib.Core.Bool.{Bool, true, false, not, _&&_, _||_, and-assoc, and-comm}
-use lib.Dec.{ltb, leb, eqb}
+use lib.Dec.{ltb, leb}
 use lib.ListN.{length, getD, take}
-use lib.Seq.{ext-getD, getD-take, length-take-le}
 use borrow.Author.Tests.{eq-eqb, ne-eqb, eqb-true, ltb-true, leb-true, le-leb}
 use Rattle.base.specs.Pick.{pick}
-use Rattle.base.specs.PickLaws.{split-eq}
+use Rattle.base.specs.All.{allGood}
+use Rattle.base.specs.AllLaws.{and-left, and-right, one-more, good-at}
+use Rattle.base.specs.ListLaws.{same-start}
 use Rattle.property.specs.Parts.{propertiesOf}
-use Rattle.property.specs.Table.{lastFrom, propertiesAt, startAt, HasRun, Rises}
-use Rattle.property.specs.TableLaws.{all-above, in-run, first-runs}
+use Rattle.property.specs.Table.{lastFrom, propertiesAt, startAt, Rises}
+use Rattle.property.specs.TableLaws.{all-above, first-runs}
 use Rattle.property.specs.Small.{smallTable}
 use Rattle.property.specs.SmallLaws.{small-is-fit}
-use Rattle.property.specs.First.{firstBad, allGood}
+use Rattle.property.specs.First.{firstBad}
 use Rattle.property.specs.FirstLaws.{none-bad}
 use Rattle.property.specs.Fit.{startOk, propertiesOk, runOk, asciiOk, startMost}
-use Rattle.property.specs.FitLaws.{and-left, and-right}
-use Rattle.property.specs.Quick.{hasCode, followsOk, smallAt, beginsAsSmall}
-
-pub has-code : (table : List ℕ) (c k : ℕ) → Rises table → hasCode table c k ≡ true → HasRun table c k
-unfolding hasCode
-has-code table c k r e =
-    let starts = and-right (ltb k (length table)) _ e in
-    let ends = and-right (leb (startAt table k) c) _ starts in
-    in-run table c k r (ltb-true k (length table) (and-left (ltb k (length table)) _ e))
-    (leb-true (startAt table k) c (and-left (leb (startAt table k) c) _ starts))
-    (λ h. ltb-true c (startAt table (k + 1)) (rw (ne-eqb (k + 1) (length table) (λ q. omega arith)) at ends))
-
-module _ (ok : ℕ → Bool) where
-  pub one-more : (n : ℕ) → allGood ok (n + 1) ≡ (allGood ok n && ok n)
-  unfolding allGood
-  one-more n = rw (add-one n)
-
-  good-at : (n k : ℕ) → k < n → allGood ok n ≡ true → ok k ≡ true
-  unfolding allGood
-  good-at zero k h e = absurd (omega arith)
-  good-at (suc n) k h e =
-      split-eq k n (λ q. rw q (and-right (allGood ok n) (ok n) e)) (λ q. good-at n k (omega arith) (and-left (allGood ok n) _ e))
-
-  pub all-good : (n : ℕ) → allGood ok n ≡ true → firstBad ok 0 n ≡ n
-  all-good n e = none-bad ok 0 n (λ k _ h. good-at n k (omega arith) e) ∙ omega arith
+use Rattle.property.specs.Quick.{followsOk, smallAt, beginsAsSmall}
 
 -- ---- the run rules
 
@@ -128,10 +102,7 @@ module _ (table : List ℕ) (begins : beginsAsSmall table ≡ true) where
       let long : 15 ≤ length table = omega (arith, ltb-true 15 (length table) (and-left (ltb 15 (length table)) _ begins)) in
       let small : 15 ≤ length smallTable = omega (arith, small-next) in
       let good = and-left (allGood (smallAt table) 15) _ (and-right (ltb 15 (length table)) _ begins) in
-      ext-getD 0 (take 15 table) (take 15 smallTable) (length-take-le 15 table long ∙ sym (length-take-le 15 smallTable small))
-      (λ k l.
-      let h : k < 15 = omega (arith, length-take-le 15 table long) in
-      getD-take 15 table k 0 h ∙ eqb-true _ _ (good-at (smallAt table) 15 k h good) ∙ sym (getD-take 15 smallTable k 0 h))
+      same-start 15 table smallTable long small (λ k h. eqb-true _ _ (good-at (smallAt table) 15 k h good))
 
   next-above : 128 ≤ startAt table 15
   unfolding beginsAsSmall

@@ -2,6 +2,7 @@
 --     run-properties        the answer is that of the run that has the code point
 --     one-run               no second run has it
 --     all-above, in-run     where starts rise: a run that starts above the code point, and all after it; a run has it by its start and the next
+--     has-code              where starts rise, a run has the code point by the tests that `hasCode` makes
 --     first-runs            where all later runs start above the code point, the first n give the answer
 --     of-runs               what holds of every run's properties, and of 0, holds of every code point's
 --     properties-below, width-most    bounds that every list keeps
@@ -10,12 +11,15 @@ use Prim.Native.Nat.{ℕ, zero, suc, _+_, _<_, _≤_}
 use native.Mathlib.Omega.{arith}
 use mathlib.Core.Path.{_≡_, refl}
 use mathlib.Core.List.{List, [], _∷_}
-use lib.Dec.{ltb}
+use mathlib.Core.Bool.{true}
+use lib.Dec.{ltb, leb}
 use lib.ListN.{length, getD, take}
-use borrow.Author.Tests.{lt-ltb, le-ltb}
+use borrow.Author.Tests.{ltb-true, leb-true, lt-ltb, le-ltb, ne-eqb}
 use Rattle.base.specs.PickLaws.{by-test, split-lt, split-eq}
+use Rattle.base.specs.AllLaws.{and-left, and-right}
 use Rattle.property.specs.Parts.{startOf, propertiesOf, widthOf}
 use Rattle.property.specs.Table.{lastFrom, propertiesAt, startAt, HasRun, Rises}
+use Rattle.property.specs.Quick.{hasCode}
 
 -- no run starts at c or before
 none-more : (p : ℕ) (l : List ℕ) (c : ℕ) → ((j : ℕ) → j < length l → c < startAt l j) → lastFrom p l c ≡ p
@@ -58,6 +62,15 @@ module _ (table : List ℕ) (c : ℕ) where
       → HasRun table c k
   in-run k r h low high =
       record { within = h; low = low; above = λ j i m. all-above (k + 1) r (high (omega arith)) j (omega arith) m }
+
+  pub has-code : (k : ℕ) → Rises table → hasCode table c k ≡ true → HasRun table c k
+  unfolding hasCode
+  has-code k r e =
+      let starts = and-right (ltb k (length table)) _ e in
+      let ends = and-right (leb (startAt table k) c) _ starts in
+      in-run k r (ltb-true k (length table) (and-left (ltb k (length table)) _ e))
+      (leb-true (startAt table k) c (and-left (leb (startAt table k) c) _ starts))
+      (λ h. ltb-true c (startAt table (k + 1)) (rw (ne-eqb (k + 1) (length table) (λ q. omega arith)) at ends))
 
 module _ (P : ℕ → Type 0) where
   of-runs-from :

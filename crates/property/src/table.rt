@@ -6,10 +6,11 @@ ghost use mathlib.Core.Path.{_≡_};
 ghost use Prim.Native.Nat.{_<_};
 ghost use lib.Dec.{leb};
 ghost use lib.ListN.{length, getD};
+ghost use Rattle.base.specs.All.{allGood};
 ghost use Rattle.property.specs.Parts.{startOf, propertiesOf};
 ghost use Rattle.property.specs.Table.{propertiesAt, Rises, HasRun};
 ghost use Rattle.property.specs.Small.{smallTable};
-ghost use Rattle.property.specs.First.{firstBad, allGood};
+ghost use Rattle.property.specs.First.{firstBad};
 ghost use Rattle.property.specs.Fit.{startOk, propertiesOk, runOk, startMost, asciiOk, tableCheck};
 ghost use Rattle.property.specs.Quick.{hasCode, followsOk, beginsAsSmall};
 

@@ -2,12 +2,13 @@
 --     no-entry, no-byte, put-one    the next string is passed over, since no entry is free or the bytes end before, or is put
 -- Assumes nothing.
 use Prim.Native.Nat.{ℕ, _+_, _-_, _*_, _/_, _<_, _≤_}
-use mathlib.Core.Path.{_≡_, refl, sym, ap, _∙_}
+use mathlib.Core.Path.{_≡_, ap, _∙_}
 use mathlib.Core.List.{List, [], _++_, append-nil}
 use native.Mathlib.Omega.{arith}
 use lib.ListN.{length, take, drop, set, length-drop}
-use lib.Seq.{take-all, drop-drop, drop-length}
+use lib.Seq.{drop-drop, drop-length}
 use borrow.Author.Tests.{lt-ltb, le-ltb, le-leb, lt-leb}
+use Rattle.base.specs.ListLaws.{rest-all}
 use Rattle.lines.specs.Fields.{bytesAt, HexIs}
 use Rattle.pool.specs.Pool.{written}
 use Rattle.replay_format.specs.Pools.{rowsOf, nextField, putNext}
@@ -15,9 +16,6 @@ use Rattle.replay_format.specs.declared.pools.Loaded.{Loaded}
 
 -- the bytes from `start` on, filled in front with what hex digits say, are the row with that string written there
 module _ (text : List ℕ) (at : ℕ) (bytes : List ℕ) (start : ℕ) (h : start ≤ length bytes) where
-  whole : take (length bytes - start) (drop start bytes) ≡ drop start bytes
-  whole = take-all (length bytes - start) (drop start bytes) (rw length-drop (omega arith))
-
   behind : drop (length bytes - start) (drop start bytes) ≡ []
   behind =
       let e : start + (length bytes - start) ≡ length bytes = omega arith in
@@ -25,7 +23,7 @@ module _ (text : List ℕ) (at : ℕ) (bytes : List ℕ) (start : ℕ) (h : star
 
   module _ (new : List ℕ) (r : ℕ) (is : HexIs text at (take (length bytes - start) (drop start bytes)) new r) where
     filled : HexIs text at (drop start bytes) new r
-    filled = rw whole at is
+    filled = rw (rest-all bytes start) at is
 
     long-is : r ≡ length (bytesAt (length bytes - start) text at)
     long-is = filled .answer ∙ ap (λ (k : ℕ). length (bytesAt k text at)) (length-drop start bytes)

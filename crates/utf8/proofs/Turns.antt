@@ -10,9 +10,10 @@ use mathlib.Core.Path.{_≡_, refl, sym, ap, subst, _∙_}
 use mathlib.Core.List.{List}
 use mathlib.Core.Bool.{Bool, true}
 use lib.ListN.{length, getD, take, drop, length-drop}
-use lib.Seq.{take-all, getD-drop}
+use lib.Seq.{getD-drop}
 use lib.Dec.{eqb}
 use borrow.Author.Tests.{eqb-true}
+use Rattle.base.specs.ListLaws.{rest-all}
 use Rattle.utf8.specs.Read.{seqLen, decodeHead, readAt}
 use Rattle.utf8.specs.Lengths.{lenOf}
 use Rattle.utf8.specs.LengthsLaws.{one-len}
@@ -26,12 +27,8 @@ pub record Going (s : List ℕ) (i : ℕ) : Type 0 where
   pub rest : checkFrom i (drop i s) ≡ checkFrom 0 s
 
 module _ (s : List ℕ) (i : ℕ) where
-  -- the part from the place on is what is left
-  part : take (length s - i) (drop i s) ≡ drop i s
-  part = take-all (length s - i) (drop i s) (omega (arith, length-drop i s))
-
   pub measured : (m : ℕ) (t : Bool) → t ≡ eqb (lenOf (decodeHead (take (length s - i) (drop i s)))) m → t ≡ true → m ≡ lenOf (readAt s i)
-  measured m t e f = sym (eqb-true _ m (sym e ∙ f)) ∙ ap (λ (l : List ℕ). lenOf (decodeHead l)) part
+  measured m t e f = sym (eqb-true _ m (sym e ∙ f)) ∙ ap (λ (l : List ℕ). lenOf (decodeHead l)) (rest-all s i)
 
   pub single : (n : ℕ) → i < length s → n ≡ seqLen (getD s i 0) → n ≡ 1 → 1 ≡ lenOf (readAt s i)
   single n h e f =

@@ -1,11 +1,10 @@
 -- `replay_step::is_whole` meets its contract: a byte inside a character, or bytes that are well formed. Assumes nothing.
 use borrow.Author.Needs.{needs}
-use Prim.Native.Nat.{ℕ, _-_}
+use Prim.Native.Nat.{ℕ}
 use native.Mathlib.Omega.{arith}
 use mathlib.Core.Path.{_≡_, sym, subst, _∙_}
-use lib.ListN.{length, drop, length-drop}
-use lib.Seq.{take-all}
 use denote.Ref.{now}
+use Rattle.base.specs.ListLaws.{rest-all}
 use Rattle.utf8.specs.Encode.{WellFormed}
 use Rattle.utf8.specs.CharsLaws.{well-of-fine}
 use Rattle.replay_step.proofs.Ready.{never, tail-is}
@@ -45,8 +44,7 @@ returns-2 : tie.Need-returns-2
 returns-2 c =
     λ e f.
     let start = c .before .before .before .before .before .before in
-    let s = now (start .args .source) in
-    subst WellFormed (take-all (length s - start .args .at) (drop (start .args .at) s) (rw length-drop (omega arith)))
+    subst WellFormed (rest-all (now (start .args .source)) (start .args .at))
     (well-of-fine 0 _ (sym (c .before .before .check-utf8 .ensures) ∙ c .enum-told .given .1))
 
 returns-3 : tie.Need-returns-3

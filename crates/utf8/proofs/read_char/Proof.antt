@@ -1,11 +1,8 @@
 -- `utf8::read_char` meets its contract: past the end nothing is left, and else the part from the place on is what is left.
 -- Assumes nothing.
-use native.Mathlib.Omega.{arith}
-use Prim.Native.Nat.{_-_}
 use mathlib.Core.Path.{sym, ap, _∙_}
-use lib.ListN.{length, drop, length-drop}
 use denote.Ref.{now}
-use lib.Seq.{take-all}
+use Rattle.base.specs.ListLaws.{rest-all}
 use Rattle.utf8.specs.Read.{decodeHead}
 use Rattle.utf8.specs.CharsLaws.{end-cut}
 use borrow.Author.Needs.{needs}
@@ -30,9 +27,7 @@ read-head-requires c κs = search needs
 returns-2 : tie.Need-returns-2
 returns-2 c =
     let start = c .before .before .before .before in
-    let s = now (start .args .s) in
-    let at = start .args .at in
-    c .read-head .ensures ∙ ap decodeHead (take-all (length s - at) (drop at s) (omega (arith, length-drop at s)))
+    c .read-head .ensures ∙ ap decodeHead (rest-all (now (start .args .s)) (start .args .at))
 
 pub read-char-spec : {M : Type 1} → statement M
 read-char-spec =

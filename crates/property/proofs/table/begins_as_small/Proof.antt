@@ -6,9 +6,10 @@ use native.Mathlib.Omega.{arith}
 use mathlib.Core.Path.{_≡_, refl, ap}
 use lib.ListN.{length}
 use borrow.Author.Tests.{lt-ltb, le-ltb}
-use Rattle.property.specs.First.{allGood}
+use Rattle.base.specs.All.{allGood}
+use Rattle.base.specs.AllLaws.{one-more}
 use Rattle.property.specs.Quick.{smallAt, beginsAsSmall}
-use Rattle.property.specs.QuickLaws.{one-more, small-next}
+use Rattle.property.specs.QuickLaws.{small-next}
 use Rattle.property.proofs.table.begins_as_small.Statement.{statement}
 use Rattle.property.proofs.table.begins_as_small.Tie as tie
 

@@ -7,8 +7,7 @@ use mathlib.Core.Path.{sym, _∙_}
 use borrow.Author.Tests.{not-true, not-false}
 use lib.ListN.{length}
 use Rattle.property.specs.Fit.{runOk}
-use Rattle.property.specs.FirstLaws.{Going, start, next, here, done}
-use Rattle.property.specs.QuickLaws.{all-good}
+use Rattle.property.specs.FirstLaws.{all-good, Going, start, next, here, done}
 use Rattle.property.proofs.table.first_bad_run.Statement.{statement}
 use Rattle.property.proofs.table.first_bad_run.Tie as tie
 

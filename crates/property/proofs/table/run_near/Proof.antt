@@ -1,7 +1,7 @@
 -- `property::run_near` meets its contract: the run that is tried has the code point, or halving finds the run. Assumes nothing.
 use borrow.Author.Needs.{needs}
 use mathlib.Core.Path.{sym, _∙_}
-use Rattle.property.specs.QuickLaws.{has-code}
+use Rattle.property.specs.TableLaws.{has-code}
 use Rattle.property.proofs.table.run_near.Statement.{statement}
 use Rattle.property.proofs.table.run_near.Tie as tie
 
