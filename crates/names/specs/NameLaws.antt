@@ -1,6 +1,7 @@
 -- Laws of the definitions of names, keywords and the start of raw strings at a place of the bytes, where the code stands. Where a law
 -- takes a reach q that is the lexer's, the code has asked the lexer for it.
 --     raw-start-at, raw-small, raw-delimiter    `parseRawStringStart` by the byte after the hashes; a delimiter is below 512
+--     len-there, ascii-len             how long the first character of a name is
 --     name-end-at, name-goes           one step of `nameEnd`; where it ends stands in the source, further on
 --     left-at                          the bytes that are left
 --     keyword-at, name-token-at, raw-opens, raw-not    the definition by what the code asks for
@@ -23,7 +24,8 @@ use Rattle.base.specs.Cases.{pick-yes, pick-no}
 use Rattle.position.specs.Place.{alongBy}
 use Rattle.position.specs.declared.Reach.{Reach}
 use Rattle.utf8.specs.Chars.{chars}
-use Rattle.utf8.specs.CharsLaws.{At, chars-well}
+use Rattle.utf8.specs.Encode.{WellFormed}
+use Rattle.utf8.specs.CharsLaws.{At, chars-well, rest-at}
 use Rattle.token.specs.Kind.{id, dot, else, elseIf}
 use Rattle.words.specs.Words.{isWord, startsWith, keywordOf, elseWord, elseIfWord, rWord}
 use Rattle.words.specs.WordsLaws.{starts-within}
@@ -32,7 +34,8 @@ use Rattle.text.specs.Tests.{doubleQuote, singleQuote, testOf, testUtf8Of}
 use Rattle.text.specs.Count.{lenUtf8, countWhile, runTest}
 use Rattle.text.specs.Follow.{nextIs}
 use Rattle.text.specs.Stands.{Stands, charsFrom}
-use Rattle.text.specs.FollowLaws.{here, next-is}
+use Rattle.text.specs.Chars.{LenIs}
+use Rattle.text.specs.FollowLaws.{here, next-is, ascii-read, ascii-head}
 use Rattle.text.specs.CountLaws.{skip-run, along-stands, run-stands}
 use Rattle.state.specs.Lexer.{reachOf, tokenOf, tokenTo}
 use Rattle.state.specs.declared.Lexer.{Lexer}
@@ -70,6 +73,14 @@ raw-delimiter cs e = subst Small e (raw-small cs)
 
 pub stands-there : {s : List ℕ} {q r : Reach} → q ≡ r → Stands s r → Stands s q
 stands-there {s} e o = subst (Stands s) (sym e) o
+
+-- a character of that length stands at a reach that is the same
+pub len-there : {s : List ℕ} {q r : Reach} {n : ℕ} → q ≡ r → LenIs s (q .byte .0) n → LenIs s (r .byte .0) n
+len-there {s} {q} {r} {n} e d = subst (λ (x : Reach). LenIs s (x .byte .0) n) e d
+
+-- an ASCII character has one byte
+pub ascii-len : {s : List ℕ} {i : ℕ} (d : ℕ) → WellFormed (drop i s) → byteAt s i ≡ d → d < 128 → LenIs s i 1
+ascii-len {s} {i} d w e h = record { code = d; at = ascii-head s i d e h; well = rest-at s i d 1 w (ascii-read s i d e h) }
 
 -- the run after the first character, from where it ends
 pub name-end-at : (look : ℕ → ℕ) (s : List ℕ) (l : Lexer) {q r : Reach} {c n : ℕ} → q ≡ reachOf l → At s (q .byte .0) c n → r ≡ alongBy n 1 q

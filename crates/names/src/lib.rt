@@ -10,6 +10,7 @@ ghost use Rattle.property.specs.Table.{propertiesAt};
 ghost use Rattle.property.specs.FitLaws.{FitTable};
 ghost use Rattle.text.specs.Bytes.{byteAt};
 ghost use Rattle.text.specs.Tests.{isDigit};
+ghost use Rattle.text.specs.Chars.{LenIs};
 ghost use Rattle.text.specs.Stands.{Stands, charsFrom};
 ghost use Rattle.state.specs.Lexer.{reachOf};
 ghost use Rattle.names.specs.Places.{PlaceIn, GoesOn};
@@ -264,14 +265,12 @@ fn name_token(source: &[u8], lexer: Lexer, end: Reach) -> Taken
     }
 }
 
-// How far the name at the lexer's place reaches: the first character counts one column, the others their width.
-fn name_end(source: &[u8], table: &[u32], lexer: Lexer) -> Reach
-    requires { ⌜ Stands (now source) (reachOf lexer) × FitTable (now table) ⌝ }
-    requires { ⌜ (reachOf lexer .byte .0 < length (now source)) ⌝ }
+// How far the name at the lexer's place reaches. Its first character, of `len` bytes, counts one column, the others their width.
+fn name_end(source: &[u8], table: &[u32], lexer: Lexer, len: usize) -> Reach
+    requires { ⌜ Stands (now source) (reachOf lexer) × FitTable (now table) × LenIs (now source) (reachOf lexer .byte .0) len ⌝ }
     ensures { λ r. ⌜ r ≡ nameEnd (propertiesAt (now (table .entry))) (charsFrom (now (source .entry)) (reachOf lexer)) lexer ⌝ }
 {
     let reach = lexer.reach();
-    let len = text::char_len(source, reach.byte.0);
     text::run_utf8(source, table, reach.along(len, 1), text::ID_CONTINUE)
 }
 
@@ -281,14 +280,16 @@ pub fn consume_id_or_keyword(source: &[u8], table: &[u32], lexer: Lexer) -> Take
     requires { ⌜ (reachOf lexer .byte .0 < length (now source)) ⌝ }
     ensures { λ r. ⌜ r ≡ consumeIdOrKeyword (propertiesAt (now (table .entry))) (charsFrom (now (source .entry)) (reachOf lexer)) lexer ⌝ }
 {
-    name_token(source, lexer, name_end(source, table, lexer))
+    let reach = lexer.reach();
+    let len = text::char_len(source, reach.byte.0);
+    name_token(source, lexer, name_end(source, table, lexer, len))
 }
 
 // lexer.rs `consume_ignored`. The `_` has already been matched.
 pub fn consume_ignored(source: &[u8], table: &[u32], lexer: Lexer) -> Taken
     requires { ⌜ Stands (now source) (reachOf lexer) × FitTable (now table) ⌝ }
-    requires { ⌜ (reachOf lexer .byte .0 < length (now source)) ⌝ }
+    requires { ⌜ byteAt (now source) (reachOf lexer .byte .0) ≡ 95 ⌝ }
     ensures { λ r. ⌜ r ≡ consumeIgnored (propertiesAt (now (table .entry))) (charsFrom (now (source .entry)) (reachOf lexer)) lexer ⌝ }
 {
-    lexer.token_to(kinds::UNDERSCORE, name_end(source, table, lexer))
+    lexer.token_to(kinds::UNDERSCORE, name_end(source, table, lexer, 1))
 }

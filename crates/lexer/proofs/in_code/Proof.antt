@@ -86,7 +86,10 @@ returns-7 c =
     (c .start-string2 .ensures ∙ sym (single-arm _ _ _))
 
 consume-ignored-requires : tie.Need-consume-ignored-requires
-consume-ignored-requires c κs = search needs
+consume-ignored-requires c κs =
+    let b = c .before .before .before .before .before .before .before .before in
+    let start = b .before .before .before in
+    ((start .pre .0 .0, start .pre .1), sym (b .byte-at .ensures) ∙ c .if8 .taken)
 
 returns-8 : tie.Need-returns-8
 returns-8 c =
