@@ -20,6 +20,7 @@ use Rattle.utf8.specs.Chars.{charsIn, chars, less}
 use Rattle.utf8.specs.declared.Read.{Read}
 use Rattle.utf8.specs.declared.Read.the-variants.{Char, Bad, Cut}
 use Rattle.format.specs.Parse.{zeroDigit, indexMax, peeked, isDigit, digitsFrom, consumeU32}
+use Rattle.format.specs.declared.Consumed.{Consumed}
 use Rattle.format.specs.declared.Consumed.the-variants.{Value, Wrong}
 use Rattle.format.specs.declared.Outcome.the-variants.{TooLarge, ExpectedNumber}
 use Rattle.format.proofs.Peeks.{AsciiHere, ascii-here, digit-is}
@@ -143,7 +144,7 @@ chars-most zero (b ∷ bs) = go (decodeHead (b ∷ bs)) refl (λ n. chars-most n
     go Cut p ih = rw p (omega arith)
 
 -- so the digits of a number are within the bytes that it was consumed from
-pub digits-most : (s : List ℕ) (at first m j : ℕ) → consumeU32 first (chars (drop at s)) ≡ Value m j → j ≤ length s
-digits-most s at first m j e =
-    let t = began first (chars (drop at s)) m j e .rest in
+pub digits-most : (s : List ℕ) (at first m j : ℕ) (r : Consumed) → r ≡ consumeU32 first (chars (drop at s)) → r ≡ Value m j → j ≤ length s
+digits-most s at first m j r e f =
+    let t = began first (chars (drop at s)) m j (sym e ∙ f) .rest in
     omega (arith, t .is, t .fits, chars-most 0 (drop at s), length-drop at s)

@@ -1,15 +1,18 @@
 -- What the loop of `read_format` keeps: the reading from here on is the whole reading.
---     Going                       it stands at the start of a character, or at the end
---     begins                      it holds before the first turn
---     Onward, goes-on             it holds after a turn that goes on, at a later place
---     ends, stops                 what it gives where no character is left, and after a turn that fails
+--     Errs, body-errs             an arm that fails does so with an error, so that an outcome that is fine tells that it goes on
+--     Going                       it stands at the start of a character, or at the end, and nothing has failed
+--     begins, ends                it holds before the first turn; what it gives where no character is left
+--     Onward, Turned, turned      it holds after a turn that goes on, at a later place; a turn that fails ends as the whole reading does
 -- Assumes nothing.
 use Prim.Native.Nat.{ℕ, zero, suc, _+_, _≤_, _<_}
 use native.Mathlib.Omega.{arith}
 use native.Mathlib.Nat.{add-zero}
-use mathlib.Core.Path.{_≡_, refl, sym, ap, subst, _∙_}
+use mathlib.Core.Path.{_≡_, refl, sym, ap, _∙_}
+use mathlib.Core.Bool.{Bool, true, false}
 use mathlib.Core.List.{List, [], _∷_, _++_}
+use lib.Dec.{ltb}
 use lib.ListN.{length, take, drop, length-append}
+use Rattle.base.specs.PickLaws.{by-test}
 use Rattle.base.specs.Refusal.{formatMost}
 use Rattle.utf8.specs.Encode.{encode, encodeAll, WellFormed}
 use Rattle.utf8.specs.EncodeLaws.{encode-some}
@@ -18,16 +21,53 @@ use Rattle.utf8.specs.Chars.{chars}
 use Rattle.utf8.specs.CharsLaws.{Stops, At, at-char, After, after-chars}
 use Rattle.utf8.specs.declared.Read.the-variants.{Char}
 use Rattle.format.specs.Parse as parse
-use Rattle.format.specs.Parse.{Parsed, parseFrom, lenUtf8}
-use Rattle.format.specs.Read.{keep, readingOf, readFormat, startParsing, endsWith, goesTo, turnOf, bodyAt, turnAt, Here}
+use Rattle.format.specs.Parse.{indexMax, peeked, isDigit, digitsFrom, consumeU32, armOf, onConsumed, bodyOf, Parsed, parseFrom, lenUtf8}
+use Rattle.format.specs.Read.{keep, readingOf, readFormat, isFine, startParsing, ended, goesTo, failsWith, turnOf, bodyAt, turnAt, Here}
 use Rattle.format.specs.declared.Fill.{Fill}
 use Rattle.format.specs.declared.Options.{Options}
 use Rattle.format.specs.declared.Outcome.{Outcome}
 use Rattle.format.specs.declared.Outcome.the-variants.{Fine}
 use Rattle.format.specs.declared.Added.{Added}
+use Rattle.format.specs.declared.Consumed.{Consumed}
+use Rattle.format.specs.declared.Arm.{Arm}
+use Rattle.format.specs.declared.Arm.the-variants as arm
 use Rattle.format.specs.declared.Parsing.{Parsing}
-use Rattle.format.specs.declared.Turn.the-variants.{Goes, Fails}
 use Rattle.format.proofs.Peeks.{none-left}
+use Rattle.format.proofs.Digits.{with}
+
+-- ---- an arm that fails
+
+-- it does so with an error
+abbrev Errs : parse.Body → Type 0
+Errs (parse.Goes o q k fill) = Unit {0}
+Errs (parse.Fails e) = isFine e ≡ false
+
+-- of an arm with digits, f is what it does with the number
+module _ (f : ℕ → ℕ → parse.Body) (goes : (n k : ℕ) → Errs (f n k)) where
+  abbrev Number : Consumed → Type 0
+  Number r = Errs (onConsumed r f)
+
+  digits-errs : (n k : ℕ) (cs : List ℕ) → Number (digitsFrom n k cs)
+  unfolding digitsFrom
+  digits-errs n k [] = goes n k
+  digits-errs n k (c ∷ cs) =
+      by-test Number (isDigit c) (λ _. by-test Number (ltb indexMax (with n c)) (λ _. refl) (λ _. digits-errs (with n c) (k + 1) cs)) (λ _. goes n k)
+
+  number-errs : (first : ℕ) (cs : List ℕ) → Number (consumeU32 first cs)
+  unfolding consumeU32
+  number-errs first cs = by-test Number (isDigit first) (λ _. digits-errs _ 0 cs) (λ _. refl)
+
+body-errs : (edition : ℕ) (look : ℕ → ℕ) (at : ℕ) (o : Options) (c : ℕ) (cs : List ℕ) (a : Arm) → Errs (bodyOf edition look at o c cs a)
+body-errs edition look at o c cs arm.FillSign = tt
+body-errs edition look at o c cs arm.Align = tt
+body-errs edition look at o c cs arm.ZeroFill = tt
+body-errs edition look at o c cs arm.MinWidth = number-errs _ (λ n k. tt) c cs
+body-errs edition look at o c cs arm.Precision = number-errs _ (λ n k. tt) (peeked cs) (drop 1 cs)
+body-errs edition look at o c cs (arm.Represent r) = tt
+body-errs edition look at o c cs arm.FillCluster = tt
+body-errs edition look at o c cs arm.Unexpected = refl
+
+-- ---- the loop
 
 module _ (edition : ℕ) (look : ℕ → ℕ) where
   -- from a state on, where cs is left and the last arm took the first k characters of it
@@ -36,7 +76,7 @@ module _ (edition : ℕ) (look : ℕ → ℕ) where
 
   -- the same state, further on
   abbrev moved : Parsing → ℕ → Parsing
-  moved p i = record { position = p .position; result = p .result; at = i; added = p .added }
+  moved p i = record { position = p .position; result = p .result; at = i; added = p .added; outcome = p .outcome }
 
   -- what an arm took is passed over
   skips : (k : ℕ) (p : Parsing) (cs : List ℕ) → from k p cs ≡ from 0 (moved p (p .at + length (encodeAll (take k cs)))) (drop k cs)
@@ -55,16 +95,17 @@ module _ (edition : ℕ) (look : ℕ → ℕ) where
     unfolding parseFrom
     turns o q k fill e = rw (e, parseFrom)
 
-    breaks : (o : Outcome) → bodyAt edition look p c cs ≡ parse.Fails o → readingOf (from 0 p (c ∷ cs)) ≡ endsWith p o
+    breaks : (o : Outcome) → bodyAt edition look p c cs ≡ parse.Fails o → readingOf (from 0 p (c ∷ cs)) ≡ ended (failsWith p o)
     unfolding parseFrom
     breaks o e = rw (e, parseFrom)
 
-  nothing : (p : Parsing) → readingOf (from 0 p []) ≡ endsWith p Fine
+  nothing : (p : Parsing) → p .outcome ≡ Fine → ended p ≡ readingOf (from 0 p [])
   unfolding parseFrom
-  nothing p = refl
+  nothing p e = rw e
 
   module _ (s : List ℕ) where
     pub record Going (p : Parsing) : Type 0 where
+      pub fine : p .outcome ≡ Fine
       pub small : length s ≤ formatMost
       pub within : p .at ≤ length s
       pub well : WellFormed (drop (p .at) s)
@@ -72,11 +113,11 @@ module _ (edition : ℕ) (look : ℕ → ℕ) where
 
     pub begins : WellFormed s → length s ≤ formatMost → Going startParsing
     unfolding readFormat
-    begins w h = record { small = h; within = omega arith; well = w; answer = refl }
+    begins w h = record { fine = refl; small = h; within = omega arith; well = w; answer = refl }
 
     module _ (p : Parsing) (g : Going p) where
-      pub ends : Stops (readAt s (p .at)) → endsWith p Fine ≡ readFormat edition look (chars s)
-      ends t = sym (nothing p) ∙ ap (λ (l : List ℕ). readingOf (from 0 p l)) (sym (none-left s (p .at) t)) ∙ g .answer
+      pub ends : Stops (readAt s (p .at)) → ended p ≡ readFormat edition look (chars s)
+      ends t = nothing p (g .fine) ∙ ap (λ (l : List ℕ). readingOf (from 0 p l)) (sym (none-left s (p .at) t)) ∙ g .answer
 
       module _ (c n : ℕ) (found : readAt s (p .at) ≡ Char c n) where
         pub stands : Here s (p .at) c n
@@ -92,18 +133,6 @@ module _ (edition : ℕ) (look : ℕ → ℕ) where
         whole : readingOf (from 0 p (c ∷ cs)) ≡ readFormat edition look (chars s)
         whole = ap (λ (l : List ℕ). readingOf (from 0 p l)) (sym (here .step)) ∙ g .answer
 
-        pub stops : (o : Outcome) → turnAt edition look p c cs ≡ Fails o → endsWith p o ≡ readFormat edition look (chars s)
-        stops o t = go (bodyAt edition look p c cs) refl
-          where
-            go : (b : parse.Body) → bodyAt edition look p c cs ≡ b → endsWith p o ≡ readFormat edition look (chars s)
-            go (parse.Goes result q k fill) e =
-                let x = sym (ap (turnOf p (c ∷ cs)) e) ∙ t in
-                absurd (let z : _≡_ {A = ℕ} 0 1 = cc in omega arith)
-            go (parse.Fails y) e =
-                let x : Fails y ≡ Fails o = sym (ap (turnOf p (c ∷ cs)) e) ∙ t in
-                let z : y ≡ o = cc in
-                ap (endsWith p) (sym z) ∙ sym (breaks p c cs y e) ∙ whole
-
         -- further on, and inside
         pub record Onward (next : Parsing) : Type 0 where
           pub going : Going next
@@ -118,6 +147,7 @@ module _ (edition : ℕ) (look : ℕ → ℕ) where
             let w : p .at + lenUtf8 c + length (encodeAll (take k cs)) ≡ e′ = omega (arith, length-append (encode c) (encodeAll (take k cs))) in
             record {
               going = record {
+                fine = refl;
                 small = g .small;
                 within = a .within;
                 well = a .well;
@@ -130,15 +160,15 @@ module _ (edition : ℕ) (look : ℕ → ℕ) where
               later = omega (arith, encode-some c, length-append (encode c) (encodeAll (take k cs)));
             }
 
-        pub goes-on : (next : Parsing) → turnAt edition look p c cs ≡ Goes next → Onward next
-        goes-on next t = go (bodyAt edition look p c cs) refl
-          where
-            go : (b : parse.Body) → bodyAt edition look p c cs ≡ b → Onward next
-            go (parse.Goes o q k fill) e =
-                let x : Goes (goesTo p o q (p .at + length (encodeAll (take (suc k) (c ∷ cs)))) fill) ≡ Goes next =
-                sym (ap (turnOf p (c ∷ cs)) e) ∙ t in
-                let z : goesTo p o q (p .at + length (encodeAll (take (suc k) (c ∷ cs)))) fill ≡ next = cc in
-                subst Onward z (onward o q k fill e)
-            go (parse.Fails y) e =
-                let x = sym (ap (turnOf p (c ∷ cs)) e) ∙ t in
-                absurd (let z : _≡_ {A = ℕ} 0 1 = cc in omega arith)
+        -- after a turn, by whether it is fine
+        abbrev pub Turned : Bool → Parsing → Type 0
+        Turned true next = Onward next
+        Turned false next = ended next ≡ readFormat edition look (chars s)
+
+        by-body : (b : parse.Body) → bodyAt edition look p c cs ≡ b → Errs b → Turned (isFine (turnOf p (c ∷ cs) b .outcome)) (turnOf p (c ∷ cs) b)
+        by-body (parse.Goes o q k fill) e w = onward o q k fill e
+        by-body (parse.Fails x) e w = rw w (sym (breaks p c cs x e) ∙ whole)
+
+        pub turned : (next : Parsing) (t : Bool) → next ≡ turnAt edition look p c cs → isFine (next .outcome) ≡ t → Turned t next
+        turned next t e f =
+            rw (← f, e) (by-body _ refl (body-errs edition look (p .at) (p .result) c cs (armOf c (peeked cs) (p .position))))

@@ -19,7 +19,7 @@ use Rattle.format.specs.Options.{withAlignment, withWidth, withPrecision
 use Rattle.format.specs.Parse as parse
 use Rattle.format.specs.Parse.{peeked, isDigit, consumeU32, charToAlignment, armOf, bodyOf, onConsumed}
 use Rattle.format.specs.ParseLaws.{ArmIs, arm-is}
-use Rattle.format.specs.Read.{goesTo, goesFilled, widthTo, precisionTo, clusterTo, turnOf, bodyAt, turnAt, Here}
+use Rattle.format.specs.Read.{goesTo, goesFilled, failsWith, widthTo, precisionTo, clusterTo, turnOf, bodyAt, turnAt, Here}
 use Rattle.format.specs.declared.Part.{Part}
 use Rattle.format.specs.declared.Fill.{Fill}
 use Rattle.format.specs.declared.Fill.the-variants.{Is, NoFill}
@@ -32,8 +32,6 @@ use Rattle.format.specs.declared.Consumed.the-variants.{Value, Wrong}
 use Rattle.format.specs.declared.Arm.{Arm}
 use Rattle.format.specs.declared.Arm.the-variants as arm
 use Rattle.format.specs.declared.Parsing.{Parsing}
-use Rattle.format.specs.declared.Turn.{Turn}
-use Rattle.format.specs.declared.Turn.the-variants.{Goes, Fails}
 use Rattle.format.proofs.Peeks.{ascii-here, peek-within, sign-low, digit-is}
 use Rattle.format.proofs.Digits.{began}
 
@@ -59,7 +57,7 @@ module _ (edition : ℕ) (look : ℕ → ℕ) (s : List ℕ) (p : Parsing) (c n 
   abbrev body : parse.Body
   body = bodyAt edition look p c cs
 
-  abbrev turn : Turn
+  abbrev turn : Parsing
   turn = turnAt edition look p c cs
 
   -- the bytes of c and of the k characters after it
@@ -68,17 +66,17 @@ module _ (edition : ℕ) (look : ℕ → ℕ) (s : List ℕ) (p : Parsing) (c n 
   bytes k = omega (arith, here .width, length-append (encode c) (encodeAll (take k cs)))
 
   goes : (o : Options) (q k : ℕ) (fill : Fill) (e : ℕ) → body ≡ parse.Goes o q k fill → e ≡ at + n + length (encodeAll (take k cs))
-      → Goes (goesTo p o q e fill) ≡ turn
+      → goesTo p o q e fill ≡ turn
   goes o q k fill e b w =
-      ap {B = Turn} (λ (i : ℕ). Goes (goesTo p o q i fill)) (w ∙ sym (bytes k)) ∙ sym (ap (turnOf p (c ∷ cs)) b)
+      ap {B = Parsing} (λ (i : ℕ). goesTo p o q i fill) (w ∙ sym (bytes k)) ∙ sym (ap (turnOf p (c ∷ cs)) b)
 
   filled : (o : Options) (q k len end e : ℕ) → body ≡ parse.goesFilled o q k (record { place = at; len = len }) → len ≡ end - at
-      → e ≡ at + n + length (encodeAll (take k cs)) → Goes (goesFilled p o q end e) ≡ turn
+      → e ≡ at + n + length (encodeAll (take k cs)) → goesFilled p o q end e ≡ turn
   filled o q k len end e b l w =
       let fill : Part = record { place = at; len = end - at } in
       goes (withFill fill o) q k (Is fill) e (b ∙ ap {B = parse.Body} (λ (m : ℕ). parse.goesFilled o q k (record { place = at; len = m })) l) w
 
-  fails : (e : Outcome) → body ≡ parse.Fails e → Fails e ≡ turn
+  fails : (e : Outcome) → body ≡ parse.Fails e → failsWith p e ≡ turn
   fails e b = sym (ap (turnOf p (c ∷ cs)) b)
 
   module _ (a : Arm) (e : armOf c (peeked cs) (p .position) ≡ a) where
@@ -90,7 +88,7 @@ module _ (edition : ℕ) (look : ℕ → ℕ) (s : List ℕ) (p : Parsing) (c n 
   own = omega (arith, here .width)
 
   pub turn-fill-sign : armOf c (peeked cs) (p .position) ≡ arm.FillSign
-      → Goes (goesFilled p (withAlignment (charToAlignment (peeked cs)) (p .result)) parse.minWidth (at + n) (at + n + 1)) ≡ turn
+      → goesFilled p (withAlignment (charToAlignment (peeked cs)) (p .result)) parse.minWidth (at + n) (at + n + 1) ≡ turn
   unfolding encodeAll
   turn-fill-sign e =
       let d = peeked cs in
@@ -100,20 +98,20 @@ module _ (edition : ℕ) (look : ℕ → ℕ) (s : List ℕ) (p : Parsing) (c n 
       filled (withAlignment (charToAlignment d) (p .result)) _ 1 _ _ _ (by-arm arm.FillSign e) own (omega (arith, w))
 
   pub turn-align : armOf c (peeked cs) (p .position) ≡ arm.Align
-      → Goes (goesTo p (withAlignment (charToAlignment c) (p .result)) parse.minWidth (at + n) NoFill) ≡ turn
+      → goesTo p (withAlignment (charToAlignment c) (p .result)) parse.minWidth (at + n) NoFill ≡ turn
   unfolding encodeAll
   turn-align e = goes (withAlignment (charToAlignment c) (p .result)) _ 0 _ _ (by-arm arm.Align e) (omega arith)
 
-  pub turn-zero-fill : armOf c (peeked cs) (p .position) ≡ arm.ZeroFill → Goes (goesFilled p (p .result) parse.minWidth (at + n) (at + n)) ≡ turn
+  pub turn-zero-fill : armOf c (peeked cs) (p .position) ≡ arm.ZeroFill → goesFilled p (p .result) parse.minWidth (at + n) (at + n) ≡ turn
   unfolding encodeAll
   turn-zero-fill e = filled (p .result) _ 0 _ _ _ (by-arm arm.ZeroFill e) own (omega arith)
 
   pub turn-represent : (r : Representation) → armOf c (peeked cs) (p .position) ≡ arm.Represent r
-      → Goes (goesTo p (withRepresentation r (p .result)) parse.end (at + n) NoFill) ≡ turn
+      → goesTo p (withRepresentation r (p .result)) parse.end (at + n) NoFill ≡ turn
   unfolding encodeAll
   turn-represent r e = goes (withRepresentation r (p .result)) _ 0 _ _ (by-arm (arm.Represent r) e) (omega arith)
 
-  pub turn-unexpected : armOf c (peeked cs) (p .position) ≡ arm.Unexpected → Fails (UnexpectedToken c) ≡ turn
+  pub turn-unexpected : armOf c (peeked cs) (p .position) ≡ arm.Unexpected → failsWith p (UnexpectedToken c) ≡ turn
   turn-unexpected e = fails _ (by-arm arm.Unexpected e)
 
   pub turn-width : armOf c (peeked cs) (p .position) ≡ arm.MinWidth → widthTo p (at + n) (consumeU32 c cs) ≡ turn
@@ -178,7 +176,7 @@ module _ (edition : ℕ) (look : ℕ → ℕ) (s : List ℕ) (p : Parsing) (c n 
       go (Wrong o) x = fails o (is (Wrong o) x)
 
   pub turn-cluster : armOf c (peeked cs) (p .position) ≡ arm.FillCluster
-      → Goes (clusterTo p (firstEnd edition look at (chars (drop at s)))) ≡ turn
+      → clusterTo p (firstEnd edition look at (chars (drop at s))) ≡ turn
   turn-cluster e =
       let k = goOn edition look (look c ∷ []) cs in
       let end = firstEnd edition look at (c ∷ cs) in
@@ -186,5 +184,5 @@ module _ (edition : ℕ) (look : ℕ → ℕ) (s : List ℕ) (p : Parsing) (c n 
       let one : suc k - 1 ≡ k = omega arith in
       let b : body ≡ parse.goesFilled (p .result) parse.alignment k fill =
       by-arm arm.FillCluster e ∙ ap {B = parse.Body} (λ (j : ℕ). parse.goesFilled (p .result) parse.alignment j fill) one in
-      ap {B = Turn} (λ (l : List ℕ). Goes (clusterTo p (firstEnd edition look at l))) (here .step)
+      ap {B = Parsing} (λ (l : List ℕ). clusterTo p (firstEnd edition look at l)) (here .step)
       ∙ filled (p .result) parse.alignment k _ end end b (omega arith) (bytes k)

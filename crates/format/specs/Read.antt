@@ -4,6 +4,7 @@
 -- Assumes nothing.
 use Prim.Native.Nat.{ℕ, suc, _+_, _-_, _≤_}
 use mathlib.Core.Path.{_≡_}
+use mathlib.Core.Bool.{Bool, true, false}
 use mathlib.Core.List.{List, _∷_}
 use lib.ListN.{length, take, drop}
 use Rattle.base.specs.Refusal.{formatMost}
@@ -17,13 +18,12 @@ use Rattle.format.specs.declared.Fill.{Fill}
 use Rattle.format.specs.declared.Fill.the-variants.{Is, NoFill}
 use Rattle.format.specs.declared.Options.{Options}
 use Rattle.format.specs.declared.Outcome.{Outcome}
+use Rattle.format.specs.declared.Outcome.the-variants.{Fine, ExpectedNumber, TooLarge, UnexpectedToken}
 use Rattle.format.specs.declared.Added.{Added}
 use Rattle.format.specs.declared.FormatRead.{FormatRead}
 use Rattle.format.specs.declared.Consumed.{Consumed}
 use Rattle.format.specs.declared.Consumed.the-variants.{Value, Wrong}
 use Rattle.format.specs.declared.Parsing.{Parsing}
-use Rattle.format.specs.declared.Turn.{Turn}
-use Rattle.format.specs.declared.Turn.the-variants.{Goes, Fails}
 
 -- no string
 abbrev pub nothingAdded : Added
@@ -59,17 +59,25 @@ lastOf a = lastBy (a .second) (a .first)
 
 -- ---- a turn
 
+-- no error
+abbrev pub isFine : Outcome → Bool
+isFine Fine = true
+isFine (ExpectedNumber c) = false
+isFine (TooLarge n) = false
+isFine (UnexpectedToken c) = false
+
 -- before the first character
 abbrev pub startParsing : Parsing
-startParsing = record { position = parse.start; result = noOptions; at = 0; added = nothingAdded }
+startParsing = record { position = parse.start; result = noOptions; at = 0; added = nothingAdded; outcome = Fine }
 
--- the reading ends
-abbrev pub endsWith : Parsing → Outcome → FormatRead
-endsWith p e = record { options = p .result; outcome = e; added = p .added }
+-- the reading ends as it stands
+abbrev pub ended : Parsing → FormatRead
+ended p = record { options = p .result; outcome = p .outcome; added = p .added }
 
 -- it goes on, at the byte `at`
 abbrev pub goesTo : Parsing → Options → ℕ → ℕ → Fill → Parsing
-goesTo p result position at fill = record { position = position; result = result; at = at; added = parse.addFill keep (p .added) fill }
+goesTo p result position at fill =
+    record { position = position; result = result; at = at; added = parse.addFill keep (p .added) fill; outcome = Fine }
 
 -- the same, with what stands from here to the byte `end` as the fill, which is added
 abbrev pub goesFilled : Parsing → Options → ℕ → ℕ → ℕ → Parsing
@@ -77,30 +85,34 @@ goesFilled p result position end at =
     let fill : Part = record { place = p .at; len = end - p .at } in
     goesTo p (withFill fill result) position at (Is fill)
 
--- the arms with digits, which go on from the byte `at` on
-abbrev pub widthTo : Parsing → ℕ → Consumed → Turn
-widthTo p at (Value n k) = Goes (goesTo p (withWidth n (p .result)) parse.precision (at + k) NoFill)
-widthTo p at (Wrong e) = Fails e
+-- it fails, and stays where it is
+abbrev pub failsWith : Parsing → Outcome → Parsing
+failsWith p e = record { position = p .position; result = p .result; at = p .at; added = p .added; outcome = e }
 
-abbrev pub precisionTo : Parsing → ℕ → Consumed → Turn
-precisionTo p at (Value n k) = Goes (goesTo p (withPrecision n (p .result)) parse.type (at + k) NoFill)
-precisionTo p at (Wrong e) = Fails e
+-- the arms with digits, which go on from the byte `at` on
+abbrev pub widthTo : Parsing → ℕ → Consumed → Parsing
+widthTo p at (Value n k) = goesTo p (withWidth n (p .result)) parse.precision (at + k) NoFill
+widthTo p at (Wrong e) = failsWith p e
+
+abbrev pub precisionTo : Parsing → ℕ → Consumed → Parsing
+precisionTo p at (Value n k) = goesTo p (withPrecision n (p .result)) parse.type (at + k) NoFill
+precisionTo p at (Wrong e) = failsWith p e
 
 -- the arm of a cluster, which ends before the byte `end`
 abbrev pub clusterTo : Parsing → ℕ → Parsing
 clusterTo p end = goesFilled p (p .result) parse.alignment end end
 
 -- what a body comes to, where cs are the characters from `p .at` on and the first of them is its own
-abbrev pub turnOf : Parsing → List ℕ → parse.Body → Turn
-turnOf p cs (parse.Goes result position k fill) = Goes (goesTo p result position (p .at + length (encodeAll (take (suc k) cs))) fill)
-turnOf p cs (parse.Fails e) = Fails e
+abbrev pub turnOf : Parsing → List ℕ → parse.Body → Parsing
+turnOf p cs (parse.Goes result position k fill) = goesTo p result position (p .at + length (encodeAll (take (suc k) cs))) fill
+turnOf p cs (parse.Fails e) = failsWith p e
 
 -- the body for the character c and those after it
 abbrev pub bodyAt : ℕ → (ℕ → ℕ) → Parsing → ℕ → List ℕ → parse.Body
 bodyAt edition look p c cs = parse.bodyOf edition look (p .at) (p .result) c cs (parse.armOf c (parse.peeked cs) (p .position))
 
 -- the turn for the character c and those after it
-abbrev pub turnAt : ℕ → (ℕ → ℕ) → Parsing → ℕ → List ℕ → Turn
+abbrev pub turnAt : ℕ → (ℕ → ℕ) → Parsing → ℕ → List ℕ → Parsing
 turnAt edition look p c cs = turnOf p (c ∷ cs) (bodyAt edition look p c cs)
 
 -- the character c, of n bytes, stands at the place i of s, and nothing ill-formed from it on

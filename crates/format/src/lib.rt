@@ -14,7 +14,7 @@ ghost use Rattle.property.specs.Table.{propertiesAt, Rises};
 ghost use Rattle.cluster.specs.First.{firstEnd};
 ghost use Rattle.format.specs.Options.{noOptions, withAlignment, withWidth, withPrecision, withRepresentation, withFill, alignmentNumber, representationNumber};
 ghost use Rattle.format.specs.Parse.{minWidth, end, peeked, isSign, isDigit, charToAlignment, representationOf, letterOf, isFillSign, isAlign, isZeroFill, isWidth, isPrecision, isBeforeEnd, lastArm, armOf, consumeU32, digitsFrom};
-ghost use Rattle.format.specs.Read.{nothingAdded, keep, startParsing, endsWith, goesTo, goesFilled, widthTo, precisionTo, clusterTo, Here, turnAt, readFormat};
+ghost use Rattle.format.specs.Read.{nothingAdded, keep, isFine, startParsing, ended, goesTo, goesFilled, failsWith, widthTo, precisionTo, clusterTo, Here, turnAt, readFormat};
 ghost use Rattle.format.specs.declared.Fill.the-variants.{NoFill};
 
 // `FormatParsePosition`, in its order.
@@ -163,18 +163,16 @@ pub struct FormatRead {
     pub added: Added,
 }
 
-// The locals of `parse`, and where the next character stands.
+// The locals of `parse`, where the next character stands, and the outcome, which is fine until an arm fails.
+//
+// Q. Why is this no enum, of a state to go on with or an error? A. LLVM lays the variants over each other, and the state would go through
+// memory at every turn.
 struct Parsing {
     position: u32,
     result: Options,
     at: usize,
     added: Added,
-}
-
-// What an arm does.
-enum Turn {
-    Goes(Parsing),
-    Fails(Outcome),
+    outcome: Outcome,
 }
 
 // What `consume_u32` answers: the number, and how many digits it took after the first one.
@@ -286,6 +284,20 @@ impl Options {
             precision,
             representation,
             fill: Fill::Is(fill),
+        }
+    }
+}
+
+impl Outcome {
+    // No error so far.
+    fn is_fine(self) -> bool
+        ensures { λ r. ⌜ r ≡ isFine self ⌝ }
+    {
+        match self {
+            Outcome::Fine => true,
+            Outcome::ExpectedNumber(_) => false,
+            Outcome::TooLarge(_) => false,
+            Outcome::UnexpectedToken(_) => false,
         }
     }
 }
@@ -520,6 +532,7 @@ impl Parsing {
             result: Options::new(),
             at: 0,
             added: Added::new(),
+            outcome: Outcome::Fine,
         }
     }
 
@@ -533,6 +546,7 @@ impl Parsing {
             result,
             at,
             added,
+            outcome: Outcome::Fine,
         }
     }
 
@@ -552,6 +566,7 @@ impl Parsing {
             result: result.with_fill(fill),
             at,
             added: before.keep(fill),
+            outcome: Outcome::Fine,
         }
     }
 
@@ -583,12 +598,28 @@ impl Parsing {
         self.go(result.with_representation(representation), END, next)
     }
 
+    // The arm fails, and the rest stays as it is.
+    fn fail(self, outcome: Outcome) -> Parsing
+        ensures { λ r. ⌜ r ≡ failsWith self outcome ⌝ }
+    {
+        let result = self.result;
+        let added = self.added;
+        Parsing {
+            position: self.position,
+            result,
+            at: self.at,
+            added,
+            outcome,
+        }
+    }
+
     // The reading ends here.
-    fn end(self, outcome: Outcome) -> FormatRead
-        ensures { λ r. ⌜ r ≡ endsWith self outcome ⌝ }
+    fn end(self) -> FormatRead
+        ensures { λ r. ⌜ r ≡ ended self ⌝ }
     {
         let options = self.result;
         let strings = self.added;
+        let outcome = self.outcome;
         FormatRead {
             options,
             outcome,
@@ -598,30 +629,30 @@ impl Parsing {
 }
 
 // The arm of a width: c is its first digit, and the others stand from `at` on.
-fn take_width(format: &[u8], p: Parsing, c: u32, at: usize) -> Turn
+fn take_width(format: &[u8], p: Parsing, c: u32, at: usize) -> Parsing
     requires { ⌜ (length (now format) ≤ formatMost) × (at ≤ formatMost) ⌝ }
     ensures { λ r. ⌜ r ≡ widthTo p at (consumeU32 c (chars (drop at (now (format .entry))))) ⌝ }
 {
     match consume_u32(format, c, at) {
         Consumed::Value { n, digits } => {
             let result = p.result;
-            Turn::Goes(p.go(result.with_width(n), PRECISION, at + digits))
+            p.go(result.with_width(n), PRECISION, at + digits)
         }
-        Consumed::Wrong(outcome) => Turn::Fails(outcome),
+        Consumed::Wrong(outcome) => p.fail(outcome),
     }
 }
 
 // The arm of a precision: c stands after the dot, and the digits after it from `at` on.
-fn take_precision(format: &[u8], p: Parsing, c: u32, at: usize) -> Turn
+fn take_precision(format: &[u8], p: Parsing, c: u32, at: usize) -> Parsing
     requires { ⌜ (length (now format) ≤ formatMost) × (at ≤ formatMost) ⌝ }
     ensures { λ r. ⌜ r ≡ precisionTo p at (consumeU32 c (chars (drop at (now (format .entry))))) ⌝ }
 {
     match consume_u32(format, c, at) {
         Consumed::Value { n, digits } => {
             let result = p.result;
-            Turn::Goes(p.go(result.with_precision(n), TYPE, at + digits))
+            p.go(result.with_precision(n), TYPE, at + digits)
         }
-        Consumed::Wrong(outcome) => Turn::Fails(outcome),
+        Consumed::Wrong(outcome) => p.fail(outcome),
     }
 }
 
@@ -636,7 +667,7 @@ fn take_cluster(format: &[u8], table: &[u32], edition: u32, p: Parsing) -> Parsi
 }
 
 // One turn of the loop, for the character c of `len` bytes, which stands at `p.at`.
-fn take_turn(format: &[u8], table: &[u32], edition: u32, p: Parsing, c: u32, len: usize) -> Turn
+fn take_turn(format: &[u8], table: &[u32], edition: u32, p: Parsing, c: u32, len: usize) -> Parsing
     requires { ⌜ Here (now format) (p .at) c len × Rises (now table) ⌝ }
     ensures { λ r. ⌜ r ≡ turnAt edition (propertiesAt (now (table .entry))) p c (chars (drop (p .at + len) (now (format .entry)))) ⌝ }
 {
@@ -644,14 +675,14 @@ fn take_turn(format: &[u8], table: &[u32], edition: u32, p: Parsing, c: u32, len
     let peeked = peek(format, next);
     let result = p.result;
     match arm_of(c, peeked, p.position) {
-        Arm::FillSign => Turn::Goes(p.fill_sign(peeked, next)),
-        Arm::Align => Turn::Goes(p.align(c, next)),
-        Arm::ZeroFill => Turn::Goes(p.go_filled(result, MIN_WIDTH, next, next)),
+        Arm::FillSign => p.fill_sign(peeked, next),
+        Arm::Align => p.align(c, next),
+        Arm::ZeroFill => p.go_filled(result, MIN_WIDTH, next, next),
         Arm::MinWidth => take_width(format, p, c, next),
         Arm::Precision => take_precision(format, p, peeked, next + 1),
-        Arm::Represent(representation) => Turn::Goes(p.represent(representation, next)),
-        Arm::FillCluster => Turn::Goes(take_cluster(format, table, edition, p)),
-        Arm::Unexpected => Turn::Fails(Outcome::UnexpectedToken(c)),
+        Arm::Represent(representation) => p.represent(representation, next),
+        Arm::FillCluster => take_cluster(format, table, edition, p),
+        Arm::Unexpected => p.fail(Outcome::UnexpectedToken(c)),
     }
 }
 
@@ -663,15 +694,12 @@ pub fn read_format(format: &[u8], table: &[u32], edition: u32) -> FormatRead
     let mut p = Parsing::new();
     loop {
         let utf8::Read::Char { code, len } = utf8::read_char(format, p.at) else {
-            return p.end(Outcome::Fine);
+            return p.end();
         };
-        match take_turn(format, table, edition, p, code, len) {
-            Turn::Goes(next) => {
-                p = next;
-            }
-            Turn::Fails(outcome) => {
-                return p.end(outcome);
-            }
+        p = take_turn(format, table, edition, p, code, len);
+        let outcome = p.outcome;
+        if !outcome.is_fine() {
+            return p.end();
         }
     }
 }

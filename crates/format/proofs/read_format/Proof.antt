@@ -1,8 +1,11 @@
--- `format::read_format` meets its contract. The loop's invariant is `Going`: the reading from here on is the whole reading. Assumes nothing.
+-- `format::read_format` meets its contract. The loop's invariant is `Going`: nothing has failed, and the reading from here on is the whole
+-- reading. Assumes nothing.
 use borrow.Author.Needs.{needs}
+use borrow.Author.Tests.{not-true, not-false}
 use native.Mathlib.Omega.{arith}
 use Prim.Native.Nat.{ℕ, _-_}
 use mathlib.Core.Path.{_≡_, sym, subst, _∙_}
+use mathlib.Core.Bool.{Bool, true, false}
 use mathlib.Core.List.{List}
 use lib.ListN.{length}
 use denote.Ref.{now}
@@ -11,9 +14,7 @@ use Rattle.utf8.specs.CharsLaws.{Stops}
 use Rattle.utf8.specs.declared.Read.the-variants.{Char}
 use Rattle.utf8.proofs.Tags.{stopped}
 use Rattle.property.specs.Table.{propertiesAt}
-use Rattle.format.specs.declared.Parsing.{Parsing}
-use Rattle.format.specs.declared.Turn.the-variants.{Goes}
-use Rattle.format.proofs.Going.{Going, begins, ends, stands, stops, Onward, goes-on}
+use Rattle.format.proofs.Going.{Going, begins, ends, stands, Turned, turned}
 use Rattle.format.proofs.read_format.Statement.{statement}
 use Rattle.format.proofs.read_format.Tie as tie
 
@@ -23,12 +24,15 @@ Inv-loop format table edition p₀ p = Going edition (propertiesAt table) format
 abbrev μ-loop : tie.MeasureT-loop
 μ-loop format table edition p₀ p = length format - p .at
 
--- a turn has been taken, for the character that was read
+-- a turn has been taken, for the character that was read, and its outcome tested
 abbrev Taken : Type 0
-Taken = tie.After-take-turn Inv-loop μ-loop
+Taken = tie.After-is-fine Inv-loop μ-loop
+
+abbrev read : Taken → tie.After-read-char Inv-loop μ-loop
+read t = t .before .before .before .before .before
 
 abbrev loop : Taken → tie.At-loop Inv-loop μ-loop
-loop t = t .before .before .before .before .before
+loop t = read t .before
 
 abbrev start : Taken → tie.Start Inv-loop μ-loop
 start t = loop t .before .before .before .before
@@ -40,17 +44,17 @@ abbrev look : Taken → ℕ → ℕ
 look t = propertiesAt (now (start t .args .table))
 
 abbrev code : Taken → ℕ
-code t = t .before .before .code .given .0 .0
+code t = t .before .before .before .code .given .0 .0
 
 abbrev len : Taken → ℕ
-len t = t .before .before .code .given .0 .1 .0
+len t = t .before .before .before .code .given .0 .1 .0
 
 found : (t : Taken) → readAt (src t) (loop t .loop .p .at) ≡ Char (code t) (len t)
-found t = sym (t .before .before .before .before .read-char .ensures) ∙ t .before .before .code .given .1
+found t = sym (read t .read-char .ensures) ∙ t .before .before .before .code .given .1
 
-onward : (t : Taken) (next : Parsing) → t .take-turn .result ≡ Goes next
-    → Onward (start t .args .edition) (look t) (src t) (loop t .loop .p) (loop t .loop .inv) (code t) (len t) (found t) next
-onward t next e = goes-on _ (look t) (src t) _ (loop t .loop .inv) _ _ (found t) next (sym (t .take-turn .ensures) ∙ e)
+after : (t : Taken) (y : Bool) → t .is-fine .result ≡ y
+    → Turned (start t .args .edition) (look t) (src t) _ (loop t .loop .inv) _ _ (found t) y (t .before .take-turn .result)
+after t y e = turned _ (look t) (src t) _ (loop t .loop .inv) _ _ (found t) _ y (t .before .take-turn .ensures) (sym (t .is-fine .ensures) ∙ e)
 
 new-requires : tie.Need-new-requires Inv-loop μ-loop
 new-requires c κs = search needs
@@ -80,30 +84,21 @@ take-turn-requires c κs =
     let l = r .before in
     (stands _ _ _ _ (l .loop .inv) _ _ (sym (r .read-char .ensures) ∙ c .before .code .given .1), l .before .before .before .before .pre .2)
 
-enum-known-next : tie.Need-enum-known-next Inv-loop μ-loop
-enum-known-next c = search needs
-
-loop-less : tie.Need-loop-less Inv-loop μ-loop
-loop-less c =
-    let t = c .before .before .before in
-    let o = onward t _ (c .before .next .given .1) in
-    omega (arith, o .later, o .going .within)
-
-loop-again : tie.Need-loop-again Inv-loop μ-loop
-loop-again c = onward (c .before .before .before) _ (c .before .next .given .1) .going
-
-enum-known-outcome : tie.Need-enum-known-outcome Inv-loop μ-loop
-enum-known-outcome c = search needs
+is-fine-requires : tie.Need-is-fine-requires Inv-loop μ-loop
+is-fine-requires c κs = search needs
 
 end-requires-2 : tie.Need-end-requires-2 Inv-loop μ-loop
 end-requires-2 c κs = search needs
 
--- the arm fails
+-- the arm has failed
 returns-2 : tie.Need-returns-2 Inv-loop μ-loop
-returns-2 c =
-    let o = c .before .before in
-    let t = o .before .before in
-    c .end2 .ensures ∙ stops _ (look t) (src t) _ (loop t .loop .inv) _ _ (found t) _ (sym (t .take-turn .ensures) ∙ o .outcome .given .1)
+returns-2 c = c .end2 .ensures ∙ after (c .before .before) false (not-true _ (c .before .if1 .taken))
+
+loop-less : tie.Need-loop-less Inv-loop μ-loop
+loop-less c = let o = after (c .before) true (not-false _ (c .if1 .left)) in omega (arith, o .later, o .going .within)
+
+loop-again : tie.Need-loop-again Inv-loop μ-loop
+loop-again c = after (c .before) true (not-false _ (c .if1 .left)) .going
 
 pub read-format-spec : {M : Type 1} → statement M
 read-format-spec =
@@ -118,9 +113,8 @@ read-format-spec =
     end-requires
     returns
     take-turn-requires
-    enum-known-next
-    loop-less
-    loop-again
-    enum-known-outcome
+    is-fine-requires
     end-requires-2
-    returns-2)
+    returns-2
+    loop-less
+    loop-again)

@@ -1,24 +1,10 @@
 -- `format::take_precision` meets its contract: what `consume_u32` answers decides. Assumes nothing.
 use borrow.Author.Needs.{needs}
 use native.Mathlib.Omega.{arith}
-use mathlib.Core.Path.{_≡_, sym, _∙_}
-use lib.ListN.{drop}
 use denote.Ref.{now}
-use Rattle.utf8.specs.Chars.{chars}
-use Rattle.format.specs.Parse.{consumeU32}
-use Rattle.format.specs.declared.Consumed.{Consumed}
-use Rattle.format.specs.declared.Consumed.the-variants.{Value, Wrong}
 use Rattle.format.proofs.Digits.{digits-most}
 use Rattle.format.proofs.take_precision.Statement.{statement}
 use Rattle.format.proofs.take_precision.Tie as tie
-
-abbrev start : tie.After-consume-u32 → tie.Start
-start k = k .before .before
-
--- the answer of the definition
-answer : (k : tie.After-consume-u32) (r : Consumed) → k .consume-u32 .result ≡ r
-    → consumeU32 (start k .args .c) (chars (drop (start k .args .at) (now (start k .args .format)))) ≡ r
-answer k r e = sym (k .consume-u32 .ensures) ∙ e
 
 consume-u32-requires : tie.Need-consume-u32-requires
 consume-u32-requires c κs = search needs
@@ -33,8 +19,8 @@ add-go : tie.Need-add-go
 add-go c =
     let n = c .before .before .before in
     let k = n .before .before in
-    let m = n .n .given .0 in
-    omega (arith, digits-most (now (start k .args .format)) (start k .args .at) _ _ _ (answer k (Value (m .0) (m .1 .0)) (n .n .given .1)), start k .pre)
+    let b = k .before .before in
+    omega (arith, digits-most (now (b .args .format)) (b .args .at) _ _ _ _ (k .consume-u32 .ensures) (n .n .given .1), b .pre)
 
 go-requires : tie.Need-go-requires
 go-requires c κs = search needs
@@ -42,16 +28,18 @@ go-requires c κs = search needs
 enum-known-outcome : tie.Need-enum-known-outcome
 enum-known-outcome c = search needs
 
+fail-requires : tie.Need-fail-requires
+fail-requires c κs = search needs
+
 returns : tie.Need-returns
 returns c =
     let n = c .before .before .before .before in
-    let k = n .before .before in
-    rw (answer k (Value _ _) (n .n .given .1), c .go .ensures, c .before .with-precision .ensures)
+    rw (← n .before .before .consume-u32 .ensures, n .n .given .1, c .go .ensures, c .before .with-precision .ensures)
 
 returns-2 : tie.Need-returns-2
 returns-2 c =
-    let k = c .before .before .before in
-    rw (answer k (Wrong _) (c .before .outcome .given .1))
+    let o = c .before .before in
+    rw (← o .before .before .consume-u32 .ensures, o .outcome .given .1, c .fail .ensures)
 
 pub take-precision-spec : {M : Type 1} → statement M
 take-precision-spec =
@@ -63,5 +51,6 @@ take-precision-spec =
     add-go
     go-requires
     enum-known-outcome
+    fail-requires
     returns
     returns-2)

@@ -104,6 +104,9 @@ take-cluster-requires c κs = search needs
 enum-told-7 : tie.Need-enum-told-7
 enum-told-7 c = search needs
 
+fail-requires : tie.Need-fail-requires
+fail-requires c κs = search needs
+
 returns : tie.Need-returns
 returns c =
     let a = c .before .before .before in
@@ -141,8 +144,8 @@ returns-7 c =
 
 returns-8 : tie.Need-returns-8
 returns-8 c =
-    let a = c .before .before in
-    turn-unexpected _ (look a) (src a) _ _ _ (here a) (chosen a arm.Unexpected (c .enum-told7 .given .1))
+    let a = c .before .before .before in
+    c .fail .ensures ∙ turn-unexpected _ (look a) (src a) _ _ _ (here a) (chosen a arm.Unexpected (c .before .enum-told7 .given .1))
 
 pub take-turn-spec : {M : Type 1} → statement M
 take-turn-spec =
@@ -167,6 +170,7 @@ take-turn-spec =
     enum-told-6
     take-cluster-requires
     enum-told-7
+    fail-requires
     returns
     returns-2
     returns-3
