@@ -2,20 +2,22 @@
 --     Going              what holds at its head: the place is inside, and the definition answers from there what it answers from the start
 --     single, measured   how long the character is, by what `lead_len`, `is_two` or `is_three` has answered
 --     passed             a turn over a character of that length
+--     passed-block       a turn over a block, each byte of which is passed
 -- Assumes nothing.
-use Prim.Native.Nat.{ℕ, _+_, _-_, _<_, _≤_}
+use Prim.Native.Nat.{ℕ, zero, suc, _+_, _-_, _%_, _<_, _≤_}
 use native.Mathlib.Omega.{arith}
 use native.Mathlib.Nat.{add-zero}
 use mathlib.Core.Path.{_≡_, refl, sym, ap, subst, _∙_}
 use mathlib.Core.List.{List}
 use mathlib.Core.Bool.{Bool, true}
 use lib.ListN.{length, getD, take, drop, length-drop}
-use lib.Seq.{getD-drop}
-use lib.Dec.{eqb}
-use borrow.Author.Tests.{eqb-true}
+use lib.Seq.{getD-drop, getD-take, length-take-le}
+use lib.Dec.{leb, eqb}
+use borrow.Author.Tests.{eqb-true, leb-true}
+use Rattle.base.specs.AllLaws.{and-left, and-right, good-at}
 use Rattle.base.specs.ListLaws.{rest-all}
 use Rattle.utf8.specs.Read.{seqLen, decodeHead, readAt}
-use Rattle.utf8.specs.Lengths.{lenOf}
+use Rattle.utf8.specs.Lengths.{lenOf, isSingle, isBlock}
 use Rattle.utf8.specs.LengthsLaws.{one-len}
 use Rattle.utf8.specs.Chars.{checkFrom}
 use Rattle.utf8.specs.CharsLaws.{at-char, check-at}
@@ -43,3 +45,22 @@ module _ (s : List ℕ) (i : ℕ) (g : Going s i) where
 
   pub passed : (n : ℕ) → 0 < n → n ≡ lenOf (readAt s i) → Going s (i + n)
   passed n h e = subst (λ (k : ℕ). Going s (i + k)) (sym e) (passed-by (readAt s i) refl (omega arith))
+
+-- some bytes are passed, each of which is a character of its own
+passed-bytes : (s : List ℕ) (i : ℕ) → Going s i → (n : ℕ) → n ≤ length s - i → ((k : ℕ) → k < n → seqLen (getD s (i + k) 0) ≡ 1) → Going s (i + n)
+passed-bytes s i g zero h f = subst (Going s) (sym (add-zero i)) g
+passed-bytes s i g (suc n) h f =
+    let j = i + n in
+    let e : j + 1 ≡ i + suc n = omega arith in
+    let one : 1 ≡ lenOf (readAt s j) = single s j (seqLen (getD s j 0)) (omega arith) refl (f n (omega arith)) in
+    subst (Going s) e (passed s j (passed-bytes s i g n (omega arith) (λ k l. f k (omega arith))) 1 (omega arith) one)
+
+pub passed-block : (s : List ℕ) (i : ℕ) → Going s i → (t : Bool) → t ≡ isBlock s i → t ≡ true → Going s (i + 128)
+passed-block s i g t e f =
+    let inner = and-right (eqb (i % 128) 0) _ (sym e ∙ f) in
+    let room : 128 ≤ length s - i = leb-true 128 _ (and-left (leb 128 (length s - i)) _ inner) in
+    let size : length (take 128 (drop i s)) ≡ 128 = length-take-le 128 (drop i s) (omega (arith, length-drop i s)) in
+    passed-bytes s i g 128 room
+    (λ k h.
+    let byte : getD (take 128 (drop i s)) k 0 ≡ getD s (i + k) 0 = getD-take 128 (drop i s) k 0 h ∙ getD-drop i s k 0 in
+    ap seqLen (sym byte) ∙ eqb-true _ 1 (good-at (isSingle (take 128 (drop i s))) _ k (omega (arith, size)) (and-right (leb 128 (length s - i)) _ inner)))

@@ -1,11 +1,13 @@
 -- How many bytes a character has, and which one stands where its lead byte opens so many (RFC 3629, section 4, UTF8-1 to UTF8-4).
 -- Assumes nothing.
-use Prim.Native.Nat.{ℕ, _+_}
+use Prim.Native.Nat.{ℕ, _+_, _-_, _%_}
 use mathlib.Core.List.{List}
-use lib.ListN.{getD}
-use lib.Dec.{eqb}
+use mathlib.Core.Bool.{Bool, _&&_}
+use lib.ListN.{length, getD, take, drop}
+use lib.Dec.{leb, eqb}
 use Rattle.base.specs.Pick.{pick}
-use Rattle.utf8.specs.Read.{code2, code3, code4}
+use Rattle.base.specs.All.{allGood}
+use Rattle.utf8.specs.Read.{seqLen, code2, code3, code4}
 use Rattle.utf8.specs.declared.Read.{Read}
 use Rattle.utf8.specs.declared.Read.the-variants.{Char, Bad, Cut}
 
@@ -14,6 +16,17 @@ abbrev pub lenOf : Read → ℕ
 lenOf (Char c n) = n
 lenOf Bad = 0
 lenOf Cut = 0
+
+-- each byte is a character of its own
+abbrev pub isSingle : List ℕ → ℕ → Bool
+isSingle s k = eqb (seqLen (getD s k 0)) 1
+
+abbrev pub allSingle : List ℕ → Bool
+allSingle s = allGood (isSingle s) (length s)
+
+-- 128 such bytes stand from the place i on, which is a multiple of 128
+abbrev pub isBlock : List ℕ → ℕ → Bool
+isBlock s i = eqb (i % 128) 0 && (leb 128 (length s - i) && allSingle (take 128 (drop i s)))
 
 -- the character of n bytes from the place i of s on: one, two, three, or else four
 abbrev pub charOf : ℕ → List ℕ → ℕ → Read

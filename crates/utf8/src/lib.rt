@@ -6,9 +6,12 @@ ghost use Prim.Native.Nat.{_<_};
 ghost use lib.Dec.{eqb};
 ghost use lib.ListN.{length};
 ghost use Rattle.utf8.specs.Read.{seqLen, secondOk, code2, code3, code4, fourth, third, second, decodeHead, readAt};
-ghost use Rattle.utf8.specs.Lengths.{lenOf};
+ghost use Rattle.utf8.specs.Lengths.{lenOf, allSingle, isBlock};
 ghost use Rattle.utf8.specs.Chars.{checkFrom};
 use base::between;
+
+// How many bytes are passed at once where each is a character of its own.
+const BLOCK: usize = 128;
 
 // What stands at a place.
 pub enum Read {
@@ -214,6 +217,34 @@ fn is_three(s: &[u8]) -> bool
     between(s[2], 0x80, 0xbf)
 }
 
+// Is each byte of s a character of its own? The loop has no branch, so it is compiled to take several bytes at once.
+fn all_single(s: &[u8]) -> bool
+    ensures { λ r. ⌜ r ≡ allSingle (now (s .entry)) ⌝ }
+{
+    let mut ok = true;
+    let mut i = 0;
+    while i < s.len() {
+        ok &= lead_len(s[i]) == 1;
+        i += 1;
+    }
+    ok
+}
+
+// Does a whole block of such bytes begin at the place? Blocks begin at the multiples of their length, so that text which is not ASCII is
+// seldom asked.
+fn is_block(s: &[u8], at: usize) -> bool
+    requires { ⌜ at < length (now s) ⌝ }
+    ensures { λ r. ⌜ r ≡ isBlock (now (s .entry)) at ⌝ }
+{
+    if at % BLOCK != 0 {
+        return false;
+    }
+    if s.len() - at < BLOCK {
+        return false;
+    }
+    all_single(&s[at..at + BLOCK])
+}
+
 // Whether all of s is well formed; if not, where the longest well-formed beginning ends, and whether the bytes there are wrong or cut.
 pub fn check_utf8(s: &[u8]) -> Utf8Check
     ensures { λ r. ⌜ r ≡ checkFrom 0 (now (s .entry)) ⌝ }
@@ -221,6 +252,10 @@ pub fn check_utf8(s: &[u8]) -> Utf8Check
     let mut i = 0;
     while i < s.len() {
         if lead_len(s[i]) == 1 {
+            if is_block(s, i) {
+                i += BLOCK;
+                continue;
+            }
             i += 1;
             continue;
         }
