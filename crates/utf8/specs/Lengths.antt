@@ -7,7 +7,7 @@ use lib.ListN.{length, getD, take, drop}
 use lib.Dec.{leb, eqb}
 use Rattle.base.specs.Pick.{pick}
 use Rattle.base.specs.All.{allGood}
-use Rattle.utf8.specs.Read.{seqLen, code2, code3, code4}
+use Rattle.utf8.specs.Read.{seqLen, secondOk, code2, code3, code4}
 use Rattle.utf8.specs.declared.Read.{Read}
 use Rattle.utf8.specs.declared.Read.the-variants.{Char, Bad, Cut}
 
@@ -16,6 +16,10 @@ abbrev pub lenOf : Read → ℕ
 lenOf (Char c n) = n
 lenOf Bad = 0
 lenOf Cut = 0
+
+-- the lead byte opens n bytes, there are so many, and the second may follow it
+abbrev pub opensBy : List ℕ → ℕ → Bool
+opensBy s n = eqb (seqLen (getD s 0 0)) n && (leb n (length s) && secondOk (getD s 0 0) (getD s 1 0))
 
 -- each byte is a character of its own
 abbrev pub isSingle : List ℕ → ℕ → Bool

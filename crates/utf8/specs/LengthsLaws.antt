@@ -1,23 +1,24 @@
 -- Where some character stands, its lead byte says how long it is, and its bytes which it is.
 --     char-read                     at a place
 --     one-len, two-len, three-len   how long the first character is, by the tests on its bytes
---     other-len, cut-len            it is not m bytes long where the lead byte says otherwise, or where there are not so many
+--     opens-room                    where `opensBy` holds there are so many bytes
 -- Assumes nothing.
 use Prim.Native.Nat.{ℕ, _<_, _≤_}
 use native.Mathlib.Omega.{arith}
 use native.Mathlib.Nat.{add-zero}
 use mathlib.Core.Path.{_≡_, refl, sym, ap, _∙_}
 use mathlib.Core.List.{List}
-use mathlib.Core.Bool.{Bool, true, false}
+use mathlib.Core.Bool.{Bool, true, false, _&&_, and-assoc}
 use lib.ListN.{length, getD, drop}
 use lib.Seq.{getD-drop}
-use lib.Dec.{eqb}
-use borrow.Author.Tests.{le-ltb, ne-eqb}
+use lib.Dec.{leb, eqb}
+use borrow.Author.Tests.{le-ltb, eq-eqb, ne-eqb, le-leb, lt-leb, leb-true}
 use Rattle.base.specs.Pick.{pick}
-use Rattle.base.specs.PickLaws.{by-test, by-lt, by-eq}
+use Rattle.base.specs.PickLaws.{by-test, by-lt, by-eq, split-lt, split-eq}
+use Rattle.base.specs.AllLaws.{and-left, and-right}
 use Rattle.utf8.specs.Read.{seqLen, secondOk, isTail, code2, code3, code4, fourth, third, second, headOf, decodeHead, readAt}
 use Rattle.utf8.specs.ReadLaws.{sound}
-use Rattle.utf8.specs.Lengths.{lenOf, charOf}
+use Rattle.utf8.specs.Lengths.{lenOf, opensBy, charOf}
 use Rattle.utf8.specs.declared.Read.{Read}
 use Rattle.utf8.specs.declared.Read.the-variants.{Char, Bad, Cut}
 
@@ -88,7 +89,7 @@ module _ (l : List ℕ) where
   not-len m h Bad e f = ne-eqb 0 m (λ q. omega arith)
   not-len m h Cut e f = ne-eqb 0 m (λ q. omega arith)
 
-  pub cut-len : (m : ℕ) → 0 < m → length l < m → eqb (lenOf (decodeHead l)) m ≡ false
+  cut-len : (m : ℕ) → 0 < m → length l < m → eqb (lenOf (decodeHead l)) m ≡ false
   cut-len m h k = not-len m h (decodeHead l) refl (λ c e. omega (arith, sound l c m e .fits))
 
   said : (k m : ℕ) → m < 4 → lenOf (charOf k l 0) ≡ m → k ≡ m
@@ -97,33 +98,49 @@ module _ (l : List ℕ) where
       (λ _. by-eq (λ (r : Read). lenOf r ≡ m → k ≡ m) k 2 (λ q e. q ∙ e)
       (λ _. by-eq (λ (r : Read). lenOf r ≡ m → k ≡ m) k 3 (λ q e. q ∙ e) (λ _ e. omega arith)))
 
-  pub other-len : (m : ℕ) → 0 < m → m < 4 → (seqLen (getD l 0 0) ≡ m → ⊥) → eqb (lenOf (decodeHead l)) m ≡ false
+  other-len : (m : ℕ) → 0 < m → m < 4 → (seqLen (getD l 0 0) ≡ m → ⊥) → eqb (lenOf (decodeHead l)) m ≡ false
   other-len m h k f =
       not-len m h (decodeHead l) refl
       (λ c e. f (said (seqLen (getD l 0 0)) m k (ap lenOf (sym (char-head c m l e) ∙ e))))
+
+  pub opens-room : (n : ℕ) → opensBy l n ≡ true → n ≤ length l
+  opens-room n e = leb-true n (length l) (and-left (leb n (length l)) _ (and-right (eqb (seqLen (getD l 0 0)) n) _ e))
 
   module _ (some : 0 < length l) where
     pub one-len : seqLen (getD l 0 0) ≡ 1 → lenOf (decodeHead l) ≡ 1
     unfolding decodeHead headOf
     one-len e = rw (le-ltb (length l) 1 some, e)
 
-    pub two-len : seqLen (getD l 0 0) ≡ 2 → 2 ≤ length l → eqb (lenOf (decodeHead l)) 2 ≡ secondOk (getD l 0 0) (getD l 1 0)
+    -- m bytes long, where t tests those after the lead byte
+    len-by : (m : ℕ) (t : Bool) → 0 < m → m < 4 → (seqLen (getD l 0 0) ≡ m → m ≤ length l → eqb (lenOf (decodeHead l)) m ≡ t)
+        → (eqb (seqLen (getD l 0 0)) m && (leb m (length l) && t)) ≡ eqb (lenOf (decodeHead l)) m
+    len-by m t h k f =
+        split-eq (seqLen (getD l 0 0)) m
+        (λ e. split-lt (length l) m (λ short. rw (eq-eqb _ m e, lt-leb m (length l) short) (sym (cut-len m h short)))
+        (λ long. rw (eq-eqb _ m e, le-leb m (length l) long) (sym (f e long))))
+        (λ e. rw (ne-eqb _ m e) (sym (other-len m h k e)))
+
+    pub two-len : opensBy l 2 ≡ eqb (lenOf (decodeHead l)) 2
     unfolding decodeHead headOf second
-    two-len e h = rw (le-ltb (length l) 1 some, e, le-ltb (length l) 2 h) (tested (secondOk (getD l 0 0) (getD l 1 0)))
+    two-len =
+        len-by 2 (secondOk (getD l 0 0) (getD l 1 0)) (omega arith) (omega arith)
+        (λ e h. rw (le-ltb (length l) 1 some, e, le-ltb (length l) 2 h) (tested (secondOk (getD l 0 0) (getD l 1 0))))
       where
         tested : (t : Bool) → eqb (lenOf (pick t (Char (code2 (getD l 0 0) (getD l 1 0)) 2) Bad)) 2 ≡ t
         tested true = refl
         tested false = refl
 
-    pub three-len : seqLen (getD l 0 0) ≡ 3 → 3 ≤ length l
-        → eqb (lenOf (decodeHead l)) 3 ≡ pick (secondOk (getD l 0 0) (getD l 1 0)) (isTail (getD l 2 0)) false
+    pub three-len : (opensBy l 3 && isTail (getD l 2 0)) ≡ eqb (lenOf (decodeHead l)) 3
     unfolding decodeHead headOf second third
-    three-len e h =
-        rw (le-ltb (length l) 1 some, e, le-ltb (length l) 2 (omega arith), le-ltb (length l) 3 h)
-        (tested (secondOk (getD l 0 0) (getD l 1 0)) (isTail (getD l 2 0)))
+    three-len =
+        let a = secondOk (getD l 0 0) (getD l 1 0) in
+        let b = isTail (getD l 2 0) in
+        and-assoc (eqb (seqLen (getD l 0 0)) 3) (leb 3 (length l) && a) b
+        ∙ ap (λ (t : Bool). eqb (seqLen (getD l 0 0)) 3 && t) (and-assoc (leb 3 (length l)) a b)
+        ∙ len-by 3 (a && b) (omega arith) (omega arith)
+        (λ e h. rw (le-ltb (length l) 1 some, e, le-ltb (length l) 2 (omega arith), le-ltb (length l) 3 h) (tested a b))
       where
-        tested : (t u : Bool)
-            → eqb (lenOf (pick t (pick u (Char (code3 (getD l 0 0) (getD l 1 0) (getD l 2 0)) 3) Bad) Bad)) 3 ≡ pick t u false
+        tested : (t u : Bool) → eqb (lenOf (pick t (pick u (Char (code3 (getD l 0 0) (getD l 1 0) (getD l 2 0)) 3) Bad) Bad)) 3 ≡ (t && u)
         tested true true = refl
         tested true false = refl
         tested false u = refl

@@ -6,7 +6,7 @@ ghost use Prim.Native.Nat.{_<_};
 ghost use lib.Dec.{eqb};
 ghost use lib.ListN.{length};
 ghost use Rattle.utf8.specs.Read.{seqLen, secondOk, code2, code3, code4, fourth, third, second, decodeHead, readAt};
-ghost use Rattle.utf8.specs.Lengths.{lenOf, allSingle, isBlock};
+ghost use Rattle.utf8.specs.Lengths.{lenOf, opensBy, allSingle, isBlock};
 ghost use Rattle.utf8.specs.Chars.{checkFrom};
 use base::between;
 
@@ -186,18 +186,26 @@ pub fn read_char(s: &[u8], at: usize) -> Read
     read_head(&s[at..])
 }
 
+// Does s begin with the lead byte of a sequence of n bytes and a byte that may follow it, and has it so many?
+fn opens(s: &[u8], n: usize) -> bool
+    requires { ⌜ (0 < length (now s)) × (1 < n) ⌝ }
+    ensures { λ r. ⌜ r ≡ opensBy (now (s .entry)) n ⌝ }
+{
+    if lead_len(s[0]) != n {
+        return false;
+    }
+    if s.len() < n {
+        return false;
+    }
+    second_ok(s[0], s[1])
+}
+
 // Has the first character of s two bytes? Then it is passed without being put together.
 fn is_two(s: &[u8]) -> bool
     requires { ⌜ 0 < length (now s) ⌝ }
     ensures { λ r. ⌜ r ≡ eqb (lenOf (decodeHead (now (s .entry)))) 2 ⌝ }
 {
-    if lead_len(s[0]) != 2 {
-        return false;
-    }
-    if s.len() < 2 {
-        return false;
-    }
-    second_ok(s[0], s[1])
+    opens(s, 2)
 }
 
 // Has it three?
@@ -205,13 +213,7 @@ fn is_three(s: &[u8]) -> bool
     requires { ⌜ 0 < length (now s) ⌝ }
     ensures { λ r. ⌜ r ≡ eqb (lenOf (decodeHead (now (s .entry)))) 3 ⌝ }
 {
-    if lead_len(s[0]) != 3 {
-        return false;
-    }
-    if s.len() < 3 {
-        return false;
-    }
-    if !second_ok(s[0], s[1]) {
+    if !opens(s, 3) {
         return false;
     }
     between(s[2], 0x80, 0xbf)
