@@ -39,16 +39,24 @@ firstCluster source table =
     (onTable (tableCheck table)
     (onUtf8 (checkFrom 0 source) (Length (firstEnd baseEdition (propertiesAt table) 0 (chars source)))))
 
--- document 01's number of an answer
+-- ---- document 01's numbers of an answer
+
 abbrev pub numberOf : Cluster → ℕ
 numberOf (Length n) = none
 numberOf TooLong = tooLong
 numberOf (BadTable i) = badTable
 numberOf (BadUtf8 i) = badUtf8
 
--- and its place, or the length
+-- the refusal's place; 0 where there is none
 abbrev pub placeOf : Cluster → ℕ
-placeOf (Length n) = n
+placeOf (Length n) = 0
 placeOf TooLong = 0
 placeOf (BadTable i) = i
 placeOf (BadUtf8 i) = i
+
+-- the length in bytes; 0 on a refusal
+abbrev pub lenOf : Cluster → ℕ
+lenOf (Length n) = n
+lenOf TooLong = 0
+lenOf (BadTable i) = 0
+lenOf (BadUtf8 i) = 0

@@ -1,6 +1,8 @@
 // The first grapheme cluster (UAX #29, section 3.1.1), in one pass: what the rules look back for is kept in a state. koto has this from the
 // crate unicode-segmentation; here the properties come from a lent table. The rules are tried in the annex's order.
 // Left out: legacy clusters, and clusters that are read from their end.
+pub mod answer;
+
 ghost use mathlib.Core.Path.{_≡_};
 ghost use mathlib.Core.List.{[]};
 ghost use lib.ListN.{drop};

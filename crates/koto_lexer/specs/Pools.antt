@@ -1,34 +1,18 @@
--- What `koto_add_string` returns and writes, from the inner call's answer. There the index is told as the place of an answer without a
--- refusal; here the two are apart.
+-- What `koto_add_string` returns and writes, from the inner call's answer.
 -- Assumes nothing.
 use Prim.Native.Nat.{ℕ}
 use mathlib.Core.Path.{_≡_}
 use mathlib.Core.List.{List}
-use Rattle.pool.specs.Pool.{numberOf, added, bytesAfter, entriesAfter, countsAfter}
+use Rattle.pool.specs.Pool.{added, bytesAfter, entriesAfter, numberOf, placeOf, addedIndex, countsAfter}
 use Rattle.pool.specs.declared.Counts.{Counts}
 use Rattle.pool.specs.declared.Added.{Added}
-use Rattle.pool.specs.declared.Added.the-variants.{Index, BadUtf8, BadState, PoolFull}
 use Rattle.pool_lent.specs.Entries.{numbersOf}
 use Rattle.pool_lent.specs.declared.Entry.{Entry}
-
--- the string's index; 0 on a refusal
-abbrev pub indexOf : Added → ℕ
-indexOf (Index index after) = index
-indexOf (BadUtf8 place) = 0
-indexOf BadState = 0
-indexOf PoolFull = 0
-
--- the refusal's place; 0 where there is none
-abbrev pub placeOf : Added → ℕ
-placeOf (Index index after) = 0
-placeOf (BadUtf8 place) = place
-placeOf BadState = 0
-placeOf PoolFull = 0
 
 -- an answer's numbers
 pub record AddedTold (added : Added) (index place r : ℕ) : Type 0 where
   pub number : r ≡ numberOf added
-  pub index-is : index ≡ indexOf added
+  pub index-is : index ≡ addedIndex added
   pub place-is : place ≡ placeOf added
 
 -- what `koto_add_string` ensures: the answer's numbers, and the rows and the counts that it leaves

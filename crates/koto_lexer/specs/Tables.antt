@@ -8,24 +8,15 @@ use Rattle.property.specs.Fit as fit
 use Rattle.property.specs.Fit.{tableCheck}
 use Rattle.property.specs.File as file
 use Rattle.property.specs.File.{readTable, rowAfter}
-use Rattle.property.specs.declared.file.TableFile.{TableFile}
-use Rattle.property.specs.declared.file.TableFile.the-variants.{Read, BadFile, ListFull, BadTable}
 
 -- what `koto_check_table` ensures
 pub record CheckTableIs (table : List ℕ) (place r : ℕ) : Type 0 where
   pub number : r ≡ fit.numberOf (tableCheck table)
   pub place-is : place ≡ fit.placeOf (tableCheck table)
 
--- how many numbers were written to the row
-abbrev pub readCount : TableFile → ℕ
-readCount (Read count) = count
-readCount (BadFile place) = 0
-readCount ListFull = 0
-readCount (BadTable place) = 0
-
 -- what `koto_read_table` ensures, of the row `new` that it leaves of the row `old`
 pub record ReadTableIs (bytes old new : List ℕ) (count place r : ℕ) : Type 0 where
   pub number : r ≡ file.numberOf (readTable bytes (length old))
-  pub count-is : count ≡ readCount (readTable bytes (length old))
+  pub count-is : count ≡ file.readCount (readTable bytes (length old))
   pub place-is : place ≡ file.placeOf (readTable bytes (length old))
   pub row : new ≡ rowAfter (readTable bytes (length old)) bytes old

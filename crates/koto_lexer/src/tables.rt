@@ -1,7 +1,5 @@
 // Property tables for C: a check of a table, and a table read from its file.
-ghost use mathlib.Core.Path.{_≡_};
-ghost use Rattle.koto_lexer.specs.Tables.{readCount, CheckTableIs, ReadTableIs};
-use property::TableFile;
+ghost use Rattle.koto_lexer.specs.Tables.{CheckTableIs, ReadTableIs};
 use property::answer;
 
 // Checks a table. Refused with 2 is one that is unfit, at its place.
@@ -12,17 +10,6 @@ pub extern "C" fn koto_check_table(table: &[u32], place: &mut usize) -> u32
     let check = property::check_table(table);
     *place = answer::check_place(check);
     answer::check_number(check)
-}
-
-fn read_count(read: TableFile) -> usize
-    ensures { λ r. ⌜ r ≡ readCount read ⌝ }
-{
-    match read {
-        TableFile::Read(count) => count,
-        TableFile::BadFile(_) => 0,
-        TableFile::ListFull => 0,
-        TableFile::BadTable(_) => 0,
-    }
 }
 
 // Reads a table file into the start of the row; the rest of the row stays. Refused are a file that is unfit with 14, then a row that is too
@@ -37,7 +24,7 @@ pub extern "C" fn koto_read_table(
     ensures { λ r. ⌜ ReadTableIs (now (file .entry)) (now (row .entry)) (now (row .exit)) (now (count .exit)) (now (place .exit)) r ⌝ }
 {
     let read = property::read_table(file, row);
-    *count = read_count(read);
+    *count = answer::read_count(read);
     *place = answer::read_place(read);
     answer::read_number(read)
 }

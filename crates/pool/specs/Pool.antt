@@ -160,19 +160,27 @@ pub record Grown (string bytes entries : List ℕ) (counts : Counts) (newBytes n
   pub strings : stringsOf newBytes newEntries (after .entries) ≡ withString string (stringsOf bytes entries (counts .entries))
   pub index-is : index ≡ indexOf string (stringsOf bytes entries (counts .entries))
 
--- document 01's number of an answer
+-- ---- document 01's numbers of an answer
+
 abbrev pub numberOf : Added → ℕ
 numberOf (Index index after) = none
 numberOf (BadUtf8 place) = badUtf8
 numberOf BadState = badState
 numberOf PoolFull = poolFull
 
--- and its place, or the index
+-- the refusal's place; 0 where there is none
 abbrev pub placeOf : Added → ℕ
-placeOf (Index index after) = index
+placeOf (Index index after) = 0
 placeOf (BadUtf8 place) = place
 placeOf BadState = 0
 placeOf PoolFull = 0
+
+-- the string's index; 0 on a refusal
+abbrev pub addedIndex : Added → ℕ
+addedIndex (Index index after) = index
+addedIndex (BadUtf8 place) = 0
+addedIndex BadState = 0
+addedIndex PoolFull = 0
 
 -- the pool's counts after an answer: a refusal leaves them
 abbrev pub countsAfter : Counts → Added → Counts

@@ -2,6 +2,8 @@
 // which they were first added. The pool is lent by the caller: a row for the bytes of its strings, end to end, a row of two numbers for each
 // string, where it starts and how long it is, and two counts of what is in use. The Rust's `HashMap` becomes a search from the first entry on.
 // Left out: numbers, the hash, `ConstantEntry`. What is decided is decided over numbers and rows of numbers, and room goes in as numbers.
+pub mod answer;
+
 ghost use mathlib.Core.Path.{_≡_};
 ghost use mathlib.Core.Bool.{true};
 ghost use Prim.Native.Nat.{_+_, _*_, _≤_, _<_};

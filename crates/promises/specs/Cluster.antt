@@ -12,7 +12,7 @@ use Rattle.property.specs.Table.{propertiesAt}
 use Rattle.property.specs.Fit.{tableCheck}
 use Rattle.property.specs.declared.table.TableCheck.the-variants.{Fit, BadTable}
 use Rattle.cluster.specs.First.{Shortest}
-use Rattle.cluster.specs.Call.{baseEdition, firstCluster, numberOf, placeOf}
+use Rattle.cluster.specs.Call.{baseEdition, firstCluster, numberOf, placeOf, lenOf}
 use Rattle.cluster.specs.declared.Cluster.{Cluster}
 use Rattle.promises.specs.Said.{Said, says}
 
@@ -28,7 +28,7 @@ pub record FirstClusterPromise (source table : List ℕ) (r : Cluster) : Type 0 
   pub too-long : sourceMost < length source → clusterSays r ≡ says tooLong 0
   pub bad-table : length source ≤ sourceMost → (i : ℕ) → tableCheck table ≡ BadTable i → clusterSays r ≡ says badTable i
   pub bad-utf8 : length source ≤ sourceMost → tableCheck table ≡ Fit → (n : ℕ) → Longest source n → clusterSays r ≡ says badUtf8 n
-  pub no-bytes : source ≡ [] → tableCheck table ≡ Fit → clusterSays r ≡ says none 0
+  pub no-bytes : source ≡ [] → tableCheck table ≡ Fit → (clusterSays r ≡ says none 0) × (lenOf r ≡ 0)
   pub cluster :
       length source ≤ sourceMost → tableCheck table ≡ Fit → WellFormed source → (n : ℕ) → Shortest baseEdition (propertiesAt table) (chars source) n
-      → clusterSays r ≡ says none (length (encodeAll (take n (chars source))))
+      → (clusterSays r ≡ says none 0) × (lenOf r ≡ length (encodeAll (take n (chars source))))

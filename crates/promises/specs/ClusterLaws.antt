@@ -7,7 +7,7 @@ use mathlib.Core.Path.{_≡_, refl, sym, ap, _∙_}
 use mathlib.Core.List.{List, [], _∷_}
 use lib.ListN.{length, take}
 use borrow.Author.Tests.{lt-ltb, le-ltb}
-use Rattle.base.specs.Refusal.{sourceMost}
+use Rattle.base.specs.Refusal.{none, sourceMost}
 use Rattle.utf8.specs.Encode.{encodeAll, WellFormed}
 use Rattle.utf8.specs.Chars.{chars, checkFrom}
 use Rattle.utf8.specs.Meaning.{Longest}
@@ -18,7 +18,7 @@ use Rattle.property.specs.Fit.{tableCheck}
 use Rattle.property.specs.declared.table.TableCheck.the-variants.{Fit, BadTable}
 use Rattle.cluster.specs.First.{Shortest, firstSize, firstEnd}
 use Rattle.cluster.specs.FirstLaws.{first-is-shortest, one-shortest}
-use Rattle.cluster.specs.Call.{baseEdition, onUtf8, firstCluster}
+use Rattle.cluster.specs.Call.{baseEdition, onUtf8, firstCluster, lenOf}
 use Rattle.cluster.specs.CallLaws.{unrefused, no-bytes}
 use Rattle.cluster.specs.declared.Cluster.{Cluster}
 use Rattle.cluster.specs.declared.Cluster.the-variants as answer
@@ -62,12 +62,15 @@ module _ (source table : List ℕ) where
 
   pub first-cluster-promise : (r : Cluster) → FirstClusterEnsures source table r → FirstClusterPromise source table r
   first-cluster-promise r e =
+      let has-length : (n : ℕ) → r ≡ answer.Length n → (clusterSays r ≡ says none 0) × (lenOf r ≡ n) =
+      λ n q. (ap clusterSays q, ap lenOf q)
+      in
       record {
         too-long = λ h. ap clusterSays (e ∙ long h);
         bad-table = λ h i f. ap clusterSays (e ∙ unfit h i f);
         bad-utf8 = λ h f n l. ap clusterSays (e ∙ ill h f n l);
-        no-bytes = λ z f. ap clusterSays (e ∙ ap (λ (s : List ℕ). firstCluster s table) z ∙ no-bytes table f);
-        cluster = λ h f w n s. ap clusterSays (e ∙ first h f w n s);
+        no-bytes = λ z f. has-length 0 (e ∙ ap (λ (s : List ℕ). firstCluster s table) z ∙ no-bytes table f);
+        cluster = λ h f w n s. has-length _ (e ∙ first h f w n s);
       }
 
   pub first-cluster-has-one-answer : (r q : Cluster) → FirstClusterEnsures source table r → FirstClusterEnsures source table q → r ≡ q

@@ -8,7 +8,8 @@ use lib.ListN.{length, getD}
 use Rattle.base.specs.Refusal.{none, badUtf8, badState, poolFull}
 use Rattle.utf8.specs.Encode.{WellFormed}
 use Rattle.utf8.specs.Meaning.{Longest}
-use Rattle.pool.specs.Pool.{stringsOf, byteRoom, entryRoom, fitPool, oneMore, written, entered, Grown, countsAfter, numberOf, placeOf}
+use Rattle.pool.specs.Pool.{stringsOf, byteRoom, entryRoom, fitPool, oneMore, written, entered}
+use Rattle.pool.specs.Pool.{Grown, numberOf, placeOf, addedIndex, countsAfter}
 use Rattle.pool.specs.declared.Counts.{Counts}
 use Rattle.pool.specs.declared.Added.{Added}
 use Rattle.promises.specs.Said.{Said, says}
@@ -44,21 +45,22 @@ pub record AddStringPromise (string : List ℕ) (counts : Counts) (bytes entries
   pub there :
       Taken string bytes entries counts → (k : ℕ) → StandsAt string bytes entries counts k
       → ((j : ℕ) → j < k → StandsAt string bytes entries counts j → ⊥)
-      → (addedSays r ≡ says none k) × (countsAfter counts r ≡ counts) × (newBytes ≡ bytes) × (newEntries ≡ entries)
+      → (addedSays r ≡ says none 0) × (addedIndex r ≡ k) × (countsAfter counts r ≡ counts) × (newBytes ≡ bytes) × (newEntries ≡ entries)
   -- the string behind those in use, and every other word as it was
   pub new :
       Taken string bytes entries counts → Absent string bytes entries counts → counts .entries < entryRoom entries
       → counts .bytes + length string ≤ byteRoom bytes
-      → (addedSays r ≡ says none (counts .entries))
+      → (addedSays r ≡ says none 0)
+      × (addedIndex r ≡ counts .entries)
       × (countsAfter counts r ≡ oneMore counts (length string))
       × (newBytes ≡ written bytes (counts .bytes) string)
       × (newEntries ≡ entered entries (counts .entries) (counts .bytes) (length string))
   -- a refusal writes nothing
   pub kept : (numberOf r ≡ none → ⊥) → (countsAfter counts r ≡ counts) × (newBytes ≡ bytes) × (newEntries ≡ entries)
   -- after an index the pool is fit again, and its strings are those before, with this one at their end where it was absent
-  pub grown : numberOf r ≡ none → Grown string bytes entries counts newBytes newEntries (placeOf r) (countsAfter counts r)
+  pub grown : numberOf r ≡ none → Grown string bytes entries counts newBytes newEntries (addedIndex r) (countsAfter counts r)
   -- so the string stands at its index, and every index before means what it meant
-  pub shown : numberOf r ≡ none → getD (stringsOf newBytes newEntries (countsAfter counts r .entries)) (placeOf r) [] ≡ string
+  pub shown : numberOf r ≡ none → getD (stringsOf newBytes newEntries (countsAfter counts r .entries)) (addedIndex r) [] ≡ string
   pub same-before :
       numberOf r ≡ none → (k : ℕ) → k < counts .entries
       → getD (stringsOf newBytes newEntries (countsAfter counts r .entries)) k [] ≡ getD (stringsOf bytes entries (counts .entries)) k []

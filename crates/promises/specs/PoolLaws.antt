@@ -14,7 +14,7 @@ use Rattle.utf8.specs.Meaning.{Longest}
 use Rattle.utf8.specs.MeaningLaws.{check-is}
 use Rattle.utf8.specs.declared.Utf8Check.{Utf8Check}
 use Rattle.pool.specs.Pool.{stringsOf, indexOf, byteRoom, entryRoom, oneMore, addedToFit, onUtf8, added, isNew}
-use Rattle.pool.specs.Pool.{AddsString, Grown, countsAfter, numberOf, placeOf}
+use Rattle.pool.specs.Pool.{AddsString, Grown, countsAfter, numberOf, addedIndex}
 use Rattle.pool.specs.StringsLaws.{index-at, index-none, strings-long}
 use Rattle.pool.specs.PoolLaws.{placed-no-entry, placed-few-bytes, placed-new, unfit, unrefused, grows}
 use Rattle.pool.specs.PoolLaws.{new-bytes, new-entries, there-costs-nothing, refused-writes-nothing, index-kept, index-shows, one-answer}
@@ -63,14 +63,14 @@ module _ (string bytes entries : List ℕ) (counts : Counts) where
     is-new t a h k = p .answer ∙ taken t ∙ placed-new (length string) _ counts (entryRoom entries) (byteRoom bytes) (none-is a) h k
 
     -- an answer that is no refusal is an index
-    index-of : (q : Added) → r ≡ q → numberOf q ≡ none → r ≡ Index (placeOf q) (countsAfter counts q)
+    index-of : (q : Added) → r ≡ q → numberOf q ≡ none → r ≡ Index (addedIndex q) (countsAfter counts q)
     index-of (Index index after) e n = e
     index-of (BadUtf8 place) e n = absurd (omega arith)
     index-of BadState e n = absurd (omega arith)
     index-of PoolFull e n = absurd (omega arith)
 
-    has-grown : numberOf r ≡ none → Grown string bytes entries counts newBytes newEntries (placeOf r) (countsAfter counts r)
-    has-grown n = grows string bytes entries counts newBytes newEntries r p (placeOf r) (countsAfter counts r) (index-of r refl n)
+    has-grown : numberOf r ≡ none → Grown string bytes entries counts newBytes newEntries (addedIndex r) (countsAfter counts r)
+    has-grown n = grows string bytes entries counts newBytes newEntries r p (addedIndex r) (countsAfter counts r) (index-of r refl n)
 
     counts-kept : (q : Added) → (numberOf q ≡ none → ⊥) → countsAfter counts q ≡ counts
     counts-kept (Index index after) h = absurd (h refl)
@@ -90,12 +90,13 @@ module _ (string bytes entries : List ℕ) (counts : Counts) where
               let i = first-is k s before in
               let c = there-costs-nothing string bytes entries counts newBytes newEntries r p (t .well) (t .fit) (omega (arith, s .in-use)) in
               let e : r ≡ Index k counts = c .0 ∙ ap (λ (j : ℕ). Index j counts) i in
-              (ap addedSays e, ap (countsAfter counts) e, c .1, c .2);
+              (ap addedSays e, ap addedIndex e, ap (countsAfter counts) e, c .1, c .2);
           new =
               λ t a h k.
               let e = is-new t a h k in
               let new = ap (isNew counts) (sym (p .answer) ∙ e) ∙ eq-eqb (counts .entries) (counts .entries) refl in (
                 ap addedSays e,
+                ap addedIndex e,
                 ap (countsAfter counts) e,
                 p .bytes-left ∙ new-bytes string counts (added string bytes entries counts) new bytes,
                 p .entries-left ∙ new-entries string counts (added string bytes entries counts) new entries,
@@ -105,8 +106,8 @@ module _ (string bytes entries : List ℕ) (counts : Counts) where
               let c = refused-writes-nothing string bytes entries counts newBytes newEntries r p h in
               (counts-kept r h, c .0, c .1);
           grown = has-grown;
-          shown = λ n. index-shows string bytes entries counts newBytes newEntries (placeOf r) (countsAfter counts r) (has-grown n);
-          same-before = λ n. index-kept string bytes entries counts newBytes newEntries (placeOf r) (countsAfter counts r) (has-grown n);
+          shown = λ n. index-shows string bytes entries counts newBytes newEntries (addedIndex r) (countsAfter counts r) (has-grown n);
+          same-before = λ n. index-kept string bytes entries counts newBytes newEntries (addedIndex r) (countsAfter counts r) (has-grown n);
         }
 
 pub add-string-has-one-answer :

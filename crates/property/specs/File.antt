@@ -123,3 +123,10 @@ placeOf (Read count) = 0
 placeOf (BadFile place) = place
 placeOf ListFull = 0
 placeOf (BadTable place) = place
+
+-- how many numbers were read; 0 on a refusal
+abbrev pub readCount : TableFile → ℕ
+readCount (Read count) = count
+readCount (BadFile place) = 0
+readCount ListFull = 0
+readCount (BadTable place) = 0

@@ -52,3 +52,15 @@ pub fn read_place(read: TableFile) -> usize
         TableFile::BadTable(i) => i,
     }
 }
+
+// How many numbers were read; 0 on a refusal.
+pub fn read_count(read: TableFile) -> usize
+    ensures { λ r. ⌜ r ≡ file.readCount read ⌝ }
+{
+    match read {
+        TableFile::Read(count) => count,
+        TableFile::BadFile(_) => 0,
+        TableFile::ListFull => 0,
+        TableFile::BadTable(_) => 0,
+    }
+}

@@ -94,10 +94,7 @@ fn file_agrees(case: Case, said: TableFile) -> bool {
     if case.place != answer::read_place(said) {
         return false;
     }
-    match said {
-        TableFile::Read(count) => case.count == count,
-        _ => case.count == 0,
-    }
+    case.count == answer::read_count(said)
 }
 
 // Checks the first numbers of the row as a table, and compares the answer.

@@ -1,21 +1,14 @@
 // Replays what Rust's `from_utf8` said of bytes, well formed, ill formed and cut (data/utf8.txt; tools/README.md says how it was made), and
 // then a file with one wrong line, so that a difference is seen to be reported.
 use utf8::Utf8Check;
+use utf8::answer;
 
-// What the check says, as a line has it: the answer (0 fine, 1 bad, 2 cut) and the place (0 where fine).
-struct Said {
-    answer: usize,
-    place: usize,
-}
-
-fn said_by(check: Utf8Check) -> Said {
+// What the check says, as a line has it: 0 fine, 1 bad, 2 cut.
+fn said_by(check: Utf8Check) -> usize {
     match check {
-        Utf8Check::Fine => Said {
-            answer: 0,
-            place: 0,
-        },
-        Utf8Check::BadAt(place) => Said { answer: 1, place },
-        Utf8Check::CutAt(place) => Said { answer: 2, place },
+        Utf8Check::Fine => 0,
+        Utf8Check::BadAt(_) => 1,
+        Utf8Check::CutAt(_) => 2,
     }
 }
 
@@ -25,11 +18,11 @@ fn agrees(text: &[u8], at: usize) -> bool {
     let n = lines::hex(text, at, &mut bytes);
     let answer_at = lines::past(text, at, b' ');
     let place_at = lines::past(text, answer_at, b' ');
-    let said = said_by(utf8::check_utf8(&bytes[..n]));
-    if said.answer != lines::number(text, answer_at) {
+    let check = utf8::check_utf8(&bytes[..n]);
+    if said_by(check) != lines::number(text, answer_at) {
         return false;
     }
-    said.place == lines::number(text, place_at)
+    answer::check_place(check) == lines::number(text, place_at)
 }
 
 fn replay_lines(name: &[u8], text: &[u8]) {

@@ -5,18 +5,9 @@ use mathlib.Core.Path.{_≡_}
 use mathlib.Core.List.{List}
 use lib.ListN.{take, drop}
 use Rattle.property.specs.FitLaws.{FitTable}
-use Rattle.property.specs.declared.file.TableFile.{TableFile}
-use Rattle.property.specs.declared.file.TableFile.the-variants.{Read, BadFile, ListFull, BadTable}
 
 -- the row `new` of the row `old`, where n numbers were read: they are a fit table at its start, and the rest stays. Where the file was
 -- refused n is 0, and all stays
 pub record TableIn (old new : List ℕ) (n : ℕ) : Type 0 where
   pub fit : 0 < n → FitTable (take n new)
   pub rest : drop n new ≡ drop n old
-
--- how many numbers an answer of `read_table` says that were read
-abbrev pub countIn : TableFile → ℕ
-countIn (Read count) = count
-countIn (BadFile place) = 0
-countIn ListFull = 0
-countIn (BadTable place) = 0

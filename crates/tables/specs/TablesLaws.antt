@@ -9,11 +9,11 @@ use lib.ListN.{length, take, drop, length-take}
 use lib.Seq.{take-append-seam, drop-append-seam}
 use Rattle.io.specs.Counts.{Counts}
 use Rattle.property.specs.FitLaws.{fit-of}
-use Rattle.property.specs.File.{numbersOf, rowAfter, readTable, ReadTableIs}
+use Rattle.property.specs.File.{numbersOf, rowAfter, readTable, readCount, ReadTableIs}
 use Rattle.property.specs.FileLaws.{Bytes, FileRead, file-of-read}
 use Rattle.property.specs.declared.file.TableFile.{TableFile}
 use Rattle.property.specs.declared.file.TableFile.the-variants.{Read, BadFile, ListFull, BadTable}
-use Rattle.tables.specs.Tables.{TableIn, countIn}
+use Rattle.tables.specs.Tables.{TableIn}
 
 -- what is read, and that it counts
 abbrev Told : List ℕ → List ℕ → ℕ → Type 0
@@ -37,12 +37,12 @@ module _ (file old new : List ℕ) (small : Bytes file) where
       let within : n ≤ length new = omega (arith, counts, length-take n new) in
       ((within, counts), record { fit = λ _. rw front (fit-of (numbersOf file) (f .fit)); rest = rw is (begun (drop n old)) })
 
-  by-answer : (a : TableFile) → readTable file (length old) ≡ a → new ≡ rowAfter a file old → Told old new (countIn a)
+  by-answer : (a : TableFile) → readTable file (length old) ≡ a → new ≡ rowAfter a file old → Told old new (readCount a)
   by-answer (Read n) e is = filled n e is
   by-answer (BadFile place) e is = kept old new is
   by-answer ListFull e is = kept old new is
   by-answer (BadTable place) e is = kept old new is
 
-  pub in-row : (a : TableFile) (r : ℕ) → ReadTableIs file old new a → r ≡ countIn a → Counts r new × TableIn old new r
+  pub in-row : (a : TableFile) (r : ℕ) → ReadTableIs file old new a → r ≡ readCount a → Counts r new × TableIn old new r
   in-row a r is e =
       rw e (by-answer a (sym (is .answer)) (is .row ∙ ap (λ (x : TableFile). rowAfter x file old) (sym (is .answer))))

@@ -1,10 +1,10 @@
 // The table that a replay program lends to what it replays, read from its file. This crate knows nothing of what is compared.
 use libc::STDOUT_FILENO;
-use property::TableFile;
+use property::answer;
 ghost use mathlib.Core.Path.{_≡_};
 ghost use lib.ListN.{length, replicate};
 ghost use Rattle.io.specs.Counts.{Counts};
-ghost use Rattle.tables.specs.Tables.{TableIn, countIn};
+ghost use Rattle.tables.specs.Tables.{TableIn};
 
 // Zeros, as many as the longest table has numbers. The length, which follows, is what lending them as a slice asks.
 pub fn row_buffer() -> [u32; 8000]
@@ -14,24 +14,12 @@ pub fn row_buffer() -> [u32; 8000]
     [0; 8000]
 }
 
-// How many numbers an answer of `read_table` says that were read.
-fn count_in(said: TableFile) -> usize
-    ensures { λ r. ⌜ r ≡ countIn said ⌝ }
-{
-    match said {
-        TableFile::Read(count) => count,
-        TableFile::BadFile(_) => 0,
-        TableFile::ListFull => 0,
-        TableFile::BadTable(_) => 0,
-    }
-}
-
 // Reads a table file into the start of the row, and answers how many numbers it has; 0 where it is refused.
 fn table_in(file: &[u8], row: &mut [u32]) -> usize
     ensures { λ r. ⌜ Counts r (now (row .exit)) ⌝ }
     ensures { λ r. ⌜ TableIn (now (row .entry)) (now (row .exit)) r ⌝ }
 {
-    count_in(property::read_table(file, row))
+    answer::read_count(property::read_table(file, row))
 }
 
 // Says how many runs the table of that name has, or that it was refused.

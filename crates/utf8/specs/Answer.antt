@@ -1,10 +1,34 @@
--- Document 01, "Refusal numbers", of the answer of `check_utf8`: ill-formed bytes are refusal 3, whether they are wrong or cut, and the place
--- is the offset of the first such sequence.
+-- Document 01, "Refusal numbers", of what `read_char` and `check_utf8` answer: ill-formed bytes are refusal 3, whether they are wrong or cut,
+-- and whether the end cuts a character is told beside it. How many bytes a character has is `lenOf` (`Lengths`).
 -- Assumes nothing.
 use Prim.Native.Nat.{ℕ}
 use Rattle.base.specs.Refusal.{none, badUtf8}
+use Rattle.utf8.specs.declared.Read.{Read}
+use Rattle.utf8.specs.declared.Read.the-variants.{Char, Bad, Cut}
 use Rattle.utf8.specs.declared.Utf8Check.{Utf8Check}
 use Rattle.utf8.specs.declared.Utf8Check.the-variants.{Fine, BadAt, CutAt}
+
+-- ---- one character
+
+-- the number
+abbrev pub readNumber : Read → ℕ
+readNumber (Char code len) = none
+readNumber Bad = badUtf8
+readNumber Cut = badUtf8
+
+-- the code point; 0 where there is no character
+abbrev pub codeOf : Read → ℕ
+codeOf (Char code len) = code
+codeOf Bad = 0
+codeOf Cut = 0
+
+-- 1 where the end cuts a character
+abbrev pub cutOf : Read → ℕ
+cutOf (Char code len) = 0
+cutOf Bad = 0
+cutOf Cut = 1
+
+-- ---- all bytes
 
 -- the number
 abbrev pub numberOf : Utf8Check → ℕ
@@ -12,8 +36,14 @@ numberOf Fine = none
 numberOf (BadAt i) = badUtf8
 numberOf (CutAt i) = badUtf8
 
--- the place
+-- the place: the offset of the first ill-formed sequence; 0 where there is none
 abbrev pub placeOf : Utf8Check → ℕ
 placeOf Fine = 0
 placeOf (BadAt i) = i
 placeOf (CutAt i) = i
+
+-- 1 where the end cuts a character
+abbrev pub checkCut : Utf8Check → ℕ
+checkCut Fine = 0
+checkCut (BadAt i) = 0
+checkCut (CutAt i) = 1

@@ -1,6 +1,8 @@
 // UTF-8 (RFC 3629): one character read at a place of a slice, and a check of a whole slice. Bytes that are wrong are told from bytes
 // that the end of the slice cuts. koto has this from Rust's `str`; here it is added, for bytes that are tested once.
 // Left out: byte order marks, and any repair of what is ill-formed.
+pub mod answer;
+
 ghost use mathlib.Core.Path.{_≡_};
 ghost use Prim.Native.Nat.{_<_};
 ghost use lib.Dec.{eqb};

@@ -6,14 +6,14 @@ use Rattle.koto_lexer.proofs.bytes.koto_read_char.Tie as tie
 read-char-requires : tie.Need-read-char-requires
 read-char-requires c κs = search needs
 
-code-of-requires : tie.Need-code-of-requires
-code-of-requires c κs = search needs
+read-code-requires : tie.Need-read-code-requires
+read-code-requires c κs = search needs
 
-len-of-requires : tie.Need-len-of-requires
-len-of-requires c κs = search needs
+read-len-requires : tie.Need-read-len-requires
+read-len-requires c κs = search needs
 
-cut-of-requires : tie.Need-cut-of-requires
-cut-of-requires c κs = search needs
+read-cut-requires : tie.Need-read-cut-requires
+read-cut-requires c κs = search needs
 
 read-number-requires : tie.Need-read-number-requires
 read-number-requires c κs = search needs
@@ -26,8 +26,8 @@ koto-read-char-spec =
     tie.close
     (tie.spec
     read-char-requires
-    code-of-requires
-    len-of-requires
-    cut-of-requires
+    read-code-requires
+    read-len-requires
+    read-cut-requires
     read-number-requires
     returns)

@@ -1,0 +1,44 @@
+// Document 01's numbers of what `first_cluster` answers, for whoever prints it or hands it on.
+ghost use mathlib.Core.Path.{_≡_};
+ghost use Rattle.cluster.specs.Call.{numberOf, placeOf, lenOf};
+use crate::Cluster;
+use base::refusals::BAD_TABLE;
+use base::refusals::BAD_UTF8;
+use base::refusals::NO_REFUSAL;
+use base::refusals::TOO_LONG;
+
+// The refusal's number; 0 where there is no refusal.
+pub fn number_of(cluster: Cluster) -> u32
+    ensures { λ r. ⌜ r ≡ numberOf cluster ⌝ }
+{
+    match cluster {
+        Cluster::Length(_) => NO_REFUSAL,
+        Cluster::TooLong => TOO_LONG,
+        Cluster::BadTable(_) => BAD_TABLE,
+        Cluster::BadUtf8(_) => BAD_UTF8,
+    }
+}
+
+// The refusal's place; 0 where there is no refusal.
+pub fn place_of(cluster: Cluster) -> usize
+    ensures { λ r. ⌜ r ≡ placeOf cluster ⌝ }
+{
+    match cluster {
+        Cluster::Length(_) => 0,
+        Cluster::TooLong => 0,
+        Cluster::BadTable(i) => i,
+        Cluster::BadUtf8(i) => i,
+    }
+}
+
+// The length in bytes; 0 on a refusal.
+pub fn len_of(cluster: Cluster) -> usize
+    ensures { λ r. ⌜ r ≡ lenOf cluster ⌝ }
+{
+    match cluster {
+        Cluster::Length(n) => n,
+        Cluster::TooLong => 0,
+        Cluster::BadTable(_) => 0,
+        Cluster::BadUtf8(_) => 0,
+    }
+}
