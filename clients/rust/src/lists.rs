@@ -134,7 +134,11 @@ impl Status {
     }
 }
 
+// `next` and `peek` are inlined, so that the record is read where the library wrote it. Copied once more it would be loaded in other parts
+// than it was stored in, which a processor waits for.
+
 /// Hands out the next token.
+#[inline]
 pub fn next(list: &[u32], cursor: &mut Cursor) -> Given {
     let (mut shown, mut record, mut place) = (0, Record::default(), 0);
     let status = cursor.status.number();
@@ -161,6 +165,7 @@ pub fn next(list: &[u32], cursor: &mut Cursor) -> Given {
 }
 
 /// Shows queued token n, and queues one more before, as koto's `peek` does.
+#[inline]
 pub fn peek(list: &[u32], cursor: &mut Cursor, n: usize) -> Peeked {
     let (mut shown, mut record, mut place) = (0, Record::default(), 0);
     let status = cursor.status.number();

@@ -26,7 +26,7 @@ use Rattle.koto_lexer.specs.declared.cursors.Named.the-variants as named
 
 -- the status that a number names, as `koto_scan` writes it
 unfoldable pub statusBy : ℕ → Named
-statusBy number = pick (eqb number endNumber) (named.Status End) (pick (eqb number stuckNumber) (named.Status Stuck) named.Nothing)
+statusBy number = pick (eqb number endNumber) named.End (pick (eqb number stuckNumber) named.Stuck named.Nothing)
 
 abbrev pub cursorOf : ℕ → ℕ → ℕ → Status → Cursor
 cursorOf taken queued count status = record { taken = taken; queued = queued; count = count; status = status }
@@ -56,7 +56,8 @@ wordsOf row =
 
 -- the answer where the status number names this
 abbrev pub nextIf : List ℕ → ℕ → ℕ → ℕ → Named → Given
-nextIf list taken queued count (named.Status status) = nextOf list (cursorOf taken queued count status)
+nextIf list taken queued count named.End = nextOf list (cursorOf taken queued count End)
+nextIf list taken queued count named.Stuck = nextOf list (cursorOf taken queued count Stuck)
 nextIf list taken queued count named.Nothing = given.BadState
 
 -- the answer for these numbers
@@ -104,7 +105,8 @@ pub record NextIs (list : List ℕ) (taken queued count status newTaken newQueue
 
 -- the answer where the status number names this
 abbrev pub peekIf : List ℕ → ℕ → ℕ → ℕ → ℕ → Named → Peeked
-peekIf list taken queued count n (named.Status status) = peekOf list (cursorOf taken queued count status) n
+peekIf list taken queued count n named.End = peekOf list (cursorOf taken queued count End) n
+peekIf list taken queued count n named.Stuck = peekOf list (cursorOf taken queued count Stuck) n
 peekIf list taken queued count n named.Nothing = peeked.BadState
 
 -- the answer for these numbers

@@ -6,18 +6,17 @@
 use Prim.Native.Nat.{ℕ}
 use mathlib.Core.Path.{_≡_, refl, ap}
 use mathlib.Core.List.{List}
-use Rattle.lookahead.specs.declared.Status.the-variants.{End, Stuck}
 use Rattle.lookahead.specs.declared.Given.the-variants as given
 use Rattle.lookahead.specs.declared.Peeked.the-variants as peeked
 use Rattle.koto_lexer.specs.Scans.{endNumber, stuckNumber, refusedNumber}
 use Rattle.koto_lexer.specs.Cursors.{statusBy, nextIf, nextBy, peekIf, peekBy}
 use Rattle.koto_lexer.specs.declared.cursors.Named.the-variants as named
 
-pub end-named : statusBy endNumber ≡ named.Status End
+pub end-named : statusBy endNumber ≡ named.End
 unfolding statusBy
 end-named = refl
 
-pub stuck-named : statusBy stuckNumber ≡ named.Status Stuck
+pub stuck-named : statusBy stuckNumber ≡ named.Stuck
 unfolding statusBy
 stuck-named = refl
 

@@ -1,6 +1,6 @@
 // `next` and `peek` for C. A cursor is its numbers: taken, queued, the count, and the status as a scan writes it.
 ghost use mathlib.Core.Path.{_≡_};
-ghost use Rattle.koto_lexer.specs.Cursors.{statusBy, noRow, wordsOf, nextBy, givenShown, givenRow, givenTaken, givenQueued, NextIs};
+ghost use Rattle.koto_lexer.specs.Cursors.{statusBy, cursorOf, noRow, wordsOf, nextBy, givenShown, givenRow, givenTaken, givenQueued, NextIs};
 ghost use Rattle.koto_lexer.specs.Cursors.{peekBy, peekedShown, peekedRow, peekedQueued, PeekIs};
 use crate::scans::END;
 use crate::scans::STUCK;
@@ -11,9 +11,10 @@ use lookahead::Status;
 use lookahead::answer;
 use token::rows::Row;
 
-// What a status number names.
+// What a status number names. Each has an arm of its own below, so that LLVM compiles the inner call for the one status.
 enum Named {
-    Status(Status),
+    End,
+    Stuck,
     // No cursor has this number.
     Nothing,
 }
@@ -22,12 +23,23 @@ fn status_by(number: u32) -> Named
     ensures { λ r. ⌜ r ≡ statusBy number ⌝ }
 {
     if number == END {
-        return Named::Status(Status::End);
+        return Named::End;
     }
     if number == STUCK {
-        return Named::Status(Status::Stuck);
+        return Named::Stuck;
     }
     Named::Nothing
+}
+
+fn cursor_of(taken: usize, queued: usize, count: usize, status: Status) -> Cursor
+    ensures { λ r. ⌜ r ≡ cursorOf taken queued count status ⌝ }
+{
+    Cursor {
+        taken,
+        queued,
+        count,
+        status,
+    }
 }
 
 // What stands for a record where none is shown.
@@ -71,15 +83,8 @@ fn next_by(list: &[u32], taken: usize, queued: usize, count: usize, status: u32)
     ensures { λ r. ⌜ r ≡ nextBy (now (list .entry)) taken queued count status ⌝ }
 {
     match status_by(status) {
-        Named::Status(status) => lookahead::next(
-            list,
-            Cursor {
-                taken,
-                queued,
-                count,
-                status,
-            },
-        ),
+        Named::End => lookahead::next(list, cursor_of(taken, queued, count, Status::End)),
+        Named::Stuck => lookahead::next(list, cursor_of(taken, queued, count, Status::Stuck)),
         Named::Nothing => Given::BadState,
     }
 }
@@ -160,16 +165,8 @@ fn peek_by(list: &[u32], taken: usize, queued: usize, count: usize, status: u32,
     ensures { λ r. ⌜ r ≡ peekBy (now (list .entry)) taken queued count status n ⌝ }
 {
     match status_by(status) {
-        Named::Status(status) => lookahead::peek(
-            list,
-            Cursor {
-                taken,
-                queued,
-                count,
-                status,
-            },
-            n,
-        ),
+        Named::End => lookahead::peek(list, cursor_of(taken, queued, count, Status::End), n),
+        Named::Stuck => lookahead::peek(list, cursor_of(taken, queued, count, Status::Stuck), n),
         Named::Nothing => Peeked::BadState,
     }
 }
