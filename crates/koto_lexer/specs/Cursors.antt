@@ -19,14 +19,12 @@ use Rattle.lookahead.specs.declared.Given.the-variants as given
 use Rattle.lookahead.specs.declared.Peeked.{Peeked}
 use Rattle.lookahead.specs.declared.Peeked.the-variants as peeked
 use Rattle.koto_lexer.specs.Scans.{endNumber, stuckNumber}
-use Rattle.koto_lexer.specs.declared.cursors.Named.{Named}
-use Rattle.koto_lexer.specs.declared.cursors.Named.the-variants as named
 
 -- ---- the numbers of a cursor and of a record
 
--- the status that a number names, as `koto_scan` writes it
-unfoldable pub statusBy : ℕ → Named
-statusBy number = pick (eqb number endNumber) named.End (pick (eqb number stuckNumber) named.Stuck named.Nothing)
+-- by the status that a number names, as `koto_scan` writes it; y is for every other number
+abbrev pub byStatus : {A : Type 0} → (Status → A) → A → ℕ → A
+byStatus f y number = pick (eqb number endNumber) (f End) (pick (eqb number stuckNumber) (f Stuck) y)
 
 abbrev pub cursorOf : ℕ → ℕ → ℕ → Status → Cursor
 cursorOf taken queued count status = record { taken = taken; queued = queued; count = count; status = status }
@@ -54,15 +52,9 @@ wordsOf row =
 
 -- ---- `next`
 
--- the answer where the status number names this
-abbrev pub nextIf : List ℕ → ℕ → ℕ → ℕ → Named → Given
-nextIf list taken queued count named.End = nextOf list (cursorOf taken queued count End)
-nextIf list taken queued count named.Stuck = nextOf list (cursorOf taken queued count Stuck)
-nextIf list taken queued count named.Nothing = given.BadState
-
 -- the answer for these numbers
 abbrev pub nextBy : List ℕ → ℕ → ℕ → ℕ → ℕ → Given
-nextBy list taken queued count status = nextIf list taken queued count (statusBy status)
+nextBy list taken queued count status = byStatus (λ (x : Status). nextOf list (cursorOf taken queued count x)) given.BadState status
 
 -- 1 where a token is handed out
 abbrev pub givenShown : Given → ℕ
@@ -103,15 +95,9 @@ pub record NextIs (list : List ℕ) (taken queued count status newTaken newQueue
 
 -- ---- `peek`
 
--- the answer where the status number names this
-abbrev pub peekIf : List ℕ → ℕ → ℕ → ℕ → ℕ → Named → Peeked
-peekIf list taken queued count n named.End = peekOf list (cursorOf taken queued count End) n
-peekIf list taken queued count n named.Stuck = peekOf list (cursorOf taken queued count Stuck) n
-peekIf list taken queued count n named.Nothing = peeked.BadState
-
 -- the answer for these numbers
 abbrev pub peekBy : List ℕ → ℕ → ℕ → ℕ → ℕ → ℕ → Peeked
-peekBy list taken queued count status n = peekIf list taken queued count n (statusBy status)
+peekBy list taken queued count status n = byStatus (λ (x : Status). peekOf list (cursorOf taken queued count x) n) peeked.BadState status
 
 -- 1 where a token is shown
 abbrev pub peekedShown : Peeked → ℕ

@@ -1,6 +1,6 @@
 // `next` and `peek` for C. A cursor is its numbers: taken, queued, the count, and the status as a scan writes it.
 ghost use mathlib.Core.Path.{_≡_};
-ghost use Rattle.koto_lexer.specs.Cursors.{statusBy, cursorOf, noRow, wordsOf, nextBy, givenShown, givenRow, givenTaken, givenQueued, NextIs};
+ghost use Rattle.koto_lexer.specs.Cursors.{cursorOf, noRow, wordsOf, nextBy, givenShown, givenRow, givenTaken, givenQueued, NextIs};
 ghost use Rattle.koto_lexer.specs.Cursors.{peekBy, peekedShown, peekedRow, peekedQueued, PeekIs};
 use crate::scans::END;
 use crate::scans::STUCK;
@@ -10,26 +10,6 @@ use lookahead::Peeked;
 use lookahead::Status;
 use lookahead::answer;
 use token::rows::Row;
-
-// What a status number names. Each has an arm of its own below, so that LLVM compiles the inner call for the one status.
-enum Named {
-    End,
-    Stuck,
-    // No cursor has this number.
-    Nothing,
-}
-
-fn status_by(number: u32) -> Named
-    ensures { λ r. ⌜ r ≡ statusBy number ⌝ }
-{
-    if number == END {
-        return Named::End;
-    }
-    if number == STUCK {
-        return Named::Stuck;
-    }
-    Named::Nothing
-}
 
 fn cursor_of(taken: usize, queued: usize, count: usize, status: Status) -> Cursor
     ensures { λ r. ⌜ r ≡ cursorOf taken queued count status ⌝ }
@@ -78,14 +58,14 @@ fn put_record(words: &mut [u32; 9], row: Row)
 
 // ---- `next`
 
-// The inner call's answer for a cursor of these numbers.
+// The inner call's answer for a cursor of these numbers. Each status has an arm of its own, so that LLVM compiles the call for the one status.
 fn next_by(list: &[u32], taken: usize, queued: usize, count: usize, status: u32) -> Given
     ensures { λ r. ⌜ r ≡ nextBy (now (list .entry)) taken queued count status ⌝ }
 {
-    match status_by(status) {
-        Named::End => lookahead::next(list, cursor_of(taken, queued, count, Status::End)),
-        Named::Stuck => lookahead::next(list, cursor_of(taken, queued, count, Status::Stuck)),
-        Named::Nothing => Given::BadState,
+    match status {
+        END => lookahead::next(list, cursor_of(taken, queued, count, Status::End)),
+        STUCK => lookahead::next(list, cursor_of(taken, queued, count, Status::Stuck)),
+        _ => Given::BadState,
     }
 }
 
@@ -164,10 +144,10 @@ pub extern "C" fn koto_next(
 fn peek_by(list: &[u32], taken: usize, queued: usize, count: usize, status: u32, n: usize) -> Peeked
     ensures { λ r. ⌜ r ≡ peekBy (now (list .entry)) taken queued count status n ⌝ }
 {
-    match status_by(status) {
-        Named::End => lookahead::peek(list, cursor_of(taken, queued, count, Status::End), n),
-        Named::Stuck => lookahead::peek(list, cursor_of(taken, queued, count, Status::Stuck), n),
-        Named::Nothing => Peeked::BadState,
+    match status {
+        END => lookahead::peek(list, cursor_of(taken, queued, count, Status::End), n),
+        STUCK => lookahead::peek(list, cursor_of(taken, queued, count, Status::Stuck), n),
+        _ => Peeked::BadState,
     }
 }
 
