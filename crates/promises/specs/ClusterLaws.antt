@@ -11,7 +11,7 @@ use Rattle.base.specs.Refusal.{none, sourceMost}
 use Rattle.utf8.specs.Encode.{encodeAll, WellFormed}
 use Rattle.utf8.specs.Chars.{chars, checkFrom}
 use Rattle.utf8.specs.Meaning.{Longest}
-use Rattle.utf8.specs.MeaningLaws.{check-is}
+use Rattle.utf8.specs.MeaningLaws.{check-is, ill-formed}
 use Rattle.utf8.specs.declared.Utf8Check.{Utf8Check}
 use Rattle.property.specs.Table.{propertiesAt}
 use Rattle.property.specs.Fit.{tableCheck}
@@ -23,7 +23,6 @@ use Rattle.cluster.specs.CallLaws.{unrefused, no-bytes}
 use Rattle.cluster.specs.declared.Cluster.{Cluster}
 use Rattle.cluster.specs.declared.Cluster.the-variants as answer
 use Rattle.promises.specs.Said.{Said, says}
-use Rattle.promises.specs.Utf8Laws.{ill-formed}
 use Rattle.promises.specs.Cluster.{FirstClusterEnsures, clusterSays, FirstClusterPromise}
 
 module _ (source table : List ℕ) where

@@ -12,7 +12,7 @@ use Rattle.utf8.specs.Encode.{WellFormed}
 use Rattle.utf8.specs.Chars.{checkFrom}
 use Rattle.utf8.specs.CharsLaws.{well-of-fine}
 use Rattle.utf8.specs.Meaning.{Longest}
-use Rattle.utf8.specs.MeaningLaws.{check-is}
+use Rattle.utf8.specs.MeaningLaws.{check-is, ill-formed}
 use Rattle.utf8.specs.declared.Utf8Check.{Utf8Check}
 use Rattle.utf8.specs.declared.Utf8Check.the-variants as utf8
 use Rattle.property.specs.Fit.{tableCheck}
@@ -27,7 +27,6 @@ use Rattle.parse.specs.declared.After.{After}
 use Rattle.parse.specs.declared.Parsed.{Parsed}
 use Rattle.parse.specs.declared.Parsed.the-variants.{BadUtf8}
 use Rattle.promises.specs.Said.{Said, says}
-use Rattle.promises.specs.Utf8Laws.{ill-formed}
 use Rattle.promises.specs.Parse.{parseSays, Parsable, ParsePromise}
 
 module _ (format table bytes entries : List ℕ) (counts : Counts) where

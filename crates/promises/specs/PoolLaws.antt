@@ -11,7 +11,7 @@ use Rattle.base.specs.Refusal.{none}
 use Rattle.utf8.specs.Chars.{checkFrom}
 use Rattle.utf8.specs.CharsLaws.{fine-of-well}
 use Rattle.utf8.specs.Meaning.{Longest}
-use Rattle.utf8.specs.MeaningLaws.{check-is}
+use Rattle.utf8.specs.MeaningLaws.{check-is, ill-formed}
 use Rattle.utf8.specs.declared.Utf8Check.{Utf8Check}
 use Rattle.pool.specs.Pool.{stringsOf, indexOf, byteRoom, entryRoom, oneMore, addedToFit, onUtf8, added, isNew}
 use Rattle.pool.specs.Pool.{AddsString, Grown, countsAfter, numberOf, addedIndex}
@@ -21,7 +21,6 @@ use Rattle.pool.specs.PoolLaws.{new-bytes, new-entries, there-costs-nothing, re
 use Rattle.pool.specs.declared.Counts.{Counts}
 use Rattle.pool.specs.declared.Added.{Added}
 use Rattle.pool.specs.declared.Added.the-variants.{Index, BadUtf8, BadState, PoolFull}
-use Rattle.promises.specs.Utf8Laws.{ill-formed}
 use Rattle.promises.specs.Pool.{addedSays, Taken, StandsAt, Absent, AddStringPromise}
 
 module _ (string bytes entries : List ℕ) (counts : Counts) where

@@ -18,7 +18,7 @@ use Rattle.base.specs.Refusal.{listFull, sourceMost}
 use Rattle.utf8.specs.Chars.{checkFrom}
 use Rattle.utf8.specs.CharsLaws.{fine-of-well}
 use Rattle.utf8.specs.Meaning.{Longest}
-use Rattle.utf8.specs.MeaningLaws.{check-is}
+use Rattle.utf8.specs.MeaningLaws.{check-is, ill-formed}
 use Rattle.utf8.specs.declared.Utf8Check.{Utf8Check}
 use Rattle.utf8.specs.declared.Utf8Check.the-variants as utf8
 use Rattle.property.specs.Fit.{tableCheck}
@@ -32,7 +32,6 @@ use Rattle.reading.specs.Scan.{endOf, whole, byRoom, onTable, onUtf8, readingOf
 use Rattle.reading.specs.ScanLaws.{scans-long, scans-bad-table, scans-bad, scans-cut, scans-fine, one-answer}
 use Rattle.reading.specs.declared.Scanned.{Scanned}
 use Rattle.reading.specs.declared.Scanned.the-variants as answer
-use Rattle.promises.specs.Utf8Laws.{ill-formed}
 use Rattle.promises.specs.Scan.{scanSays, Readable, rows, stop, ScanPromise}
 
 -- ---- by the room

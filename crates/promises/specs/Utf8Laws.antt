@@ -1,20 +1,15 @@
 -- The promises of `Utf8`, proved, and that no second answer fits.
 --     read-char-promise, read-char-has-one-answer
 --     check-utf8-promise, check-utf8-has-one-answer
---     one-longest      there is one longest well-formed beginning
---     ill-formed       ill-formed bytes, for a caller to whom wrong ones and cut ones are one refusal
 -- Assumes nothing.
-use Prim.Native.Nat.{ℕ, _<_, _≤_}
+use Prim.Native.Nat.{ℕ}
 use native.Mathlib.Omega.{arith}
-use mathlib.Core.Path.{_≡_, refl, sym, ap, subst, _∙_}
+use mathlib.Core.Path.{_≡_, refl, sym, ap}
 use mathlib.Core.List.{List}
-use lib.ListN.{length}
-use lib.Seq.{take-length}
-use Rattle.base.specs.PickLaws.{split-lt}
 use Rattle.base.specs.Refusal.{none, badUtf8}
 use Rattle.utf8.specs.Encode.{WellFormed}
 use Rattle.utf8.specs.Meaning.{ReadIs, Longest, CheckIs}
-use Rattle.utf8.specs.MeaningLaws.{read-is, one-read, check-is, one-check}
+use Rattle.utf8.specs.MeaningLaws.{read-is, one-read, check-is, one-check, ill-formed}
 use Rattle.utf8.specs.Answer.{numberOf, placeOf}
 use Rattle.utf8.specs.declared.Read.{Read}
 use Rattle.utf8.specs.declared.Utf8Check.{Utf8Check}
@@ -28,19 +23,6 @@ read-char-promise s at r e = read-is s at r (sym e)
 
 pub read-char-has-one-answer : (s : List ℕ) (at : ℕ) (r q : Read) → ReadCharEnsures s at r → ReadIs s at q → r ≡ q
 read-char-has-one-answer s at r q e m = one-read s at r q (read-char-promise s at r e) m
-
--- there is one longest well-formed beginning
-not-longer : (s : List ℕ) (m n : ℕ) → Longest s m → Longest s n → n ≤ m
-not-longer s m n l k = split-lt m n (λ h. absurd (l .none-longer n h (omega (arith, k .short)) (k .well))) (λ h. h)
-
-pub one-longest : (s : List ℕ) (m n : ℕ) → Longest s m → Longest s n → m ≡ n
-one-longest s m n l k = omega (arith, not-longer s m n l k, not-longer s n m k l)
-
--- what holds of both refusals at the end of that beginning holds of the answer
-pub ill-formed : (s : List ℕ) (n : ℕ) (P : Utf8Check → Type 0) (r : Utf8Check) → Longest s n → CheckIs s r → P (BadAt n) → P (CutAt n) → P r
-ill-formed s n P Fine l w bad cut = absurd (l .none-longer (length s) (l .short) (omega arith) (rw (take-length s) w))
-ill-formed s n P (BadAt m) l w bad cut = subst (λ (i : ℕ). P (BadAt i)) (one-longest s n m l (w .0)) bad
-ill-formed s n P (CutAt m) l w bad cut = subst (λ (i : ℕ). P (CutAt i)) (one-longest s n m l (w .0)) cut
 
 -- what an answer says, by what it means
 refused-at : (s : List ℕ) (n : ℕ) (r : Utf8Check) → Longest s n → CheckIs s r → checkSays r ≡ says badUtf8 n

@@ -3,13 +3,16 @@
 --     one-read              of two such answers, both are the same
 --     check-is, is-check    `checkFrom 0 s` is r exactly where r says whether s is well formed, and where not
 --     one-check             of two such answers, both are the same
+--     one-longest           there is one longest well-formed beginning
+--     ill-formed            ill-formed bytes, for a caller to whom wrong ones and cut ones are one refusal
 -- Assumes nothing.
 use Prim.Native.Nat.{ℕ, _+_, _<_, _≤_}
 use native.Mathlib.Omega.{arith}
 use mathlib.Core.Path.{_≡_, refl, sym, ap, subst, _∙_}
 use mathlib.Core.List.{List, [], _∷_, _++_, append-nil, append-assoc}
 use lib.ListN.{length, take, drop, length-append, take-append-drop}
-use lib.Seq.{length-take-le, drop-append-le, drop-append-seam, take-append-seam, take-take, take-add, take-at}
+use lib.Seq.{take-length, length-take-le, drop-append-le, drop-append-seam, take-append-seam, take-take, take-add, take-at}
+use Rattle.base.specs.PickLaws.{split-lt}
 use Rattle.utf8.specs.Encode.{Scalars, encode, encodeAll, WellFormed}
 use Rattle.utf8.specs.EncodeLaws.{one-well, more-well}
 use Rattle.utf8.specs.Read.{decodeHead, readAt}
@@ -136,3 +139,18 @@ module _ (s : List ℕ) where
 
   pub one-check : (r q : Utf8Check) → CheckIs s r → CheckIs s q → r ≡ q
   one-check r q v w = sym (is-check r v) ∙ is-check q w
+
+-- ---- for a caller
+
+-- there is one longest well-formed beginning
+not-longer : (s : List ℕ) (m n : ℕ) → Longest s m → Longest s n → n ≤ m
+not-longer s m n l k = split-lt m n (λ h. absurd (l .none-longer n h (omega (arith, k .short)) (k .well))) (λ h. h)
+
+pub one-longest : (s : List ℕ) (m n : ℕ) → Longest s m → Longest s n → m ≡ n
+one-longest s m n l k = omega (arith, not-longer s m n l k, not-longer s n m k l)
+
+-- what holds of both refusals at the end of that beginning holds of the answer
+pub ill-formed : (s : List ℕ) (n : ℕ) (P : Utf8Check → Type 0) (r : Utf8Check) → Longest s n → CheckIs s r → P (BadAt n) → P (CutAt n) → P r
+ill-formed s n P Fine l w bad cut = absurd (l .none-longer (length s) (l .short) (omega arith) (rw (take-length s) w))
+ill-formed s n P (BadAt m) l w bad cut = subst (λ (i : ℕ). P (BadAt i)) (one-longest s n m l (w .0)) bad
+ill-formed s n P (CutAt m) l w bad cut = subst (λ (i : ℕ). P (CutAt i)) (one-longest s n m l (w .0)) cut

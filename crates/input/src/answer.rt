@@ -1,0 +1,29 @@
+// Document 01's numbers of a refusal that comes before any work, for whoever prints it or hands it on.
+ghost use mathlib.Core.Path.{_≡_};
+ghost use Rattle.input.specs.Input.{numberOf, placeOf};
+use crate::Refusal;
+use base::refusals::BAD_TABLE;
+use base::refusals::BAD_UTF8;
+use base::refusals::TOO_LONG;
+
+// The refusal's number.
+pub fn number_of(refusal: Refusal) -> u32
+    ensures { λ r. ⌜ r ≡ numberOf refusal ⌝ }
+{
+    match refusal {
+        Refusal::TooLong => TOO_LONG,
+        Refusal::BadTable(_) => BAD_TABLE,
+        Refusal::BadUtf8(_) => BAD_UTF8,
+    }
+}
+
+// Its place.
+pub fn place_of(refusal: Refusal) -> usize
+    ensures { λ r. ⌜ r ≡ placeOf refusal ⌝ }
+{
+    match refusal {
+        Refusal::TooLong => 0,
+        Refusal::BadTable(i) => i,
+        Refusal::BadUtf8(i) => i,
+    }
+}

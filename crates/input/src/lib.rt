@@ -1,0 +1,46 @@
+// What every call over bytes and a table asks before it works (document 01, "Refusal numbers"): whether the bytes are too many, the table is
+// unfit, or the bytes are ill-formed, in this order, as one answer. It knows no tokens, no clusters and no formats; how many bytes are too
+// many is the caller's number.
+pub mod answer;
+
+ghost use mathlib.Core.Path.{_≡_};
+ghost use Rattle.input.specs.Input.{inputCheck};
+
+// A source has at most this many bytes.
+pub const SOURCE_MOST: usize = 1_048_576;
+
+// A format string has at most this many bytes.
+pub const FORMAT_MOST: usize = 65_535;
+
+// A refusal that comes before any work, under document 01's name. An answer that may be one of these carries it as one case.
+pub enum Refusal {
+    // 1: more bytes than the call takes. Its place is 0.
+    TooLong,
+    // 2: the table is unfit, with its place.
+    BadTable(usize),
+    // 3: the bytes are ill-formed, wrong or cut, from this offset on.
+    BadUtf8(usize),
+}
+
+// What the checks answer.
+pub enum Input {
+    Fine,
+    Refused(Refusal),
+}
+
+// Whether a call that takes at most so many bytes may work on these bytes and this table.
+pub fn check_input(bytes: &[u8], table: &[u32], most: usize) -> Input
+    ensures { λ r. ⌜ r ≡ inputCheck most (now (bytes .entry)) (now (table .entry)) ⌝ }
+{
+    if most < bytes.len() {
+        return Input::Refused(Refusal::TooLong);
+    }
+    match property::check_table(table) {
+        property::TableCheck::BadTable(i) => Input::Refused(Refusal::BadTable(i)),
+        property::TableCheck::Fit => match utf8::check_utf8(bytes) {
+            utf8::Utf8Check::BadAt(i) => Input::Refused(Refusal::BadUtf8(i)),
+            utf8::Utf8Check::CutAt(i) => Input::Refused(Refusal::BadUtf8(i)),
+            utf8::Utf8Check::Fine => Input::Fine,
+        },
+    }
+}
