@@ -11,8 +11,8 @@ use Rattle.cluster.specs.declared.Pair.the-variants.{Joined, Broken, Ope
 use Rattle.base.specs.Cases.{cases}
 use Rattle.utf8.specs.declared.Utf8Check.{Utf8Check}
 use Rattle.utf8.specs.declared.Utf8Check.the-variants as utf8
-use Rattle.property.specs.declared.table.TableCheck.{TableCheck}
-use Rattle.property.specs.declared.table.TableCheck.the-variants as table
+use Rattle.fitness.specs.declared.TableCheck.{TableCheck}
+use Rattle.fitness.specs.declared.TableCheck.the-variants as table
 use Rattle.cluster.specs.Call.{onTable, onUtf8}
 use Rattle.cluster.specs.declared.Cluster.{Cluster}
 use Rattle.cluster.specs.declared.Cluster.the-variants.{Length, BadTable, BadUtf8}

@@ -13,8 +13,8 @@ use Rattle.utf8.specs.Encode.{encodeAll, WellFormed}
 use Rattle.utf8.specs.Chars.{chars, charsIn, checkIn}
 use Rattle.utf8.specs.CharsLaws.{fine-of-well}
 use Rattle.property.specs.Table.{propertiesAt}
-use Rattle.property.specs.Fit.{tableCheck}
-use Rattle.property.specs.declared.table.TableCheck.the-variants.{Fit}
+use Rattle.fitness.specs.Fit.{tableCheck}
+use Rattle.fitness.specs.declared.TableCheck.the-variants.{Fit}
 use Rattle.cluster.specs.First.{firstEnd}
 use Rattle.cluster.specs.FirstLaws.{Agree, same-first}
 use Rattle.cluster.specs.Call.{baseEdition, firstCluster}

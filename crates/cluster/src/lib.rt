@@ -330,9 +330,9 @@ pub fn first_cluster(source: &[u8], table: &[u32]) -> Cluster
     if SOURCE_MOST < source.len() {
         return Cluster::TooLong;
     }
-    match property::check_table(table) {
-        property::TableCheck::BadTable(i) => Cluster::BadTable(i),
-        property::TableCheck::Fit => match utf8::check_utf8(source) {
+    match fitness::check_table(table) {
+        fitness::TableCheck::BadTable(i) => Cluster::BadTable(i),
+        fitness::TableCheck::Fit => match utf8::check_utf8(source) {
             utf8::Utf8Check::BadAt(i) => Cluster::BadUtf8(i),
             utf8::Utf8Check::CutAt(i) => Cluster::BadUtf8(i),
             utf8::Utf8Check::Fine => Cluster::Length(cluster_end(source, table, EDITION, 0)),

@@ -126,7 +126,7 @@ pub fn print_format(text: &[u8])
         io::write_all(STDOUT_FILENO, b"pool\n");
         return;
     }
-    let table = property::small_table();
+    let table = fitness::small_table();
     let mut bytes = [0u8; 1024];
     let mut entries = [0u32; 128];
     let none = Counts {

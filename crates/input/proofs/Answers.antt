@@ -6,8 +6,8 @@ use mathlib.Core.Path.{_≡_, sym, _∙_}
 use Rattle.base.specs.Cases.{cases}
 use Rattle.utf8.specs.declared.Utf8Check.{Utf8Check}
 use Rattle.utf8.specs.declared.Utf8Check.the-variants as utf8
-use Rattle.property.specs.declared.table.TableCheck.{TableCheck}
-use Rattle.property.specs.declared.table.TableCheck.the-variants as fitness
+use Rattle.fitness.specs.declared.TableCheck.{TableCheck}
+use Rattle.fitness.specs.declared.TableCheck.the-variants as fitness
 use Rattle.input.specs.Input.{onTable, onUtf8}
 use Rattle.input.specs.declared.Refusal.the-variants.{BadTable, BadUtf8}
 use Rattle.input.specs.declared.Input.{Input}

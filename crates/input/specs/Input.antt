@@ -12,9 +12,9 @@ use Rattle.utf8.specs.Encode.{WellFormed}
 use Rattle.utf8.specs.Chars.{checkFrom}
 use Rattle.utf8.specs.declared.Utf8Check.{Utf8Check}
 use Rattle.utf8.specs.declared.Utf8Check.the-variants as utf8
-use Rattle.property.specs.Fit.{tableCheck}
-use Rattle.property.specs.declared.table.TableCheck.{TableCheck}
-use Rattle.property.specs.declared.table.TableCheck.the-variants as fitness
+use Rattle.fitness.specs.Fit.{tableCheck}
+use Rattle.fitness.specs.declared.TableCheck.{TableCheck}
+use Rattle.fitness.specs.declared.TableCheck.the-variants as fitness
 use Rattle.input.specs.declared.Refusal.{Refusal}
 use Rattle.input.specs.declared.Refusal.the-variants.{TooLong, BadTable, BadUtf8}
 use Rattle.input.specs.declared.Input.{Input}

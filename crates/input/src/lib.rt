@@ -35,9 +35,9 @@ pub fn check_input(bytes: &[u8], table: &[u32], most: usize) -> Input
     if most < bytes.len() {
         return Input::Refused(Refusal::TooLong);
     }
-    match property::check_table(table) {
-        property::TableCheck::BadTable(i) => Input::Refused(Refusal::BadTable(i)),
-        property::TableCheck::Fit => match utf8::check_utf8(bytes) {
+    match fitness::check_table(table) {
+        fitness::TableCheck::BadTable(i) => Input::Refused(Refusal::BadTable(i)),
+        fitness::TableCheck::Fit => match utf8::check_utf8(bytes) {
             utf8::Utf8Check::BadAt(i) => Input::Refused(Refusal::BadUtf8(i)),
             utf8::Utf8Check::CutAt(i) => Input::Refused(Refusal::BadUtf8(i)),
             utf8::Utf8Check::Fine => Input::Fine,

@@ -4,10 +4,10 @@ use Prim.Native.Nat.{ℕ}
 use mathlib.Core.Path.{_≡_}
 use mathlib.Core.List.{List}
 use lib.ListN.{length}
-use Rattle.property.specs.Fit as fit
-use Rattle.property.specs.Fit.{tableCheck}
-use Rattle.property.specs.File as file
-use Rattle.property.specs.File.{readTable, rowAfter}
+use Rattle.fitness.specs.Fit as fit
+use Rattle.fitness.specs.Fit.{tableCheck}
+use Rattle.table_file.specs.File as file
+use Rattle.table_file.specs.File.{readTable, rowAfter}
 
 -- what `koto_check_table` ensures
 pub record CheckTableIs (table : List ℕ) (place r : ℕ) : Type 0 where

@@ -1,15 +1,14 @@
 // Property tables for C: a check of a table, and a table read from its file.
 ghost use Rattle.koto_lexer.specs.Tables.{CheckTableIs, ReadTableIs};
-use property::answer;
 
 // Checks a table. Refused with 2 is one that is unfit, at its place.
 #[no_mangle]
 pub extern "C" fn koto_check_table(table: &[u32], place: &mut usize) -> u32
     ensures { λ r. ⌜ CheckTableIs (now (table .entry)) (now (place .exit)) r ⌝ }
 {
-    let check = property::check_table(table);
-    *place = answer::check_place(check);
-    answer::check_number(check)
+    let check = fitness::check_table(table);
+    *place = fitness::answer::place_of(check);
+    fitness::answer::number_of(check)
 }
 
 // Reads a table file into the start of the row; the rest of the row stays. Refused are a file that is unfit with 14, then a row that is too
@@ -23,8 +22,8 @@ pub extern "C" fn koto_read_table(
 ) -> u32
     ensures { λ r. ⌜ ReadTableIs (now (file .entry)) (now (row .entry)) (now (row .exit)) (now (count .exit)) (now (place .exit)) r ⌝ }
 {
-    let read = property::read_table(file, row);
-    *count = answer::read_count(read);
-    *place = answer::read_place(read);
-    answer::read_number(read)
+    let read = table_file::read_table(file, row);
+    *count = table_file::answer::count_of(read);
+    *place = table_file::answer::place_of(read);
+    table_file::answer::number_of(read)
 }

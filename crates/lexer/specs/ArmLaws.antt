@@ -19,9 +19,9 @@ use Rattle.utf8.specs.Chars.{chars}
 use Rattle.utf8.specs.CharsLaws.{At, not-ascii}
 use Rattle.property.specs.Parts.{xidStart}
 use Rattle.property.specs.Table.{propertiesAt}
-use Rattle.property.specs.Ascii.{isLetter}
-use Rattle.property.specs.FitLaws.{FitTable}
-use Rattle.property.specs.SmallLaws.{ascii-start}
+use Rattle.fitness.specs.Ascii.{isLetter}
+use Rattle.fitness.specs.FitLaws.{FitTable}
+use Rattle.fitness.specs.SmallLaws.{ascii-start}
 use Rattle.token.specs.Kind.{stringEnd, curlyOpen}
 use Rattle.text.specs.Bytes.{byteAt}
 use Rattle.text.specs.Tests.{isWhitespace, isLineEnd, isDigit}

@@ -20,7 +20,7 @@ use Rattle.utf8.specs.Read.{isTail}
 use Rattle.utf8.specs.CharsLaws.{At, chars-well, ascii-byte}
 use Rattle.property.specs.Parts.{xidStart}
 use Rattle.property.specs.Table.{propertiesAt}
-use Rattle.property.specs.FitLaws.{FitTable}
+use Rattle.fitness.specs.FitLaws.{FitTable}
 use Rattle.words.specs.Words.{symbolOf}
 use Rattle.words.specs.WordsLaws.{symbol-is}
 use Rattle.words.specs.declared.symbols.SymbolAt.{SymbolAt}

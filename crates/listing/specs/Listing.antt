@@ -6,7 +6,7 @@ use mathlib.Core.List.{List, []}
 use lib.Dec.{ltb}
 use lib.ListN.{length}
 use Rattle.base.specs.Pick.{pick}
-use Rattle.property.specs.Small.{smallTable}
+use Rattle.fitness.specs.Small.{smallTable}
 use Rattle.token.specs.Row.{room, putRows}
 use Rattle.token.specs.declared.rows.Row.{Row}
 use Rattle.reading.specs.Scan.{scanned, written}

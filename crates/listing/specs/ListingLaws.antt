@@ -11,7 +11,7 @@ use lib.Dec.{ltb}
 use lib.ListN.{length}
 use borrow.Author.Tests.{lt-ltb, le-ltb}
 use Rattle.base.specs.PickLaws.{by-test}
-use Rattle.property.specs.Small.{smallTable}
+use Rattle.fitness.specs.Small.{smallTable}
 use Rattle.token.specs.Row.{room, putRows}
 use Rattle.token.specs.RowLaws.{rows-none}
 use Rattle.reading.specs.Scan.{Scans, countOf}

@@ -20,7 +20,7 @@ pub fn scan_small(source: &[u8], list: &mut [u32]) -> Scanned
     if LIST_MOST < source.len() {
         return Scanned::TooLong;
     }
-    let table = property::small_table();
+    let table = fitness::small_table();
     scan::scan(source, &table, list)
 }
 

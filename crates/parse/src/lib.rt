@@ -75,9 +75,9 @@ pub fn read(format: &[u8], table: &[u32]) -> Reading
     if FORMAT_MOST < format.len() {
         return Reading::Refused(Parsed::TooLong);
     }
-    match property::check_table(table) {
-        property::TableCheck::BadTable(i) => Reading::Refused(Parsed::BadTable(i)),
-        property::TableCheck::Fit => match utf8::check_utf8(format) {
+    match fitness::check_table(table) {
+        fitness::TableCheck::BadTable(i) => Reading::Refused(Parsed::BadTable(i)),
+        fitness::TableCheck::Fit => match utf8::check_utf8(format) {
             utf8::Utf8Check::BadAt(i) => Reading::Refused(Parsed::BadUtf8(i)),
             utf8::Utf8Check::CutAt(i) => Reading::Refused(Parsed::BadUtf8(i)),
             utf8::Utf8Check::Fine => Reading::Read(read_format(format, table, EDITION)),

@@ -4,7 +4,7 @@
 use Prim.Native.Nat.{ℕ}
 use mathlib.Core.List.{List, [], _∷_}
 use lib.ListN.{replicate}
-use Rattle.property.specs.Small.{smallTable}
+use Rattle.fitness.specs.Small.{smallTable}
 use Rattle.token.specs.Kind.{error, commentMulti, id, stringStart, stringEnd, stringLiteral, dot, else, elseIf}
 use Rattle.token.specs.declared.rows.Row.{Row}
 use Rattle.words.specs.Words.{bytes}

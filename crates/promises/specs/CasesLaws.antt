@@ -6,9 +6,9 @@ use mathlib.Core.Path.{_≡_, refl}
 use mathlib.Core.List.{map}
 use Rattle.base.specs.Range.{inside}
 use Rattle.utf8.specs.CharsLaws.{computes}
-use Rattle.property.specs.First.{firstBad}
-use Rattle.property.specs.Fit.{startOk, propertiesOk, runOk, tableCheck}
-use Rattle.property.specs.Small.{smallTable}
+use Rattle.fitness.specs.First.{firstBad}
+use Rattle.fitness.specs.Fit.{startOk, propertiesOk, runOk, tableCheck}
+use Rattle.fitness.specs.Small.{smallTable}
 use Rattle.property.specs.Table.{lastFrom}
 use Rattle.cluster.specs.First.{goOn}
 use Rattle.cluster.specs.Uax29.{isControl, gb3, gb6, gb7, gb8, gb9, gb9c, gb11, gb12}

@@ -9,8 +9,8 @@ use Rattle.utf8.specs.Encode.{encodeAll, WellFormed}
 use Rattle.utf8.specs.Chars.{chars}
 use Rattle.utf8.specs.Meaning.{Longest}
 use Rattle.property.specs.Table.{propertiesAt}
-use Rattle.property.specs.Fit.{tableCheck}
-use Rattle.property.specs.declared.table.TableCheck.the-variants.{Fit, BadTable}
+use Rattle.fitness.specs.Fit.{tableCheck}
+use Rattle.fitness.specs.declared.TableCheck.the-variants.{Fit, BadTable}
 use Rattle.cluster.specs.First.{Shortest}
 use Rattle.cluster.specs.Call.{baseEdition, firstCluster, numberOf, placeOf, lenOf}
 use Rattle.cluster.specs.declared.Cluster.{Cluster}

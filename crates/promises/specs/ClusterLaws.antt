@@ -14,8 +14,8 @@ use Rattle.utf8.specs.Meaning.{Longest}
 use Rattle.utf8.specs.MeaningLaws.{check-is, ill-formed}
 use Rattle.utf8.specs.declared.Utf8Check.{Utf8Check}
 use Rattle.property.specs.Table.{propertiesAt}
-use Rattle.property.specs.Fit.{tableCheck}
-use Rattle.property.specs.declared.table.TableCheck.the-variants.{Fit, BadTable}
+use Rattle.fitness.specs.Fit.{tableCheck}
+use Rattle.fitness.specs.declared.TableCheck.the-variants.{Fit, BadTable}
 use Rattle.cluster.specs.First.{Shortest, firstSize, firstEnd}
 use Rattle.cluster.specs.FirstLaws.{first-is-shortest, one-shortest}
 use Rattle.cluster.specs.Call.{baseEdition, onUtf8, firstCluster, lenOf}

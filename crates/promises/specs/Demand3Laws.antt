@@ -18,9 +18,9 @@ use Rattle.utf8.specs.Encode.{WellFormed}
 use Rattle.utf8.specs.Read.{isTail}
 use Rattle.utf8.specs.CharsLaws.{fine-of-well}
 use Rattle.property.specs.Table.{propertiesAt}
-use Rattle.property.specs.Fit.{tableCheck}
-use Rattle.property.specs.FitLaws.{FitTable, fit-of}
-use Rattle.property.specs.declared.table.TableCheck.the-variants.{Fit}
+use Rattle.fitness.specs.Fit.{tableCheck}
+use Rattle.fitness.specs.FitLaws.{FitTable, fit-of}
+use Rattle.fitness.specs.declared.TableCheck.the-variants.{Fit}
 use Rattle.cluster.specs.Call.{baseEdition}
 use Rattle.token.specs.declared.rows.Row.{Row}
 use Rattle.state.specs.Lexer.{reachOf}

@@ -16,7 +16,7 @@ use borrow.Author.Tests.{ltb-true, leb-true, lt-ltb, le-ltb, le-leb, lt-leb}
 use Rattle.base.specs.PickLaws.{split-lt}
 use Rattle.utf8.specs.CharsLaws.{well-of-fine}
 use Rattle.property.specs.Table.{propertiesAt}
-use Rattle.property.specs.FitLaws as property
+use Rattle.fitness.specs.FitLaws as property
 use Rattle.cluster.specs.Call.{baseEdition}
 use Rattle.token.specs.Row.{room, rowAt, rowsOf, putRows, rowFits}
 use Rattle.token.specs.RowLaws.{rows-length, rows-at, rows-back, fits-packs}

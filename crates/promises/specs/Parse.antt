@@ -9,8 +9,8 @@ use lib.ListN.{length}
 use Rattle.base.specs.Refusal.{tooLong, badTable, badUtf8, badState, expectedNumber, formatNumberIsTooLarge, unexpectedToken, poolFull, formatMost}
 use Rattle.utf8.specs.Encode.{WellFormed}
 use Rattle.utf8.specs.Meaning.{Longest}
-use Rattle.property.specs.Fit.{tableCheck}
-use Rattle.property.specs.declared.table.TableCheck.the-variants.{Fit, BadTable}
+use Rattle.fitness.specs.Fit.{tableCheck}
+use Rattle.fitness.specs.declared.TableCheck.the-variants.{Fit, BadTable}
 use Rattle.pool.specs.Pool.{fitPool}
 use Rattle.pool.specs.declared.Counts.{Counts}
 use Rattle.format.specs.declared.Outcome.the-variants.{Fine, ExpectedNumber, TooLarge, UnexpectedToken}

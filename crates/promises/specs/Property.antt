@@ -7,16 +7,16 @@ use mathlib.Core.List.{List, _++_}
 use lib.ListN.{length, drop}
 use Rattle.base.specs.Refusal.{none, badTable, listFull, badFile}
 use Rattle.property.specs.Table.{propertiesAt}
-use Rattle.property.specs.Small.{smallTable}
-use Rattle.property.specs.Fit as table
-use Rattle.property.specs.Fit.{countOk, runOk, tableCheck}
-use Rattle.property.specs.FitLaws.{RunsOk}
-use Rattle.property.specs.First.{firstBad}
-use Rattle.property.specs.File as file
-use Rattle.property.specs.File.{markOk, countOf, numbersOf, endOf, fileOf, ReadTableIs}
-use Rattle.property.specs.declared.table.TableCheck.{TableCheck}
-use Rattle.property.specs.declared.table.TableCheck.the-variants.{Fit, BadTable}
-use Rattle.property.specs.declared.file.TableFile.{TableFile}
+use Rattle.fitness.specs.Small.{smallTable}
+use Rattle.fitness.specs.Fit as table
+use Rattle.fitness.specs.Fit.{countOk, runOk, tableCheck}
+use Rattle.fitness.specs.FitLaws.{RunsOk}
+use Rattle.fitness.specs.First.{firstBad}
+use Rattle.table_file.specs.File as file
+use Rattle.table_file.specs.File.{markOk, countOf, numbersOf, endOf, fileOf, ReadTableIs}
+use Rattle.fitness.specs.declared.TableCheck.{TableCheck}
+use Rattle.fitness.specs.declared.TableCheck.the-variants.{Fit, BadTable}
+use Rattle.table_file.specs.declared.TableFile.{TableFile}
 use Rattle.promises.specs.Said.{Said, says}
 
 -- ---- `check_table`

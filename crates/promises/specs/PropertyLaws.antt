@@ -10,16 +10,16 @@ use lib.ListN.{length}
 use borrow.Author.Tests.{lt-ltb, le-ltb}
 use Rattle.base.specs.PickLaws.{by-lt}
 use Rattle.base.specs.Refusal.{none}
-use Rattle.property.specs.Fit.{tableCheck}
-use Rattle.property.specs.FitLaws.{bad-count, bad-run, bad-ascii, fit-by}
-use Rattle.property.specs.First.{firstBad}
-use Rattle.property.specs.File as file
-use Rattle.property.specs.File.{markOk, countOf, numbersOf, endOf, onFit, readTable, rowAfter, ReadTableIs}
-use Rattle.property.specs.FileLaws.{one-answer, row-of-file}
-use Rattle.property.specs.declared.table.TableCheck.{TableCheck}
-use Rattle.property.specs.declared.table.TableCheck.the-variants.{Fit, BadTable}
-use Rattle.property.specs.declared.file.TableFile.{TableFile}
-use Rattle.property.specs.declared.file.TableFile.the-variants as answer
+use Rattle.fitness.specs.Fit.{tableCheck}
+use Rattle.fitness.specs.FitLaws.{bad-count, bad-run, bad-ascii, fit-by}
+use Rattle.fitness.specs.First.{firstBad}
+use Rattle.table_file.specs.File as file
+use Rattle.table_file.specs.File.{markOk, countOf, numbersOf, endOf, onFit, readTable, rowAfter, ReadTableIs}
+use Rattle.table_file.specs.FileLaws.{one-answer, row-of-file}
+use Rattle.fitness.specs.declared.TableCheck.{TableCheck}
+use Rattle.fitness.specs.declared.TableCheck.the-variants.{Fit, BadTable}
+use Rattle.table_file.specs.declared.TableFile.{TableFile}
+use Rattle.table_file.specs.declared.TableFile.the-variants as answer
 use Rattle.promises.specs.Property.{CheckTableEnsures, tableSays, CheckTablePromise, fileSays, Framed, ReadTablePromise}
 
 -- ---- `check_table`

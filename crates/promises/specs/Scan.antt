@@ -8,8 +8,8 @@ use lib.ListN.{length, take}
 use Rattle.base.specs.Refusal.{none, tooLong, badTable, badUtf8, listFull, modesFull, sourceMost}
 use Rattle.utf8.specs.Encode.{WellFormed}
 use Rattle.utf8.specs.Meaning.{Longest}
-use Rattle.property.specs.Fit.{tableCheck}
-use Rattle.property.specs.declared.table.TableCheck.the-variants.{Fit, BadTable}
+use Rattle.fitness.specs.Fit.{tableCheck}
+use Rattle.fitness.specs.declared.TableCheck.the-variants.{Fit, BadTable}
 use Rattle.token.specs.Row.{room, putRows}
 use Rattle.token.specs.declared.rows.Row.{Row}
 use Rattle.reading.specs.Reading as reading

@@ -1,14 +1,4 @@
 pub mod Parts
 pub mod Table
+pub mod Near
 pub mod TableLaws
-pub mod Small
-pub mod First
-pub mod FirstLaws
-pub mod Fit
-pub mod FitLaws
-pub mod Quick
-pub mod Ascii
-pub mod SmallLaws
-pub mod QuickLaws
-pub mod File
-pub mod FileLaws

@@ -19,7 +19,7 @@ use Rattle.base.specs.PickLaws.{by-test, split-lt, split-eq}
 use Rattle.base.specs.AllLaws.{and-left, and-right}
 use Rattle.property.specs.Parts.{startOf, propertiesOf, widthOf}
 use Rattle.property.specs.Table.{lastFrom, propertiesAt, startAt, HasRun, Rises}
-use Rattle.property.specs.Quick.{hasCode}
+use Rattle.property.specs.Near.{hasCode}
 
 -- no run starts at c or before
 none-more : (p : ℕ) (l : List ℕ) (c : ℕ) → ((j : ℕ) → j < length l → c < startAt l j) → lastFrom p l c ≡ p

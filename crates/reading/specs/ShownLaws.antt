@@ -9,7 +9,7 @@ use mathlib.Core.Bool.{true}
 use mathlib.Core.List.{List, [], _∷_}
 use lib.ListN.{length, getD}
 use Rattle.property.specs.Table.{propertiesAt}
-use Rattle.property.specs.FitLaws.{FitTable}
+use Rattle.fitness.specs.FitLaws.{FitTable}
 use Rattle.token.specs.Row.{rowFits}
 use Rattle.token.specs.declared.rows.Row.{Row}
 use Rattle.state.specs.declared.State.{State}

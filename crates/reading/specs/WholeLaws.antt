@@ -13,9 +13,9 @@ use Rattle.base.specs.Refusal.{sourceMost}
 use Rattle.utf8.specs.Chars.{checkFrom}
 use Rattle.utf8.specs.declared.Utf8Check.{Utf8Check}
 use Rattle.utf8.specs.declared.Utf8Check.the-variants as utf8
-use Rattle.property.specs.Fit.{tableCheck}
-use Rattle.property.specs.declared.table.TableCheck.{TableCheck}
-use Rattle.property.specs.declared.table.TableCheck.the-variants as property
+use Rattle.fitness.specs.Fit.{tableCheck}
+use Rattle.fitness.specs.declared.TableCheck.{TableCheck}
+use Rattle.fitness.specs.declared.TableCheck.the-variants as property
 use Rattle.token.specs.Row.{room, putRows}
 use Rattle.token.specs.declared.rows.Row.{Row}
 use Rattle.reading.specs.Reading.{Stop, ended, stuck, deep}

@@ -10,7 +10,7 @@ ghost use Prim.Native.Nat.{_≤_};
 ghost use lib.ListN.{length, getD, drop};
 ghost use Rattle.utf8.specs.Encode.{WellFormed};
 ghost use Rattle.utf8.specs.Read.{isTail};
-ghost use Rattle.property.specs.FitLaws.{FitTable};
+ghost use Rattle.fitness.specs.FitLaws.{FitTable};
 ghost use Rattle.state.specs.Stack.{Agrees};
 ghost use Rattle.lexer.specs.Fine.{Fine};
 

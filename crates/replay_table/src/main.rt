@@ -1,8 +1,8 @@
 // Replays what the oracle's own check said of table files, good and bad (data/tables.txt; tools/README.md says how it was made): what reading
 // one answers, what it leaves in the row, and what the check of its numbers answers. Then a file with one wrong line, so that a difference
 // is seen to be reported.
-use property::TableFile;
-use property::answer;
+use table_file::TableFile;
+use table_file::answer;
 ghost use Prim.Native.Nat.{_<_};
 ghost use mathlib.Core.Path.{_≡_};
 ghost use lib.ListN.{length};
@@ -84,27 +84,27 @@ fn row_of(file: &[u8], count: usize) -> [u32; ROOM]
 // Reads the file into as much of the row as the line has room for.
 fn read_into(case: Case, file: &[u8], row: &mut [u32]) -> TableFile {
     let room = lines::within(case.room, row);
-    property::read_table(file, &mut row[..room])
+    table_file::read_table(file, &mut row[..room])
 }
 
 fn file_agrees(case: Case, said: TableFile) -> bool {
-    if case.number != answer::read_number(said) as usize {
+    if case.number != answer::number_of(said) as usize {
         return false;
     }
-    if case.place != answer::read_place(said) {
+    if case.place != answer::place_of(said) {
         return false;
     }
-    case.count == answer::read_count(said)
+    case.count == answer::count_of(said)
 }
 
 // Checks the first numbers of the row as a table, and compares the answer.
 fn check_agrees(case: Case, row: &[u32], count: usize) -> bool {
     let n = lines::within(count, row);
-    let said = property::check_table(&row[..n]);
-    if case.number != answer::check_number(said) as usize {
+    let said = fitness::check_table(&row[..n]);
+    if case.number != fitness::answer::number_of(said) as usize {
         return false;
     }
-    case.place == answer::check_place(said)
+    case.place == fitness::answer::place_of(said)
 }
 
 // The same of all numbers of the file.

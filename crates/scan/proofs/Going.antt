@@ -9,7 +9,7 @@ use lib.ListN.{length}
 use Rattle.base.specs.Refusal.{sourceMost}
 use Rattle.position.specs.declared.Place.{Place}
 use Rattle.property.specs.Table.{propertiesAt}
-use Rattle.property.specs.FitLaws.{FitTable}
+use Rattle.fitness.specs.FitLaws.{FitTable}
 use Rattle.token.specs.Kind.{error}
 use Rattle.token.specs.Row.{room, Packs, putRow, rowFits}
 use Rattle.token.specs.RowLaws.{put-length, fits-packs}

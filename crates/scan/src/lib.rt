@@ -11,7 +11,7 @@ ghost use lib.Dec.{ltb};
 ghost use Rattle.base.specs.Pick.{pick};
 ghost use Rattle.base.specs.Refusal.{sourceMost};
 ghost use Rattle.property.specs.Table.{propertiesAt};
-ghost use Rattle.property.specs.FitLaws.{FitTable};
+ghost use Rattle.fitness.specs.FitLaws.{FitTable};
 ghost use Rattle.token.specs.Row.{room};
 ghost use Rattle.state.specs.Lexer.{reachOf};
 ghost use Rattle.lexer.specs.Invariant.{Ok};
@@ -140,9 +140,9 @@ pub fn scan(source: &[u8], table: &[u32], list: &mut [u32]) -> Scanned
     if SOURCE_MOST < source.len() {
         return Scanned::TooLong;
     }
-    match property::check_table(table) {
-        property::TableCheck::BadTable(i) => Scanned::BadTable(i),
-        property::TableCheck::Fit => match utf8::check_utf8(source) {
+    match fitness::check_table(table) {
+        fitness::TableCheck::BadTable(i) => Scanned::BadTable(i),
+        fitness::TableCheck::Fit => match utf8::check_utf8(source) {
             utf8::Utf8Check::BadAt(i) => Scanned::BadUtf8(i),
             utf8::Utf8Check::CutAt(i) => Scanned::BadUtf8(i),
             utf8::Utf8Check::Fine => read_on(source, table, EDITION, State::new(), list, 0),

@@ -12,7 +12,7 @@ use Rattle.base.specs.PickLaws.{by-test, by-eq}
 use Rattle.utf8.specs.Encode.{WellFormed}
 use Rattle.utf8.specs.Chars.{chars}
 use Rattle.property.specs.Table.{propertiesAt}
-use Rattle.property.specs.FitLaws.{FitTable}
+use Rattle.fitness.specs.FitLaws.{FitTable}
 use Rattle.text.specs.Bytes.{byteAt}
 use Rattle.text.specs.Tests.{cr, lf, hash, minus, backslash, letterU, curlyOpen}
 use Rattle.text.specs.CountLaws.{width-most}

@@ -11,7 +11,7 @@ use Rattle.base.specs.PickLaws.{by-eq}
 use Rattle.position.specs.Place.{alongBy, lineBy}
 use Rattle.position.specs.declared.Reach.{Reach}
 use Rattle.property.specs.Table.{propertiesAt}
-use Rattle.property.specs.FitLaws.{FitTable}
+use Rattle.fitness.specs.FitLaws.{FitTable}
 use Rattle.token.specs.Kind.{newLine}
 use Rattle.text.specs.Bytes.{byteAt}
 use Rattle.text.specs.Tests.{cr, lf, hash, minus, testUtf8Of}

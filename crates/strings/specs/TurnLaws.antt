@@ -23,9 +23,9 @@ use Rattle.utf8.specs.Chars.{chars}
 use Rattle.utf8.specs.CharsLaws.{At}
 use Rattle.property.specs.Parts.{widthOf}
 use Rattle.property.specs.Table.{propertiesAt}
-use Rattle.property.specs.FitLaws.{FitTable}
-use Rattle.property.specs.Ascii.{isPrintable}
-use Rattle.property.specs.SmallLaws.{ascii-width}
+use Rattle.fitness.specs.FitLaws.{FitTable}
+use Rattle.fitness.specs.Ascii.{isPrintable}
+use Rattle.fitness.specs.SmallLaws.{ascii-width}
 use Rattle.token.specs.Kind.{newLine, commentSingle}
 use Rattle.text.specs.Bytes.{byteAt}
 use Rattle.text.specs.Tests.{cr, lf, space, hash, minus, backslash, letterU, curlyOpen, tilde}

@@ -8,11 +8,11 @@ use mathlib.Core.List.{List, _++_}
 use lib.ListN.{length, take, drop, length-take}
 use lib.Seq.{take-append-seam, drop-append-seam}
 use Rattle.io.specs.Counts.{Counts}
-use Rattle.property.specs.FitLaws.{fit-of}
-use Rattle.property.specs.File.{numbersOf, rowAfter, readTable, readCount, ReadTableIs}
-use Rattle.property.specs.FileLaws.{Bytes, FileRead, file-of-read}
-use Rattle.property.specs.declared.file.TableFile.{TableFile}
-use Rattle.property.specs.declared.file.TableFile.the-variants.{Read, BadFile, ListFull, BadTable}
+use Rattle.fitness.specs.FitLaws.{fit-of}
+use Rattle.table_file.specs.File.{numbersOf, rowAfter, readTable, readCount, ReadTableIs}
+use Rattle.table_file.specs.FileLaws.{Bytes, FileRead, file-of-read}
+use Rattle.table_file.specs.declared.TableFile.{TableFile}
+use Rattle.table_file.specs.declared.TableFile.the-variants.{Read, BadFile, ListFull, BadTable}
 use Rattle.tables.specs.Tables.{TableIn}
 
 -- what is read, and that it counts

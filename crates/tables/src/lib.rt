@@ -1,6 +1,6 @@
 // The table that a replay program lends to what it replays, read from its file. This crate knows nothing of what is compared.
 use libc::STDOUT_FILENO;
-use property::answer;
+use table_file::answer;
 ghost use mathlib.Core.Path.{_≡_};
 ghost use lib.ListN.{length, replicate};
 ghost use Rattle.io.specs.Counts.{Counts};
@@ -19,7 +19,7 @@ fn table_in(file: &[u8], row: &mut [u32]) -> usize
     ensures { λ r. ⌜ Counts r (now (row .exit)) ⌝ }
     ensures { λ r. ⌜ TableIn (now (row .entry)) (now (row .exit)) r ⌝ }
 {
-    answer::read_count(property::read_table(file, row))
+    answer::count_of(table_file::read_table(file, row))
 }
 
 // Says how many runs the table of that name has, or that it was refused.

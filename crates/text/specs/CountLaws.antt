@@ -28,10 +28,10 @@ use Rattle.utf8.specs.CharsLaws.{At, at-char, rest-at, ascii-at, ascii-byte}
 use Rattle.utf8.specs.declared.Read.the-variants.{Char}
 use Rattle.property.specs.Parts.{xidContinue, widthOf}
 use Rattle.property.specs.Table.{lastFrom, propertiesAt}
-use Rattle.property.specs.Small.{smallTable}
-use Rattle.property.specs.First.{firstBad}
-use Rattle.property.specs.FitLaws.{FitTable, ascii-rule}
-use Rattle.property.specs.Ascii.{isLetter, isNamePart, isPrintable}
+use Rattle.fitness.specs.Small.{smallTable}
+use Rattle.fitness.specs.First.{firstBad}
+use Rattle.fitness.specs.FitLaws.{FitTable, ascii-rule}
+use Rattle.fitness.specs.Ascii.{isLetter, isNamePart, isPrintable}
 use Rattle.text.specs.Bytes.{byteAt}
 use Rattle.text.specs.Tests.{isWhitespace, isBinaryDigit, isOctalDigit, isDecimalDigit, isHexDigit, isLineEnd, testOf, testUtf8, testUtf8Of, atOnce}
 use Rattle.text.specs.Ascii.{asciiProperties}

@@ -7,7 +7,7 @@ use lib.Dec.{eqb}
 use Rattle.base.specs.Pick.{pick}
 use Rattle.base.specs.Range.{inside}
 use Rattle.property.specs.Parts.{xidContinue}
-use Rattle.property.specs.Ascii.{isNamePart, isPrintable}
+use Rattle.fitness.specs.Ascii.{isNamePart, isPrintable}
 
 -- ---- the characters that are named here
 

@@ -1,7 +1,7 @@
 -- `cluster::first_cluster` meets its contract: the code takes the tests of `firstCluster` in its order. Assumes nothing.
 use mathlib.Core.Path.{sym, _∙_}
 use Rattle.utf8.specs.CharsLaws.{well-of-fine}
-use Rattle.property.specs.FitLaws.{fit-of}
+use Rattle.fitness.specs.FitLaws.{fit-of}
 use Rattle.cluster.specs.Call.{firstCluster}
 use Rattle.cluster.proofs.Answers.{answers}
 use borrow.Author.Needs.{needs}

@@ -2,7 +2,7 @@
 use borrow.Author.Needs.{needs}
 use native.Mathlib.Omega.{arith}
 use mathlib.Core.Path.{refl, sym, _∙_}
-use Rattle.property.specs.SmallLaws.{ascii-start}
+use Rattle.fitness.specs.SmallLaws.{ascii-start}
 use Rattle.text.specs.Tests.{isWhitespace, isLineEnd}
 use Rattle.lexer.specs.ArmLaws.{code-by, above, other, no-digit, mid-letter, blank-arm, line-arm, comment-arm, double-arm, single-arm, ignored-arm}
 use Rattle.lexer.proofs.in_code.Statement.{statement}

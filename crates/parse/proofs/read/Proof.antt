@@ -1,7 +1,7 @@
 -- `parse::read` meets its contract: the code takes the tests of `readingOf` in its order. Assumes nothing.
 use mathlib.Core.Path.{sym, _∙_}
 use Rattle.utf8.specs.CharsLaws.{well-of-fine}
-use Rattle.property.specs.FitLaws.{fit-of}
+use Rattle.fitness.specs.FitLaws.{fit-of}
 use Rattle.parse.specs.CallLaws.{is-long, is-table, is-bad, is-cut, is-read}
 use borrow.Author.Needs.{needs}
 use Rattle.parse.proofs.read.Statement.{statement}

@@ -4,7 +4,7 @@ use mathlib.Core.Path.{sym, subst, _∙_}
 use native.Mathlib.Omega.{arith}
 use borrow.Author.Needs.{needs}
 use Rattle.utf8.specs.CharsLaws.{well-of-fine}
-use Rattle.property.specs.FitLaws.{fit-of}
+use Rattle.fitness.specs.FitLaws.{fit-of}
 use Rattle.lexer.specs.Invariant.{Ok}
 use Rattle.lexer.specs.InvariantLaws.{start-ok}
 use Rattle.reading.specs.ScanLaws.{scans-long, scans-bad-table, scans-bad, scans-cut, scans-fine}

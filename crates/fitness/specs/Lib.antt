@@ -1,0 +1,9 @@
+pub mod Small
+pub mod Ascii
+pub mod First
+pub mod Fit
+pub mod Quick
+pub mod FirstLaws
+pub mod FitLaws
+pub mod SmallLaws
+pub mod QuickLaws
