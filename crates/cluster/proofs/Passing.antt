@@ -15,11 +15,11 @@ use Rattle.utf8.specs.Read.{readAt}
 use Rattle.utf8.specs.Chars.{chars}
 use Rattle.utf8.specs.CharsLaws.{At, at-char, rest-at, chars-end}
 use Rattle.utf8.specs.declared.Read.the-variants.{Char}
-use Rattle.cluster.specs.Uax29.{joined}
+use Rattle.uax29.specs.Uax29.{joined}
 use Rattle.cluster.specs.First.{goOn, firstEnd}
-use Rattle.cluster.specs.State.{leftOf, passed, joinedBy}
-use Rattle.cluster.specs.StateLaws.{step, by-state}
-use Rattle.cluster.specs.declared.Left.{Left}
+use Rattle.uax29.specs.State.{leftOf, passed, joinedBy}
+use Rattle.uax29.specs.StateLaws.{step, by-state}
+use Rattle.uax29.specs.declared.Left.{Left}
 
 -- a character's bytes, and those of m characters after it
 bytes-on : (i c n m : ℕ) (cs : List ℕ) → length (encode c) ≡ n

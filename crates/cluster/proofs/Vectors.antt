@@ -8,7 +8,7 @@ use mathlib.Core.Bool.{true, false}
 use Rattle.utf8.specs.Encode.{encode, encodeAll}
 use Rattle.property.specs.Table.{lastFrom, propertiesAt}
 use Rattle.fitness.specs.Small.{smallTable}
-use Rattle.cluster.specs.Uax29.{isControl, gb3, gb6, gb7, gb8, gb9, pairRule, endsPict, endsPictZwj, endsOdd, endsConsonant, endsLinked, gb9c, gb11, gb12}
+use Rattle.uax29.specs.Uax29.{isControl, gb3, gb6, gb7, gb8, gb9, pairRule, endsPict, endsPictZwj, endsOdd, endsConsonant, endsLinked, gb9c, gb11, gb12}
 use Rattle.cluster.specs.First.{goOn, firstEnd, secondIs}
 
 -- opens every definition at once

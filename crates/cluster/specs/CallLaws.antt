@@ -1,35 +1,42 @@
 -- Laws of the public call's answer.
+--     refused       what a refusal makes of it
 --     unrefused     a source that no refusal meets has a first cluster, and the answer is its length
 --     no-bytes      no bytes give length 0
 --     same-call     fit tables that agree on the code points of the source give the same answer
 -- Assumes nothing.
 use Prim.Native.Nat.{ℕ, _≤_}
-use mathlib.Core.Path.{_≡_}
+use mathlib.Core.Path.{_≡_, refl}
 use mathlib.Core.List.{List, []}
 use lib.ListN.{length}
-use borrow.Author.Tests.{le-ltb}
 use Rattle.base.specs.Refusal.{sourceMost}
 use Rattle.utf8.specs.Encode.{encodeAll, WellFormed}
 use Rattle.utf8.specs.Chars.{chars, charsIn, checkIn}
-use Rattle.utf8.specs.CharsLaws.{fine-of-well}
 use Rattle.property.specs.Table.{propertiesAt}
 use Rattle.fitness.specs.Fit.{tableCheck}
 use Rattle.fitness.specs.declared.TableCheck.the-variants.{Fit}
+use Rattle.input.specs.Input.{baseEdition, inputCheck, Readable}
+use Rattle.input.specs.InputLaws.{is-fine}
+use Rattle.input.specs.declared.Refusal.{Refusal}
+use Rattle.input.specs.declared.Input.the-variants as input
 use Rattle.cluster.specs.First.{firstEnd}
 use Rattle.cluster.specs.FirstLaws.{Agree, same-first}
-use Rattle.cluster.specs.Call.{baseEdition, firstCluster}
-use Rattle.cluster.specs.declared.Cluster.the-variants.{Length}
+use Rattle.cluster.specs.Call.{firstCluster}
+use Rattle.cluster.specs.declared.Cluster.the-variants.{Length, Refused}
 
-pub unrefused : (source table : List ℕ) → length source ≤ sourceMost → tableCheck table ≡ Fit → WellFormed source
+pub refused : (source table : List ℕ) {x : Refusal} → inputCheck sourceMost source table ≡ input.Refused x → firstCluster source table ≡ Refused x
+unfolding firstCluster
+refused source table e = rw e
+
+pub unrefused : (source table : List ℕ) → Readable sourceMost source table
     → firstCluster source table ≡ Length (firstEnd baseEdition (propertiesAt table) 0 (chars source))
 unfolding firstCluster
-unrefused source table h e w = rw (le-ltb sourceMost (length source) h, e, fine-of-well 0 source w)
+unrefused source table g = rw (is-fine sourceMost source table g)
 
 pub no-bytes : (table : List ℕ) → tableCheck table ≡ Fit → firstCluster [] table ≡ Length 0
-unfolding firstCluster checkIn charsIn encodeAll
+unfolding firstCluster inputCheck checkIn charsIn encodeAll
 no-bytes table e = rw e
 
 pub same-call : (source t u : List ℕ) → tableCheck t ≡ Fit → tableCheck u ≡ Fit → Agree (propertiesAt t) (propertiesAt u) (chars source)
     → firstCluster source t ≡ firstCluster source u
-unfolding firstCluster
+unfolding firstCluster inputCheck
 same-call source t u e f a = rw (e, f, same-first baseEdition (propertiesAt t) (propertiesAt u) (chars source) a)

@@ -10,7 +10,7 @@ use lib.Dec.{ltb, eqb}
 use lib.ListN.{length, getD, take, drop}
 use Rattle.base.specs.Pick.{pick}
 use Rattle.utf8.specs.Encode.{encodeAll}
-use Rattle.cluster.specs.Uax29.{joined}
+use Rattle.uax29.specs.Uax29.{joined}
 
 -- the properties of the first k characters of cs, the nearest first, and then those of left
 abbrev pub before : (ℕ → ℕ) → List ℕ → ℕ → List ℕ → List ℕ

@@ -22,13 +22,13 @@ use Rattle.utf8.specs.EncodeLaws.{encode1, encode-some}
 use Rattle.utf8.specs.Chars.{chars}
 use Rattle.utf8.specs.CharsLaws.{After, after-chars}
 use Rattle.property.specs.Parts.{classOf}
-use Rattle.cluster.specs.Uax29.{pairRule, endsPict, endsPictZwj, endsOdd, endsConsonant, endsLinked, gb9c, gb11, gb12, onOpen, joined}
+use Rattle.uax29.specs.Uax29.{pairRule, endsPict, endsPictZwj, endsOdd, endsConsonant, endsLinked, gb9c, gb11, gb12, onOpen, joined}
 use Rattle.cluster.specs.First.{before, breakAfter, Shortest, goOn, clusterSize, firstSize, firstEnd, firstRest, secondSize, secondIs}
-use Rattle.cluster.specs.Uax29Laws.{or-right}
-use Rattle.cluster.specs.State.{leftOf}
-use Rattle.cluster.specs.StateLaws.{same-left}
-use Rattle.cluster.specs.declared.Pair.{Pair}
-use Rattle.cluster.specs.declared.Pair.the-variants.{Joined, Broken, Open}
+use Rattle.uax29.specs.Uax29Laws.{or-right}
+use Rattle.uax29.specs.State.{leftOf}
+use Rattle.cluster.specs.SameLaws.{same-left}
+use Rattle.uax29.specs.declared.Pair.{Pair}
+use Rattle.uax29.specs.declared.Pair.the-variants.{Joined, Broken, Open}
 
 -- ---- the shortest beginning after which there is a break
 

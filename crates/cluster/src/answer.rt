@@ -2,10 +2,7 @@
 ghost use mathlib.Core.Path.{_≡_};
 ghost use Rattle.cluster.specs.Call.{numberOf, placeOf, lenOf};
 use crate::Cluster;
-use base::refusals::BAD_TABLE;
-use base::refusals::BAD_UTF8;
 use base::refusals::NO_REFUSAL;
-use base::refusals::TOO_LONG;
 
 // The refusal's number; 0 where there is no refusal.
 pub fn number_of(cluster: Cluster) -> u32
@@ -13,9 +10,7 @@ pub fn number_of(cluster: Cluster) -> u32
 {
     match cluster {
         Cluster::Length(_) => NO_REFUSAL,
-        Cluster::TooLong => TOO_LONG,
-        Cluster::BadTable(_) => BAD_TABLE,
-        Cluster::BadUtf8(_) => BAD_UTF8,
+        Cluster::Refused(refusal) => input::answer::number_of(refusal),
     }
 }
 
@@ -25,9 +20,7 @@ pub fn place_of(cluster: Cluster) -> usize
 {
     match cluster {
         Cluster::Length(_) => 0,
-        Cluster::TooLong => 0,
-        Cluster::BadTable(i) => i,
-        Cluster::BadUtf8(i) => i,
+        Cluster::Refused(refusal) => input::answer::place_of(refusal),
     }
 }
 
@@ -37,8 +30,6 @@ pub fn len_of(cluster: Cluster) -> usize
 {
     match cluster {
         Cluster::Length(n) => n,
-        Cluster::TooLong => 0,
-        Cluster::BadTable(_) => 0,
-        Cluster::BadUtf8(_) => 0,
+        Cluster::Refused(_) => 0,
     }
 }

@@ -20,6 +20,10 @@ use Rattle.input.specs.declared.Refusal.the-variants.{TooLong, BadTable,
 use Rattle.input.specs.declared.Input.{Input}
 use Rattle.input.specs.declared.Input.the-variants.{Fine, Refused}
 
+-- the edition of the cluster rules that calls with a table go by: with GB9c
+abbrev pub baseEdition : ℕ
+baseEdition = 2
+
 -- ---- the checks
 
 -- r, where the table is fit

@@ -12,6 +12,9 @@ pub const SOURCE_MOST: usize = 1_048_576;
 // A format string has at most this many bytes.
 pub const FORMAT_MOST: usize = 65_535;
 
+// The edition of the cluster rules that calls with a table go by: 2, with GB9c.
+pub const EDITION: u32 = 2;
+
 // A refusal that comes before any work, under document 01's name. An answer that may be one of these carries it as one case.
 pub enum Refusal {
     // 1: more bytes than the call takes. Its place is 0.

@@ -17,7 +17,7 @@ use Rattle.property.specs.Table.{propertiesAt}
 use Rattle.fitness.specs.Fit.{tableCheck}
 use Rattle.fitness.specs.declared.TableCheck.{TableCheck}
 use Rattle.fitness.specs.declared.TableCheck.the-variants as table
-use Rattle.cluster.specs.Call.{baseEdition}
+use Rattle.input.specs.Input.{baseEdition}
 use Rattle.pool.specs.Pool.{added, bytesAfter, entriesAfter, fitPool}
 use Rattle.pool.specs.declared.Counts.{Counts}
 use Rattle.pool.specs.declared.Added.{Added}

@@ -30,7 +30,7 @@ use Rattle.property.specs.Table.{propertiesAt}
 use Rattle.fitness.specs.Fit.{tableCheck}
 use Rattle.fitness.specs.declared.TableCheck.{TableCheck}
 use Rattle.fitness.specs.declared.TableCheck.the-variants as property
-use Rattle.cluster.specs.Call.{baseEdition}
+use Rattle.input.specs.Input.{baseEdition}
 use Rattle.pool.specs.Pool.{added, bytesAfter, entriesAfter, fitPool, AddsString}
 use Rattle.pool.specs.PoolLaws.{old-bytes, old-entries, added-again}
 use Rattle.pool.specs.declared.Counts.{Counts}

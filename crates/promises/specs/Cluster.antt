@@ -12,7 +12,8 @@ use Rattle.property.specs.Table.{propertiesAt}
 use Rattle.fitness.specs.Fit.{tableCheck}
 use Rattle.fitness.specs.declared.TableCheck.the-variants.{Fit, BadTable}
 use Rattle.cluster.specs.First.{Shortest}
-use Rattle.cluster.specs.Call.{baseEdition, firstCluster, numberOf, placeOf, lenOf}
+use Rattle.cluster.specs.Call.{firstCluster, numberOf, placeOf, lenOf}
+use Rattle.input.specs.Input.{baseEdition}
 use Rattle.cluster.specs.declared.Cluster.{Cluster}
 use Rattle.promises.specs.Said.{Said, says}
 

@@ -18,7 +18,8 @@ use Rattle.fitness.specs.Fit.{tableCheck}
 use Rattle.fitness.specs.declared.TableCheck.the-variants.{Fit, BadTable}
 use Rattle.cluster.specs.First.{Shortest, firstSize, firstEnd}
 use Rattle.cluster.specs.FirstLaws.{first-is-shortest, one-shortest}
-use Rattle.cluster.specs.Call.{baseEdition, onUtf8, firstCluster, lenOf}
+use Rattle.cluster.specs.Call.{onUtf8, firstCluster, lenOf}
+use Rattle.input.specs.Input.{baseEdition}
 use Rattle.cluster.specs.CallLaws.{unrefused, no-bytes}
 use Rattle.cluster.specs.declared.Cluster.{Cluster}
 use Rattle.cluster.specs.declared.Cluster.the-variants as answer

@@ -21,7 +21,7 @@ use Rattle.property.specs.Table.{propertiesAt}
 use Rattle.fitness.specs.Fit.{tableCheck}
 use Rattle.fitness.specs.FitLaws.{FitTable, fit-of}
 use Rattle.fitness.specs.declared.TableCheck.the-variants.{Fit}
-use Rattle.cluster.specs.Call.{baseEdition}
+use Rattle.input.specs.Input.{baseEdition}
 use Rattle.token.specs.declared.rows.Row.{Row}
 use Rattle.state.specs.Lexer.{reachOf}
 use Rattle.state.specs.State.{startState}

@@ -17,7 +17,7 @@ use Rattle.base.specs.PickLaws.{split-lt}
 use Rattle.utf8.specs.CharsLaws.{well-of-fine}
 use Rattle.property.specs.Table.{propertiesAt}
 use Rattle.fitness.specs.FitLaws as property
-use Rattle.cluster.specs.Call.{baseEdition}
+use Rattle.input.specs.Input.{baseEdition}
 use Rattle.token.specs.Row.{room, rowAt, rowsOf, putRows, rowFits}
 use Rattle.token.specs.RowLaws.{rows-length, rows-at, rows-back, fits-packs}
 use Rattle.token.specs.declared.rows.Row.{Row}

@@ -15,7 +15,7 @@ use Rattle.property.specs.Table.{propertiesAt}
 use Rattle.fitness.specs.Fit.{tableCheck}
 use Rattle.fitness.specs.declared.TableCheck.{TableCheck}
 use Rattle.fitness.specs.declared.TableCheck.the-variants as table
-use Rattle.cluster.specs.Call.{baseEdition}
+use Rattle.input.specs.Input.{baseEdition}
 use Rattle.token.specs.Row.{room, putRows, putRowsAt}
 use Rattle.token.specs.declared.rows.Row.{Row}
 use Rattle.state.specs.Lexer.{reachOf}

@@ -22,7 +22,7 @@ use Rattle.property.specs.Table.{propertiesAt}
 use Rattle.fitness.specs.Fit.{tableCheck}
 use Rattle.fitness.specs.declared.TableCheck.{TableCheck}
 use Rattle.fitness.specs.declared.TableCheck.the-variants as property
-use Rattle.cluster.specs.Call.{baseEdition}
+use Rattle.input.specs.Input.{baseEdition}
 use Rattle.token.specs.Row.{room, putRow, putRows, putRowsAt}
 use Rattle.token.specs.RowLaws.{put-length, puts-none, puts-next, rows-none, rows-one-by-one}
 use Rattle.token.specs.declared.rows.Row.{Row}

@@ -15,7 +15,7 @@ use Rattle.utf8.specs.CharsLaws.{Stops, At, at-char, never-stops}
 use Rattle.utf8.specs.declared.Read.the-variants.{Char}
 use Rattle.utf8.proofs.Tags.{stopped}
 use Rattle.property.specs.Table.{propertiesAt}
-use Rattle.cluster.specs.State.{joinedBy}
+use Rattle.uax29.specs.State.{joinedBy}
 use Rattle.cluster.proofs.Passing.{Past, first, at-end, at-break, one-more, nothing}
 use Rattle.cluster.proofs.cluster_end.Statement.{statement}
 use Rattle.cluster.proofs.cluster_end.Tie as tie
