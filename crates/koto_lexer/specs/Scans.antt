@@ -3,7 +3,7 @@
 use Prim.Native.Nat.{ℕ}
 use mathlib.Core.Path.{_≡_}
 use mathlib.Core.List.{List}
-use Rattle.token.specs.Row.{room, putRows}
+use Rattle.rows.specs.Row.{room, putRows}
 use Rattle.reading.specs.Scan.{scanned, written, numberOf, placeOf, countOf}
 use Rattle.reading.specs.declared.Scanned.{Scanned}
 use Rattle.reading.specs.declared.Scanned.the-variants.{End, Stuck, TooLong, BadTable, BadUtf8, ListFull, ModesFull}

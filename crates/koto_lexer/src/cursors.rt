@@ -9,7 +9,7 @@ use lookahead::Given;
 use lookahead::Peeked;
 use lookahead::Status;
 use lookahead::answer;
-use token::rows::Row;
+use rows::Row;
 
 fn cursor_of(taken: usize, queued: usize, count: usize, status: Status) -> Cursor
     ensures { λ r. ⌜ r ≡ cursorOf taken queued count status ⌝ }

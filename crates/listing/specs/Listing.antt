@@ -7,8 +7,8 @@ use lib.Dec.{ltb}
 use lib.ListN.{length}
 use Rattle.base.specs.Pick.{pick}
 use Rattle.fitness.specs.Small.{smallTable}
-use Rattle.token.specs.Row.{room, putRows}
-use Rattle.token.specs.declared.rows.Row.{Row}
+use Rattle.rows.specs.Row.{room, putRows}
+use Rattle.rows.specs.declared.Row.{Row}
 use Rattle.reading.specs.Scan.{scanned, written}
 use Rattle.reading.specs.declared.Scanned.{Scanned}
 use Rattle.reading.specs.declared.Scanned.the-variants.{TooLong}

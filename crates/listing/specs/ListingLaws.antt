@@ -12,8 +12,8 @@ use lib.ListN.{length}
 use borrow.Author.Tests.{lt-ltb, le-ltb}
 use Rattle.base.specs.PickLaws.{by-test}
 use Rattle.fitness.specs.Small.{smallTable}
-use Rattle.token.specs.Row.{room, putRows}
-use Rattle.token.specs.RowLaws.{rows-none}
+use Rattle.rows.specs.Row.{room, putRows}
+use Rattle.rows.specs.RowLaws.{rows-none}
 use Rattle.reading.specs.Scan.{Scans, countOf}
 use Rattle.reading.specs.ScanLaws.{count-room}
 use Rattle.reading.specs.declared.Scanned.{Scanned}

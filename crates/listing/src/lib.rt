@@ -4,7 +4,7 @@ use reading::Scanned;
 ghost use mathlib.Core.Path.{_≡_};
 ghost use Prim.Native.Nat.{_≤_};
 ghost use lib.ListN.{length, replicate};
-ghost use Rattle.token.specs.Row.{room};
+ghost use Rattle.rows.specs.Row.{room};
 ghost use Rattle.reading.specs.Scan.{countOf};
 ghost use Rattle.listing.specs.Listing.{Lists};
 

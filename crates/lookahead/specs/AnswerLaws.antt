@@ -16,10 +16,10 @@ use mathlib.Core.Bool.{true, false, and-eq-true-iff}
 use mathlib.Core.List.{List}
 use lib.Dec.{leb}
 use borrow.Author.Tests.{leb-true, lt-ltb, le-ltb, eq-eqb, ne-eqb}
-use Rattle.token.specs.Row.{room, rowAt, rowFits, shownAt}
-use Rattle.token.specs.declared.rows.Row.{Row}
-use Rattle.token.specs.declared.rows.RowAt.{RowAt}
-use Rattle.token.specs.declared.rows.RowAt.the-variants.{Fit, Unfit}
+use Rattle.rows.specs.Row.{room, rowAt, rowFits, shownAt}
+use Rattle.rows.specs.declared.Row.{Row}
+use Rattle.rows.specs.declared.RowAt.{RowAt}
+use Rattle.rows.specs.declared.RowAt.the-variants.{Fit, Unfit}
 use Rattle.lookahead.specs.Cursor.{queueMost, fitBy, isFit, lastPlace, ahead, seenAt}
 use Rattle.lookahead.specs.CursorLaws.{record-at}
 use Rattle.lookahead.specs.Next.{movedOn, givenBy, nextOf}

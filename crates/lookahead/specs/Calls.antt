@@ -7,8 +7,8 @@ use mathlib.Core.List.{List, [], _∷_}
 use mathlib.Core.Option.{Option, some}
 use mathlib.Core.Option as option
 use Rattle.base.specs.Refusal.{none}
-use Rattle.token.specs.Row.{room, rowAt, rowsOf, rowFits}
-use Rattle.token.specs.declared.rows.Row.{Row}
+use Rattle.rows.specs.Row.{room, rowAt, rowsOf, rowFits}
+use Rattle.rows.specs.declared.Row.{Row}
 use Rattle.lookahead.specs.Cursor.{isFit, recordAt, ahead}
 use Rattle.lookahead.specs.Next as ofNext
 use Rattle.lookahead.specs.Next.{nextOf}

@@ -15,8 +15,8 @@ use mathlib.Core.Option.{Option, some}
 use mathlib.Core.Option as option
 use Rattle.base.specs.PickLaws.{by-lt, split-lt, split-eq}
 use Rattle.base.specs.Refusal.{none, peekTooFar, queueFull, badState, badRecord}
-use Rattle.token.specs.Row.{room, rowsOf}
-use Rattle.token.specs.declared.rows.Row.{Row}
+use Rattle.rows.specs.Row.{room, rowsOf}
+use Rattle.rows.specs.declared.Row.{Row}
 use Rattle.lookahead.specs.Cursor.{queueMost, isFit, startCursor, recordAt, ahead, seenAt}
 use Rattle.lookahead.specs.CursorLaws.{record-at, held-plus, last-most, taken-held, stuck-some, moved-fits, queued-fits}
 use Rattle.lookahead.specs.Next.{movedOn, givenBy, nextOf}

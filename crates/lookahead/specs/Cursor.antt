@@ -7,9 +7,9 @@ use mathlib.Core.Bool.{Bool, false}
 use mathlib.Core.List.{List}
 use lib.Dec.{leb, ltb}
 use Rattle.base.specs.Pick.{pick}
-use Rattle.token.specs.Row.{shownAt}
-use Rattle.token.specs.declared.rows.RowAt.{RowAt}
-use Rattle.token.specs.declared.rows.RowAt.the-variants.{Fit, Unfit}
+use Rattle.rows.specs.Row.{shownAt}
+use Rattle.rows.specs.declared.RowAt.{RowAt}
+use Rattle.rows.specs.declared.RowAt.the-variants.{Fit, Unfit}
 use Rattle.lookahead.specs.declared.Status.{Status}
 use Rattle.lookahead.specs.declared.Status.the-variants.{End, Stuck}
 use Rattle.lookahead.specs.declared.Cursor.{Cursor}

@@ -4,7 +4,7 @@ use Prim.Native.Nat.{ℕ, _-_}
 use mathlib.Core.List.{List}
 use Rattle.base.specs.Pick.{pick}
 use Rattle.base.specs.Refusal.{none, badState, badRecord}
-use Rattle.token.specs.Row.{room}
+use Rattle.rows.specs.Row.{room}
 use Rattle.lookahead.specs.Cursor.{isFit, ahead, seenAt}
 use Rattle.lookahead.specs.declared.Cursor.{Cursor}
 use Rattle.lookahead.specs.declared.Seen.{Seen}

@@ -6,7 +6,7 @@ use mathlib.Core.List.{List}
 use lib.Dec.{eqb, leb, ltb}
 use Rattle.base.specs.Pick.{pick}
 use Rattle.base.specs.Refusal.{none, peekTooFar, queueFull, badState, badRecord}
-use Rattle.token.specs.Row.{room}
+use Rattle.rows.specs.Row.{room}
 use Rattle.lookahead.specs.Cursor.{queueMost, isFit, ahead, seenAt}
 use Rattle.lookahead.specs.declared.Cursor.{Cursor}
 use Rattle.lookahead.specs.declared.Seen.{Seen}

@@ -8,7 +8,7 @@ use mathlib.Core.Option.{Option, none, some}
 use lib.Dec.{ltb}
 use lib.ListN.{length}
 use Rattle.base.specs.Pick.{pick}
-use Rattle.token.specs.declared.rows.Row.{Row}
+use Rattle.rows.specs.declared.Row.{Row}
 use Rattle.lookahead.specs.declared.Status.{Status}
 use Rattle.lookahead.specs.declared.Status.the-variants.{End, Stuck}
 

@@ -19,8 +19,8 @@ use lib.ListN.{length}
 use borrow.Author.Tests.{ltb-true, ltb-false, lt-ltb, le-ltb, le-leb}
 use Rattle.base.specs.PickLaws.{by-lt, split-lt, split-eq}
 use Rattle.base.specs.Refusal.{none, peekTooFar, queueFull}
-use Rattle.token.specs.Row.{room, rowAt, rowsOf}
-use Rattle.token.specs.declared.rows.Row.{Row}
+use Rattle.rows.specs.Row.{room, rowAt, rowsOf}
+use Rattle.rows.specs.declared.Row.{Row}
 use Rattle.lookahead.specs.Cursor.{queueMost, isFit, startCursor, recordAt, ahead, seenAt}
 use Rattle.lookahead.specs.CursorLaws.{held-plus, held-once, same-plus, moved-fits, queued-fits, queued-there, stuck-some}
 use Rattle.lookahead.specs.Next as ofNext

@@ -16,10 +16,10 @@ use lib.ListN.{length, getD}
 use borrow.Author.Tests.{lt-ltb, le-ltb}
 use Rattle.base.specs.Pick.{pick}
 use Rattle.base.specs.PickLaws.{by-test, by-lt, split-lt}
-use Rattle.token.specs.Row.{rowAt, rowsOf, rowFits, shownAt}
-use Rattle.token.specs.RowLaws.{rows-of-length, rows-of-at}
-use Rattle.token.specs.declared.rows.Row.{Row}
-use Rattle.token.specs.declared.rows.RowAt.{RowAt}
+use Rattle.rows.specs.Row.{rowAt, rowsOf, rowFits, shownAt}
+use Rattle.rows.specs.RowLaws.{rows-of-length, rows-of-at}
+use Rattle.rows.specs.declared.Row.{Row}
+use Rattle.rows.specs.declared.RowAt.{RowAt}
 use Rattle.lookahead.specs.Cursor.{recordAt, ahead, seenBy, seenAt}
 use Rattle.lookahead.specs.CursorLaws.{record-at, same-plus}
 use Rattle.lookahead.specs.Queue.{get, tokenAt}

@@ -7,13 +7,12 @@ pub mod answer;
 
 ghost use mathlib.Core.Path.{_≡_};
 ghost use Prim.Native.Nat.{_-_, _≤_};
-ghost use Rattle.token.specs.Row.{room};
+ghost use Rattle.rows.specs.Row.{room};
 ghost use Rattle.lookahead.specs.Cursor.{queueMost, isFit, lastPlace, ahead, seenAt};
 ghost use Rattle.lookahead.specs.Next.{movedOn, nextOf};
 ghost use Rattle.lookahead.specs.Peek.{mustQueue, queuedOne, queuedAt, peekOf};
-use token::rows;
-use token::rows::Row;
-use token::rows::RowAt;
+use rows::Row;
+use rows::RowAt;
 
 // The most tokens that may be queued.
 const QUEUE_MOST: usize = 65_535;

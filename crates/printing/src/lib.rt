@@ -2,13 +2,12 @@
 // space between two of them. This crate knows no source and no table.
 use libc::STDOUT_FILENO;
 use reading::Scanned;
+use rows::Row;
+use rows::RowAt;
 use scan::answer;
-use token::rows;
-use token::rows::Row;
-use token::rows::RowAt;
 ghost use mathlib.Core.Path.{_≡_};
 ghost use Prim.Native.Nat.{_<_, _≤_};
-ghost use Rattle.token.specs.Row.{room};
+ghost use Rattle.rows.specs.Row.{room};
 ghost use Rattle.reading.specs.Scan.{countOf};
 
 // Prints a number, and what stands after it.

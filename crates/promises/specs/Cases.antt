@@ -6,7 +6,7 @@ use mathlib.Core.List.{List, [], _∷_}
 use lib.ListN.{replicate}
 use Rattle.fitness.specs.Small.{smallTable}
 use Rattle.token.specs.Kind.{error, commentMulti, id, stringStart, stringEnd, stringLiteral, dot, else, elseIf}
-use Rattle.token.specs.declared.rows.Row.{Row}
+use Rattle.rows.specs.declared.Row.{Row}
 use Rattle.words.specs.Words.{bytes}
 use Rattle.pool.specs.Pool.{stringsOf}
 use Rattle.format.specs.declared.Alignment.the-variants.{Default}

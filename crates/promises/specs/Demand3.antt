@@ -7,7 +7,7 @@ use mathlib.Core.Path.{_≡_}
 use mathlib.Core.Logic.{_⊎_}
 use mathlib.Core.List.{List, [], _∷_, _++_}
 use lib.ListN.{length, take}
-use Rattle.token.specs.declared.rows.Row.{Row}
+use Rattle.rows.specs.declared.Row.{Row}
 use Rattle.lexer.specs.Fine.{Cuts}
 use Rattle.reading.specs.Reading.{Stop, ended, stuck, deep, Reading}
 use Rattle.reading.specs.Scan.{endOf}

@@ -22,7 +22,7 @@ use Rattle.fitness.specs.Fit.{tableCheck}
 use Rattle.fitness.specs.FitLaws.{FitTable, fit-of}
 use Rattle.fitness.specs.declared.TableCheck.the-variants.{Fit}
 use Rattle.input.specs.Input.{baseEdition}
-use Rattle.token.specs.declared.rows.Row.{Row}
+use Rattle.rows.specs.declared.Row.{Row}
 use Rattle.state.specs.Lexer.{reachOf}
 use Rattle.state.specs.State.{startState}
 use Rattle.state.specs.declared.State.{State}

@@ -8,8 +8,8 @@ use mathlib.Core.Option.{some}
 use mathlib.Core.Option as option
 use lib.ListN.{length, getD}
 use Rattle.base.specs.Refusal.{none, peekTooFar, queueFull, badState, badRecord}
-use Rattle.token.specs.Row.{room, rowAt, rowFits}
-use Rattle.token.specs.declared.rows.Row.{Row}
+use Rattle.rows.specs.Row.{room, rowAt, rowFits}
+use Rattle.rows.specs.declared.Row.{Row}
 use Rattle.reading.specs.declared.Scanned.{Scanned}
 use Rattle.reading.specs.declared.Scanned.the-variants as scanned
 use Rattle.lookahead.specs.Cursor.{queueMost, startCursor, ahead}

@@ -18,9 +18,9 @@ use Rattle.utf8.specs.CharsLaws.{well-of-fine}
 use Rattle.property.specs.Table.{propertiesAt}
 use Rattle.fitness.specs.FitLaws as property
 use Rattle.input.specs.Input.{baseEdition}
-use Rattle.token.specs.Row.{room, rowAt, rowsOf, putRows, rowFits}
-use Rattle.token.specs.RowLaws.{rows-length, rows-at, rows-back, fits-packs}
-use Rattle.token.specs.declared.rows.Row.{Row}
+use Rattle.rows.specs.Row.{room, rowAt, rowsOf, putRows, rowFits}
+use Rattle.rows.specs.RowLaws.{rows-length, rows-at, rows-back, fits-packs}
+use Rattle.rows.specs.declared.Row.{Row}
 use Rattle.state.specs.State.{startState}
 use Rattle.lexer.specs.InvariantLaws.{start-ok}
 use Rattle.reading.specs.Reading.{Stop, ended, stuck}

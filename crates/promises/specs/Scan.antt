@@ -10,8 +10,8 @@ use Rattle.utf8.specs.Encode.{WellFormed}
 use Rattle.utf8.specs.Meaning.{Longest}
 use Rattle.fitness.specs.Fit.{tableCheck}
 use Rattle.fitness.specs.declared.TableCheck.the-variants.{Fit, BadTable}
-use Rattle.token.specs.Row.{room, putRows}
-use Rattle.token.specs.declared.rows.Row.{Row}
+use Rattle.rows.specs.Row.{room, putRows}
+use Rattle.rows.specs.declared.Row.{Row}
 use Rattle.reading.specs.Reading as reading
 use Rattle.reading.specs.Scan.{endOf, readingOf, numberOf, placeOf, countOf}
 use Rattle.reading.specs.declared.Scanned.{Scanned}

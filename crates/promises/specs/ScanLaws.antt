@@ -24,9 +24,9 @@ use Rattle.utf8.specs.declared.Utf8Check.the-variants as utf8
 use Rattle.fitness.specs.Fit.{tableCheck}
 use Rattle.fitness.specs.declared.TableCheck.{TableCheck}
 use Rattle.fitness.specs.declared.TableCheck.the-variants.{Fit, BadTable}
-use Rattle.token.specs.Row.{room, putRows, putRowsAt}
-use Rattle.token.specs.RowLaws.{rows-one-by-one}
-use Rattle.token.specs.declared.rows.Row.{Row}
+use Rattle.rows.specs.Row.{room, putRows, putRowsAt}
+use Rattle.rows.specs.RowLaws.{rows-one-by-one}
+use Rattle.rows.specs.declared.Row.{Row}
 use Rattle.reading.specs.Reading as reading
 use Rattle.reading.specs.Scan.{endOf, whole, byRoom, onTable, onUtf8, readingOf, scanned, writtenBy, written, Scans, numberOf, countOf}
 use Rattle.reading.specs.ScanLaws.{scans-long, scans-bad-table, scans-bad, scans-cut, scans-fine, one-answer}

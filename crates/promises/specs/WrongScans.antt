@@ -6,7 +6,7 @@ use mathlib.Core.Path.{_≡_}
 use mathlib.Core.List.{List}
 use lib.ListN.{length}
 use Rattle.base.specs.Refusal.{none}
-use Rattle.token.specs.Row.{room}
+use Rattle.rows.specs.Row.{room}
 use Rattle.reading.specs.Scan.{written, Scans, numberOf, placeOf, countOf}
 use Rattle.reading.specs.declared.Scanned.{Scanned}
 use Rattle.reading.specs.declared.Scanned.the-variants.{Stuck}

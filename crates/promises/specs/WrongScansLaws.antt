@@ -7,7 +7,7 @@ use mathlib.Core.Path.{_≡_, refl, sym, ap, _∙_}
 use mathlib.Core.List.{List, [], _∷_}
 use lib.ListN.{length, getD, replicate}
 use Rattle.fitness.specs.Small.{smallTable}
-use Rattle.token.specs.Row.{room, wordsOfAll, putRows}
+use Rattle.rows.specs.Row.{room, wordsOfAll, putRows}
 use Rattle.words.specs.Words.{bytes}
 use Rattle.reading.specs.Scan.{written, numberOf}
 use Rattle.promises.specs.CasesLaws.{reads-computed}

@@ -5,7 +5,7 @@ use Prim.Native.Nat.{ℕ, zero, suc}
 use mathlib.Core.List.{List, [], _∷_}
 use Rattle.token.specs.Kind.{error}
 use Rattle.token.specs.declared.Token.{Token}
-use Rattle.token.specs.declared.rows.Row.{Row}
+use Rattle.rows.specs.declared.Row.{Row}
 use Rattle.state.specs.Lexer.{plainToken}
 use Rattle.state.specs.State.{startState}
 use Rattle.state.specs.declared.Lexer.{Lexer}

@@ -16,8 +16,8 @@ use Rattle.fitness.specs.Fit.{tableCheck}
 use Rattle.fitness.specs.declared.TableCheck.{TableCheck}
 use Rattle.fitness.specs.declared.TableCheck.the-variants as table
 use Rattle.input.specs.Input.{baseEdition}
-use Rattle.token.specs.Row.{room, putRows, putRowsAt}
-use Rattle.token.specs.declared.rows.Row.{Row}
+use Rattle.rows.specs.Row.{room, putRows, putRowsAt}
+use Rattle.rows.specs.declared.Row.{Row}
 use Rattle.state.specs.Lexer.{reachOf}
 use Rattle.state.specs.declared.State.{State}
 use Rattle.reading.specs.Reading.{Stop, ended, stuck, deep, Reading, readFrom, reading}

@@ -23,9 +23,9 @@ use Rattle.fitness.specs.Fit.{tableCheck}
 use Rattle.fitness.specs.declared.TableCheck.{TableCheck}
 use Rattle.fitness.specs.declared.TableCheck.the-variants as property
 use Rattle.input.specs.Input.{baseEdition}
-use Rattle.token.specs.Row.{room, putRow, putRows, putRowsAt}
-use Rattle.token.specs.RowLaws.{put-length, puts-none, puts-next, rows-none, rows-one-by-one}
-use Rattle.token.specs.declared.rows.Row.{Row}
+use Rattle.rows.specs.Row.{room, putRow, putRows, putRowsAt}
+use Rattle.rows.specs.RowLaws.{put-length, puts-none, puts-next, rows-none, rows-one-by-one}
+use Rattle.rows.specs.declared.Row.{Row}
 use Rattle.state.specs.State.{startState}
 use Rattle.state.specs.declared.State.{State}
 use Rattle.reading.specs.Reading.{Stop, ended, stuck, deep, Reading, onto, stopped}

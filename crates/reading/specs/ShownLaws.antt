@@ -10,8 +10,8 @@ use mathlib.Core.List.{List, [], _∷_}
 use lib.ListN.{length, getD}
 use Rattle.property.specs.Table.{propertiesAt}
 use Rattle.fitness.specs.FitLaws.{FitTable}
-use Rattle.token.specs.Row.{rowFits}
-use Rattle.token.specs.declared.rows.Row.{Row}
+use Rattle.rows.specs.Row.{rowFits}
+use Rattle.rows.specs.declared.Row.{Row}
 use Rattle.state.specs.declared.State.{State}
 use Rattle.lexer.specs.Step.{step}
 use Rattle.lexer.specs.Invariant.{Ok, measure}

@@ -16,8 +16,8 @@ use Rattle.utf8.specs.declared.Utf8Check.the-variants as utf8
 use Rattle.fitness.specs.Fit.{tableCheck}
 use Rattle.fitness.specs.declared.TableCheck.{TableCheck}
 use Rattle.fitness.specs.declared.TableCheck.the-variants as property
-use Rattle.token.specs.Row.{room, putRows}
-use Rattle.token.specs.declared.rows.Row.{Row}
+use Rattle.rows.specs.Row.{room, putRows}
+use Rattle.rows.specs.declared.Row.{Row}
 use Rattle.reading.specs.Reading.{Stop, ended, stuck, deep}
 use Rattle.reading.specs.Scan.{endOf, whole, byRoom, onTable, onUtf8, readingOf, scanned, writtenBy, written, Scans}
 use Rattle.reading.specs.declared.Scanned.{Scanned}

@@ -17,10 +17,10 @@ use denote.Enum.Declared.{tagOf}
 use types.Run.{OneOf, miss}
 use borrow.Author.Tests.{eq-eqb, ne-eqb, lt-ltb, le-ltb}
 use Rattle.lines.specs.Fields.{sameAll}
-use Rattle.token.specs.Row.{room, rowWords, shownAt}
-use Rattle.token.specs.declared.rows.Row.{Row}
-use Rattle.token.specs.declared.rows.RowAt.{RowAt}
-use Rattle.token.specs.declared.rows.RowAt.the-variants.{Fit, Unfit}
+use Rattle.rows.specs.Row.{room, rowWords, shownAt}
+use Rattle.rows.specs.declared.Row.{Row}
+use Rattle.rows.specs.declared.RowAt.{RowAt}
+use Rattle.rows.specs.declared.RowAt.the-variants.{Fit, Unfit}
 use Rattle.reading.specs.Scan.{numberOf, countOf}
 use Rattle.reading.specs.declared.Scanned.{Scanned}
 use Rattle.reading.specs.declared.Scanned.the-variants.{End, Stuck, TooLong, BadTable, BadUtf8, ListFull, ModesFull}

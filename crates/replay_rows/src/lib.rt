@@ -2,16 +2,15 @@
 // answers has, `STATUS COUNT BYTE` and the nine numbers of each record (tools/README.md). It knows nothing of how a scan comes about.
 use lines::same;
 use reading::Scanned;
+use rows::Row;
+use rows::RowAt;
 use scan::answer::count_of;
 use scan::answer::number_of;
 use scan::answer::place_of;
-use token::rows;
-use token::rows::Row;
-use token::rows::RowAt;
 ghost use mathlib.Core.Path.{_≡_};
 ghost use Prim.Native.Nat.{_≤_, _<_};
 ghost use lib.ListN.{length, drop, replicate};
-ghost use Rattle.token.specs.Row.{room};
+ghost use Rattle.rows.specs.Row.{room};
 ghost use Rattle.lines.specs.Fields.{sameAll};
 ghost use Rattle.replay_rows.specs.Rows.{mark, allMarks, statusOf, answerOf, nineOf, sameRow, sameRows, agreesAt};
 

@@ -11,10 +11,10 @@ use Rattle.position.specs.declared.Place.{Place}
 use Rattle.property.specs.Table.{propertiesAt}
 use Rattle.fitness.specs.FitLaws.{FitTable}
 use Rattle.token.specs.Kind.{error}
-use Rattle.token.specs.Row.{room, Packs, putRow, rowFits}
-use Rattle.token.specs.RowLaws.{put-length, fits-packs}
+use Rattle.rows.specs.Row.{room, Packs, putRow, rowFits}
+use Rattle.rows.specs.RowLaws.{put-length, fits-packs}
 use Rattle.token.specs.declared.Token.{Token}
-use Rattle.token.specs.declared.rows.Row.{Row}
+use Rattle.rows.specs.declared.Row.{Row}
 use Rattle.state.specs.Lexer.{reachOf, plainToken}
 use Rattle.state.specs.State.{stateOf, changedBy}
 use Rattle.state.specs.Stack.{Agrees}

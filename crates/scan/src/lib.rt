@@ -12,7 +12,7 @@ ghost use Rattle.base.specs.Pick.{pick};
 ghost use Rattle.base.specs.Refusal.{sourceMost};
 ghost use Rattle.property.specs.Table.{propertiesAt};
 ghost use Rattle.fitness.specs.FitLaws.{FitTable};
-ghost use Rattle.token.specs.Row.{room};
+ghost use Rattle.rows.specs.Row.{room};
 ghost use Rattle.state.specs.Lexer.{reachOf};
 ghost use Rattle.lexer.specs.Invariant.{Ok};
 ghost use Rattle.reading.specs.Reading.{rowOf};
@@ -21,13 +21,12 @@ ghost use Rattle.reading.specs.Reading.{deep, stuckReading};
 use lexer::What;
 use lexer::read_half;
 use reading::Scanned;
+use rows::Row;
 use state::Change;
 use state::Lexer;
 use state::State;
 use token::Token;
 use token::kinds;
-use token::rows;
-use token::rows::Row;
 use token::token_of;
 
 // Sources over this many bytes are refused.

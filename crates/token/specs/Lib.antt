@@ -1,6 +1,4 @@
 pub mod Kind
 pub mod Detail
-pub mod DetailLaws
 pub mod Token
-pub mod Row
-pub mod RowLaws
+pub mod DetailLaws

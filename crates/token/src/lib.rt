@@ -1,8 +1,5 @@
-// Tokens as lexer.rs's `Token` has them, and the records of document 01 that show them.
-//
-// A token is a kind (see `kinds`) and a detail, which is 0 but for a StringStart, where it says which `StringType` begins. This crate
-// alone knows a record's words, where record i stands in a list, and how many records have room (see `rows`). It knows no source, no
-// state and no scan.
+// Tokens as lexer.rs's `Token` has them: a kind (see `kinds`) and a detail, which is 0 but for a StringStart, where it says which `StringType`
+// begins. It knows no records, no source and no state.
 ghost use mathlib.Core.Path.{_≡_};
 ghost use Rattle.token.specs.Token.{tokenOf, stringStartOf, rawStringStartOf, isWhitespace, isWhitespaceIncludingNewline};
 ghost use Rattle.token.specs.Detail.{detailAllowed};
@@ -13,7 +10,6 @@ use crate::kinds::STRING_START;
 use crate::kinds::WHITESPACE;
 
 pub mod kinds;
-pub mod rows;
 
 // The greatest detail of a StringStart: a raw string in single quotes with 255 hashes.
 pub const DETAIL_MOST: u32 = 513;

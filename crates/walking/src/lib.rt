@@ -13,7 +13,7 @@ use lookahead::Peeked;
 use lookahead::Status;
 use lookahead::answer;
 use reading::Scanned;
-use token::rows::Row;
+use rows::Row;
 ghost use mathlib.Core.Path.{_≡_};
 ghost use lib.ListN.{length, replicate};
 ghost use Rattle.lookahead.specs.Cursor.{startCursor};

@@ -4,7 +4,7 @@ use mathlib.Core.Path.{_≡_, sym, ap, _∙_}
 use mathlib.Core.Bool.{true}
 use denote.Ref.{now}
 use borrow.Author.Tests.{not-true, not-false}
-use Rattle.token.specs.Row.{room}
+use Rattle.rows.specs.Row.{room}
 use Rattle.lookahead.specs.Cursor.{isFit}
 use Rattle.lookahead.specs.CursorLaws.{fits-of}
 use Rattle.lookahead.specs.Peek.{mustQueue, queuedOne, queuedAt, peekOf}

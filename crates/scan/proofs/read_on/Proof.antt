@@ -8,7 +8,7 @@ use Rattle.lexer.specs.Invariant.{measure}
 use Rattle.lexer.specs.declared.Half.{Half}
 use Rattle.lexer.specs.declared.What.{What}
 use Rattle.token.specs.declared.Token.{Token}
-use Rattle.token.specs.declared.rows.Row.{Row}
+use Rattle.rows.specs.declared.Row.{Row}
 use Rattle.reading.specs.Reading.{rowOf}
 use Rattle.scan.proofs.Going.{Going, begins, from-start, at-end, at-modes, at-full, at-stuck, keeps-is, changes-is, bounds, packs, falls, again}
 use Rattle.scan.proofs.read_on.Statement.{statement}

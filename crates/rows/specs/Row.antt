@@ -6,10 +6,10 @@ use mathlib.Core.List.{List, [], _∷_, _++_}
 use Prim.Native.Nat.{ℕ, zero, suc, _+_, _*_, _/_, _%_, _<_}
 use lib.ListN.{length, getD, take, drop}
 use Rattle.base.specs.Pick.{pick}
 use Rattle.token.specs.Detail.{fits}
-use Rattle.token.specs.declared.rows.Row.{Row}
-use Rattle.token.specs.declared.rows.RowAt.{RowAt}
-use Rattle.token.specs.declared.rows.RowAt.the-variants.{Fit, Unfit}
+use Rattle.rows.specs.declared.Row.{Row}
+use Rattle.rows.specs.declared.RowAt.{RowAt}
+use Rattle.rows.specs.declared.RowAt.the-variants.{Fit, Unfit}
 
 -- how many numbers a record has
 abbrev pub rowWords : ℕ

@@ -1,11 +1,12 @@
 // Records (document 01, "Records"): eight numbers of 32 bits, one record after the other from the start of a lent list.
 //
-// The other crates know `Row`, a record with named fields; which number of the list holds what is known here alone.
+// The other crates know `Row`, a record with named fields; which number of the list holds what, where record i stands in a list, and how many
+// records have room are known here alone. It knows no source, no state and no scan.
 ghost use mathlib.Core.Path.{_≡_};
 ghost use Prim.Native.Nat.{_*_, _<_};
-ghost use Rattle.token.specs.Row.{room, Packs, putRow, rowFrom, shownAt};
-use crate::detail_allowed;
-use crate::kinds::KIND_MOST;
+ghost use Rattle.rows.specs.Row.{room, Packs, putRow, rowFrom, shownAt};
+use token::detail_allowed;
+use token::kinds::KIND_MOST;
 
 // What a record tells of its token.
 pub struct Row {

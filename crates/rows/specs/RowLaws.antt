@@ -22,12 +22,12 @@ use borrow.Author.Tests.{leb-true}
 use lib.ListN.{length, getD, take, drop, length-append, length-drop, List·getD-append}
 use lib.Seq.{length-take-le, drop-cons, drop-nil, drop-append-add, drop-append-le, take-at, drop-at, drop-drop, getD-drop, getD-take, ext-getD, sets, sets-eq, length-paste}
 use Rattle.base.specs.PickLaws.{split-lt}
 use Rattle.token.specs.Kind.{kindMost}
 use Rattle.token.specs.Detail.{detailAllowed}
 use Rattle.token.specs.DetailLaws.{allowed-most}
-use Rattle.token.specs.Row.{rowWords, kindRoom, room, wordsOf, Packs, rowFrom, rowOf, rowAt, putRow, wordsOfAll, putRows, putRowsAt, rowsOf, rowFits, shownAt}
-use Rattle.token.specs.declared.rows.Row.{Row}
-use Rattle.token.specs.declared.rows.RowAt.the-variants.{Fit}
+use Rattle.rows.specs.Row.{rowWords, kindRoom, room, wordsOf, Packs, rowFrom, rowOf, rowAt, putRow, wordsOfAll, putRows, putRowsAt, rowsOf, rowFits, shownAt}
+use Rattle.rows.specs.declared.Row.{Row}
+use Rattle.rows.specs.declared.RowAt.the-variants.{Fit}
 
 -- records read from equal numbers are equal
 from-agree : (a b : List ℕ) (m n : ℕ) → ((k : ℕ) → k < 8 → getD a (m + k) 0 ≡ getD b (n + k) 0) → rowFrom a m ≡ rowFrom b n

@@ -1,16 +1,16 @@
--- `token::rows::row_at` meets its contract: what `read_row` answers is record i, and the two tests are those of `rowFits`. Assumes nothing.
+-- `rows::row_at` meets its contract: what `read_row` answers is record i, and the two tests are those of `rowFits`. Assumes nothing.
 use mathlib.Core.Path.{_≡_, sym}
 use mathlib.Core.List.{List}
 use Prim.Native.Nat.{ℕ, _*_}
 use borrow.Author.Needs.{needs}
 use Rattle.base.specs.Cases.{cases}
 use Rattle.base.specs.Pick.{pick}
-use Rattle.token.specs.Row.{rowWords, rowFrom, rowAt, rowFits, shownAt}
-use Rattle.token.specs.declared.rows.Row.{Row}
-use Rattle.token.specs.declared.rows.RowAt.{RowAt}
-use Rattle.token.specs.declared.rows.RowAt.the-variants.{Fit, Unfit}
-use Rattle.token.proofs.rows.row_at.Statement.{statement}
-use Rattle.token.proofs.rows.row_at.Tie as tie
+use Rattle.rows.specs.Row.{rowWords, rowFrom, rowAt, rowFits, shownAt}
+use Rattle.rows.specs.declared.Row.{Row}
+use Rattle.rows.specs.declared.RowAt.{RowAt}
+use Rattle.rows.specs.declared.RowAt.the-variants.{Fit, Unfit}
+use Rattle.rows.proofs.row_at.Statement.{statement}
+use Rattle.rows.proofs.row_at.Tie as tie
 
 -- what is answered of record i, by the row that was read
 shown : (l : List ℕ) (i : ℕ) {row : Row} {v : RowAt} → row ≡ rowFrom l (rowWords * i) → v ≡ pick (rowFits row) (Fit row) Unfit → v ≡ shownAt l i

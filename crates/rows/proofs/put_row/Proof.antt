@@ -1,11 +1,11 @@
--- `token::rows::put_row` meets its contract: eight stores in a row are `putRow`. Assumes nothing.
+-- `rows::put_row` meets its contract: eight stores in a row are `putRow`. Assumes nothing.
 use native.Mathlib.Omega.{arith}
 use native.Mathlib.Numerals.{add-one, add-two, add-three, add-four, add-five, add-six, add-seven}
 use borrow.Author.Needs.{needs}
 use lib.ListN.{length-set}
-use Rattle.token.specs.RowLaws.{put-by-stores}
-use Rattle.token.proofs.rows.put_row.Statement.{statement}
-use Rattle.token.proofs.rows.put_row.Tie as tie
+use Rattle.rows.specs.RowLaws.{put-by-stores}
+use Rattle.rows.proofs.put_row.Statement.{statement}
+use Rattle.rows.proofs.put_row.Tie as tie
 
 mul-at : tie.Need-mul-at
 mul-at c = search needs
