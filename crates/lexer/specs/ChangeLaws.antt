@@ -13,9 +13,11 @@ use Rattle.position.specs.declared.Reach.{Reach}
 use Rattle.utf8.specs.Encode.{encodeAll}
 use Rattle.property.specs.Parts.{xidStart}
 use Rattle.token.specs.Kind.{id, dot, colon, curlyOpen, curlyClose}
-use Rattle.words.specs.Words.{isWord, startsWith, keywordOf, symbolOf, elseWord, elseIfWord, rWord}
-use Rattle.words.specs.declared.symbols.SymbolAt.{SymbolAt}
-use Rattle.words.specs.declared.symbols.SymbolAt.the-variants as symbol
+use Rattle.words.specs.Words.{isWord, startsWith, elseWord, elseIfWord, rWord}
+use Rattle.keywords.specs.Keywords.{keywordOf}
+use Rattle.symbols.specs.Symbols.{symbolOf}
+use Rattle.symbols.specs.declared.SymbolAt.{SymbolAt}
+use Rattle.symbols.specs.declared.SymbolAt.the-variants as symbol
 use Rattle.text.specs.Tests.{cr, lf, minus, isWhitespace, isLineEnd, isDigit}
 use Rattle.text.specs.Stands.{Stands, charsFrom}
 use Rattle.text.specs.Follow.{nextIs, Followed, Closed, Open, Stopped, follow, dropBytes}

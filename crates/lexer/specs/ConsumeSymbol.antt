@@ -7,9 +7,9 @@ use lib.Dec.{eqb}
 use Rattle.base.specs.Pick.{pick}
 use Rattle.utf8.specs.Encode.{encodeAll}
 use Rattle.token.specs.Kind.{error, colon, curlyOpen, curlyClose}
-use Rattle.words.specs.Words.{symbolOf}
-use Rattle.words.specs.declared.symbols.SymbolAt.{SymbolAt}
-use Rattle.words.specs.declared.symbols.SymbolAt.the-variants.{Is, Nothing}
+use Rattle.symbols.specs.Symbols.{symbolOf}
+use Rattle.symbols.specs.declared.SymbolAt.{SymbolAt}
+use Rattle.symbols.specs.declared.SymbolAt.the-variants.{Is, Nothing}
 use Rattle.state.specs.Modes.{templateExpr, templateExprInlineMap, templateExprFormat, modeCode}
 use Rattle.state.specs.Lexer.{advancedLine, plainToken, tokenOf}
 use Rattle.state.specs.declared.Change.{Change}

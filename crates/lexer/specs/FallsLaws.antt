@@ -14,10 +14,12 @@ use Rattle.position.specs.declared.Reach.{Reach}
 use Rattle.utf8.specs.Encode.{encode, encodeAll}
 use Rattle.property.specs.Parts.{widthOf, xidStart}
 use Rattle.token.specs.Kind.{error, id, dot, colon, curlyOpen, curlyClose}
-use Rattle.words.specs.Words.{isWord, startsWith, keywordOf, symbolOf, elseWord, elseIfWord, rWord}
-use Rattle.words.specs.WordsLaws.{symbol-is}
-use Rattle.words.specs.declared.symbols.SymbolAt.{SymbolAt}
-use Rattle.words.specs.declared.symbols.SymbolAt.the-variants as symbol
+use Rattle.words.specs.Words.{isWord, startsWith, elseWord, elseIfWord, rWord}
+use Rattle.keywords.specs.Keywords.{keywordOf}
+use Rattle.symbols.specs.Symbols.{symbolOf}
+use Rattle.symbols.specs.SymbolsLaws.{symbol-is}
+use Rattle.symbols.specs.declared.SymbolAt.{SymbolAt}
+use Rattle.symbols.specs.declared.SymbolAt.the-variants as symbol
 use Rattle.text.specs.Tests.{cr, lf, minus, letterU, backslash, isWhitespace, isLineEnd, isDigit, testUtf8Of}
 use Rattle.text.specs.Count.{lenUtf8, countWhile, runUtf8, runTest}
 use Rattle.text.specs.Follow.{nextIs, Followed, Closed, Open, Stopped, followIn, follow, dropBytes}

@@ -21,10 +21,10 @@ use Rattle.utf8.specs.CharsLaws.{At, chars-well, ascii-byte}
 use Rattle.property.specs.Parts.{xidStart}
 use Rattle.property.specs.Table.{propertiesAt}
 use Rattle.fitness.specs.FitLaws.{FitTable}
-use Rattle.words.specs.Words.{symbolOf}
-use Rattle.words.specs.WordsLaws.{symbol-is}
-use Rattle.words.specs.declared.symbols.SymbolAt.{SymbolAt}
-use Rattle.words.specs.declared.symbols.SymbolAt.the-variants.{Is, Nothing}
+use Rattle.symbols.specs.Symbols.{symbolOf}
+use Rattle.symbols.specs.SymbolsLaws.{symbol-is}
+use Rattle.symbols.specs.declared.SymbolAt.{SymbolAt}
+use Rattle.symbols.specs.declared.SymbolAt.the-variants.{Is, Nothing}
 use Rattle.text.specs.Bytes.{byteAt}
 use Rattle.text.specs.Tests.{isWhitespace, isLineEnd, isDigit, testOf}
 use Rattle.text.specs.Stands.{Stands, charsFrom}

@@ -17,10 +17,13 @@ use Rattle.property.specs.Parts.{xidStart}
 use Rattle.token.specs.Kind.{error, id, dot, asKind, letKind}
 use Rattle.token.specs.Detail.{fits}
 use Rattle.token.specs.DetailLaws.{plain-fits, raw-fits}
-use Rattle.words.specs.Words.{isWord, startsWith, keywordOf, symbolOf, elseWord, elseIfWord, rWord}
-use Rattle.words.specs.WordsLaws.{symbol-is, keyword-kind}
-use Rattle.words.specs.declared.symbols.SymbolAt.{SymbolAt}
-use Rattle.words.specs.declared.symbols.SymbolAt.the-variants as symbol
+use Rattle.words.specs.Words.{isWord, startsWith, elseWord, elseIfWord, rWord}
+use Rattle.keywords.specs.Keywords.{keywordOf}
+use Rattle.symbols.specs.Symbols.{symbolOf}
+use Rattle.symbols.specs.SymbolsLaws.{symbol-is}
+use Rattle.keywords.specs.KeywordsLaws.{keyword-kind}
+use Rattle.symbols.specs.declared.SymbolAt.{SymbolAt}
+use Rattle.symbols.specs.declared.SymbolAt.the-variants as symbol
 use Rattle.text.specs.Tests.{cr, lf, minus, isWhitespace, isLineEnd, isDigit}
 use Rattle.text.specs.Follow.{nextIs, Followed, Closed, Open, Stopped, follow, dropBytes}
 use Rattle.state.specs.Modes.{literal, templateExprFormat, rawStart, rawEnd, tagOf, delimiterOf, quoteOf}

@@ -132,13 +132,13 @@ fn consume_symbol(source: &[u8], lexer: Lexer) -> Taken
     ensures { λ r. ⌜ r ≡ consumeSymbol (charsFrom (now (source .entry)) (reachOf lexer)) lexer ⌝ }
 {
     let at = lexer.place.current_byte.0;
-    match words::symbols::symbol(source, at) {
-        words::symbols::SymbolAt::Is { kind, len } => Taken {
+    match symbols::symbol(source, at) {
+        symbols::SymbolAt::Is { kind, len } => Taken {
             token: token_of(kind),
             lexer: lexer.advance_line(len),
             change: symbol_change(lexer.mode, kind),
         },
-        words::symbols::SymbolAt::Nothing => lexer.token(kinds::ERROR, 1),
+        symbols::SymbolAt::Nothing => lexer.token(kinds::ERROR, 1),
     }
 }
 

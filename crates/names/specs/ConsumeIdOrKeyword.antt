@@ -11,7 +11,8 @@ use Rattle.position.specs.Place.{alongBy}
 use Rattle.position.specs.declared.Reach.{Reach}
 use Rattle.utf8.specs.Encode.{encodeAll}
 use Rattle.token.specs.Kind.{id, dot, else, elseIf, underscore, stringStart}
-use Rattle.words.specs.Words.{isWord, startsWith, keywordOf, elseWord, elseIfWord, rWord}
+use Rattle.words.specs.Words.{isWord, startsWith, elseWord, elseIfWord, rWord}
+use Rattle.keywords.specs.Keywords.{keywordOf}
 use Rattle.text.specs.Tests.{doubleQuote, singleQuote, testOf}
 use Rattle.text.specs.Count.{lenUtf8, countWhile, runTest}
 use Rattle.text.specs.Follow.{nextIs}

@@ -27,7 +27,8 @@ use Rattle.utf8.specs.Chars.{chars}
 use Rattle.utf8.specs.Encode.{WellFormed}
 use Rattle.utf8.specs.CharsLaws.{At, chars-well, rest-at}
 use Rattle.token.specs.Kind.{id, dot, else, elseIf}
-use Rattle.words.specs.Words.{isWord, startsWith, keywordOf, elseWord, elseIfWord, rWord}
+use Rattle.words.specs.Words.{isWord, startsWith, elseWord, elseIfWord, rWord}
+use Rattle.keywords.specs.Keywords.{keywordOf}
 use Rattle.words.specs.WordsLaws.{starts-within}
 use Rattle.text.specs.Bytes.{byteAt}
 use Rattle.text.specs.Tests.{doubleQuote, singleQuote, testOf, testUtf8Of}

@@ -14,7 +14,8 @@ use Rattle.base.specs.PickLaws.{by-test, by-eq}
 use Rattle.position.specs.Place.{alongBy}
 use Rattle.position.specs.declared.Reach.{Reach}
 use Rattle.utf8.specs.Chars.{chars}
-use Rattle.words.specs.Words.{isWord, startsWith, keywordOf, elseWord, elseIfWord, rWord}
+use Rattle.words.specs.Words.{isWord, startsWith, elseWord, elseIfWord, rWord}
+use Rattle.keywords.specs.Keywords.{keywordOf}
 use Rattle.token.specs.Kind.{id, dot}
 use Rattle.words.specs.WordsLaws.{ascii}
 use Rattle.text.specs.Bytes.{byteAt}

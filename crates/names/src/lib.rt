@@ -224,7 +224,7 @@ fn keyword_or_id(source: &[u8], lexer: Lexer, end: Reach) -> Taken
     let reach = lexer.reach();
     let at = reach.byte.0;
     let len = end.byte.0 - at;
-    let kind = words::keywords::keyword(source, at, len);
+    let kind = keywords::keyword(source, at, len);
     if kind == kinds::ID {
         return lexer.token_to(kinds::ID, end);
     }

@@ -13,7 +13,9 @@ use Rattle.property.specs.Table.{lastFrom}
 use Rattle.cluster.specs.First.{goOn}
 use Rattle.uax29.specs.Uax29.{isControl, gb3, gb6, gb7, gb8, gb9, gb9c, gb11, gb12}
 use Rattle.uax29.specs.Uax29.{pairRule, endsPict, endsPictZwj, endsOdd, endsConsonant, endsLinked}
-use Rattle.words.specs.Words.{isWord, startsWith, firstIn, keywordOf, symbolIn, symbolOf}
+use Rattle.words.specs.Words.{isWord, startsWith, firstIn}
+use Rattle.keywords.specs.Keywords.{keywordOf}
+use Rattle.symbols.specs.Symbols.{symbolIn, symbolOf}
 use Rattle.text.specs.Ascii.{asciiProperties}
 use Rattle.text.specs.Count.{bytesOf, countWhile, runUtf8}
 use Rattle.text.specs.Follow.{nextIs, dropBytes, followIn, turnAt}

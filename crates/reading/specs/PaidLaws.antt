@@ -20,10 +20,12 @@ use Rattle.property.specs.Parts.{xidStart}
 use Rattle.property.specs.Table.{propertiesAt}
 use Rattle.fitness.specs.FitLaws.{FitTable}
 use Rattle.token.specs.Kind as kind
-use Rattle.words.specs.Words.{isWord, startsWith, keywordOf, symbolOf, elseWord, elseIfWord, rWord}
-use Rattle.words.specs.WordsLaws.{symbol-is, curly-close-is}
-use Rattle.words.specs.declared.symbols.SymbolAt.{SymbolAt}
-use Rattle.words.specs.declared.symbols.SymbolAt.the-variants as symbol
+use Rattle.words.specs.Words.{isWord, startsWith, elseWord, elseIfWord, rWord}
+use Rattle.keywords.specs.Keywords.{keywordOf}
+use Rattle.symbols.specs.Symbols.{symbolOf}
+use Rattle.symbols.specs.SymbolsLaws.{symbol-is, curly-close-is}
+use Rattle.symbols.specs.declared.SymbolAt.{SymbolAt}
+use Rattle.symbols.specs.declared.SymbolAt.the-variants as symbol
 use Rattle.text.specs.Bytes.{byteAt}
 use Rattle.text.specs.Tests.{cr, lf, minus, curlyClose, isWhitespace, isLineEnd, isDigit}
 use Rattle.text.specs.Stands.{Stands, charsFrom}

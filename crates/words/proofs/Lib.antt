@@ -1,3 +1,1 @@
 pub mod Compare
-pub mod Chain
-pub mod Narrow

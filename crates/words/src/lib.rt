@@ -1,16 +1,13 @@
-// Keywords, "else if" and symbols: fixed byte strings, compared with the bytes of a source (lexer.rs `check_keyword!`, `check_symbol!`).
+// Words as fixed byte strings, compared with the bytes of a source, and those that names are compared with one by one: "else", "else if", "r".
+// Keywords and symbols are the crates `keywords` and `symbols`.
 //
-// A caller learns which word stands at a place, or that none does; how the words are compared is this crate's own affair. It knows no
-// characters, no state and no records. A place past the end is no fault: no bytes are there.
+// It knows no characters, no state and no records. A place past the end is no fault: no bytes are there.
 ghost use mathlib.Core.Path.{_≡_};
 ghost use lib.ListN.{length, take, drop};
 ghost use Rattle.words.specs.Words.{isWord, startsWith, elseWord, elseIfWord, rWord};
 
-pub mod keywords;
-pub mod symbols;
-
 // How many of `len` bytes at `at` there are before the source ends.
-fn within(source: &[u8], at: usize, len: usize) -> usize
+pub fn within(source: &[u8], at: usize, len: usize) -> usize
     ensures { λ r. ⌜ r ≡ length (take len (drop at (now (source .entry)))) ⌝ }
 {
     if source.len() <= at {

@@ -6,8 +6,8 @@ use lib.ListN.{drop}
 use denote.Ref.{now}
 use Rattle.utf8.specs.Encode.{encodeAll}
 use Rattle.utf8.specs.CharsLaws.{chars-well}
-use Rattle.words.specs.Words.{symbolOf}
-use Rattle.words.specs.WordsLaws.{symbol-is}
+use Rattle.symbols.specs.Symbols.{symbolOf}
+use Rattle.symbols.specs.SymbolsLaws.{symbol-is}
 use Rattle.text.specs.Stands.{charsFrom}
 use Rattle.state.specs.Lexer.{reachOf}
 use Rattle.lexer.proofs.consume_symbol.Statement.{statement}

@@ -1,0 +1,3 @@
+pub mod Keywords
+pub mod Groups
+pub mod KeywordsLaws
