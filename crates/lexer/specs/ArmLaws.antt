@@ -35,8 +35,8 @@ use Rattle.state.specs.declared.Change.the-variants.{Keep, Push, Pop, Replace}
 use Rattle.state.specs.declared.Lexer.{Lexer}
 use Rattle.state.specs.declared.State.{State}
 use Rattle.state.specs.declared.Taken.{Taken}
-use Rattle.strings.specs.ConsumeNewline.{consumeNewline}
-use Rattle.strings.specs.ConsumeComment.{consumeComment}
+use Rattle.newlines.specs.ConsumeNewline.{consumeNewline}
+use Rattle.comments.specs.ConsumeComment.{consumeComment}
 use Rattle.strings.specs.ConsumeStringLiteral.{consumeStringLiteral}
 use Rattle.strings.specs.ConsumeRawString.{consumeRawStringContents, consumeRawStringEnd}
 use Rattle.options.specs.ConsumeFormatOptions.{consumeFormatOptions}

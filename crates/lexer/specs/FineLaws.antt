@@ -35,7 +35,9 @@ use Rattle.state.specs.Lexer.{reachOf}
 use Rattle.state.specs.declared.Lexer.{Lexer}
 use Rattle.state.specs.declared.Taken.{Taken}
 use Rattle.strings.specs.Delimited.{Delimited}
-use Rattle.strings.specs.StandsLaws.{Steps, newline-steps, comment-steps, literal-steps, contents-steps, end-steps}
+use Rattle.newlines.specs.StandsLaws.{Steps, newline-steps}
+use Rattle.comments.specs.StandsLaws.{comment-steps}
+use Rattle.strings.specs.StandsLaws.{literal-steps, contents-steps, end-steps}
 use Rattle.options.specs.StandsLaws.{options-stands}
 use Rattle.names.specs.Places.{PlaceIn, GoesOn}
 use Rattle.names.specs.PlaceLaws.{place-of, next-place}

@@ -221,13 +221,13 @@ fn in_code(source: &[u8], table: &[u32], lexer: Lexer) -> Taken
         return names::consume_whitespace(source, lexer);
     }
     if b == LF {
-        return strings::consume_newline(source, lexer);
+        return newlines::consume_newline(source, lexer);
     }
     if b == CR {
-        return strings::consume_newline(source, lexer);
+        return newlines::consume_newline(source, lexer);
     }
     if b == HASH {
-        return strings::consume_comment(source, table, lexer);
+        return comments::consume_comment(source, table, lexer);
     }
     if b == DOUBLE_QUOTE {
         return start_string(lexer, 0);

@@ -21,11 +21,11 @@ use Rattle.text.specs.Count.{bytesOf, countWhile, runUtf8}
 use Rattle.text.specs.Follow.{nextIs, dropBytes, followIn, turnAt}
 use Rattle.text.specs.Tests.{isWhitespace, isBinaryDigit, isOctalDigit, isDecimalDigit, isHexDigit, isLineEnd, testOf, testUtf8}
 use Rattle.state.specs.Stack.{top, rest, codesOf}
-use Rattle.strings.specs.ConsumeComment.{commentTurn, consumeCommentMulti, consumeComment}
-use Rattle.strings.specs.ConsumeNewline.{lineFeed, consumeNewline}
+use Rattle.comments.specs.ConsumeComment.{commentTurn, consumeCommentMulti, consumeComment}
+use Rattle.newlines.specs.ConsumeNewline.{lineFeed, consumeNewline}
 use Rattle.strings.specs.ConsumeRawString.{hashes, quoteTurn, rawTurn, consumeRawStringContents}
 use Rattle.strings.specs.ConsumeStringLiteral.{escapeTurn, literalTurn, consumeStringLiteral}
-use Rattle.strings.specs.PlainTurn.{plainTurn}
+use Rattle.newlines.specs.PlainTurn.{plainTurn}
 use Rattle.options.specs.ConsumeFormatOptions.{isAligned, skipBytes, findBrace, consumeFormatOptions}
 use Rattle.names.specs.ConsumeIdOrKeyword.{nameEnd, parseRawStringStart, keywordOrId, rawOrName, nameToken}
 use Rattle.names.specs.ConsumeNumber.{nextPasses, exponentBytes, isFraction, fractionBytes, tailBytes, zeroBytes, numberBytes}

@@ -24,12 +24,12 @@ use Rattle.text.specs.FollowLaws.{byte-within}
 use Rattle.text.specs.declared.Turn.{Turn}
 use Rattle.text.specs.declared.Turn.the-variants.{Pass, Close}
 use Rattle.state.specs.Modes.{quoteOf, hashCountOf}
-use Rattle.strings.specs.PlainTurn.{plainTurn}
+use Rattle.newlines.specs.PlainTurn.{plainTurn}
 use Rattle.strings.specs.ConsumeRawString.{hashes, quoteTurn, rawTurn}
 use Rattle.strings.specs.TurnLaws.{quote-ascii, raw-at}
 use Rattle.strings.specs.HashLaws.{hash-more, hash-none, hash-zero}
 use Rattle.strings.specs.SafeLaws.{raw-safe}
-use Rattle.strings.proofs.Loops.{going-well, Turns}
+use Rattle.newlines.proofs.Loops.{going-well, Turns}
 
 -- k hashes were seen after the quote at i, of at most so many
 pub record Counting (s : List ℕ) (most i k : ℕ) : Type 0 where

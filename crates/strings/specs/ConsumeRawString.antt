@@ -17,7 +17,7 @@ use Rattle.state.specs.Lexer.{reachOf, advancedLine, advancedTo, plainToken, st
 use Rattle.state.specs.declared.Change.the-variants.{Pop, Replace}
 use Rattle.state.specs.declared.Lexer.{Lexer}
 use Rattle.state.specs.declared.Taken.{Taken}
-use Rattle.strings.specs.PlainTurn.{plainTurn}
+use Rattle.newlines.specs.PlainTurn.{plainTurn}
 
 -- how many hashes stand first, of at most so many
 unfoldable pub hashes : ℕ → List ℕ → ℕ

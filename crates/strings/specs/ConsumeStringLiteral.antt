@@ -14,7 +14,7 @@ use Rattle.text.specs.declared.Turn.the-variants.{Pass, Close}
 use Rattle.state.specs.Lexer.{reachOf, tokenTo, stuckAt}
 use Rattle.state.specs.declared.Lexer.{Lexer}
 use Rattle.state.specs.declared.Taken.{Taken}
-use Rattle.strings.specs.PlainTurn.{plainTurn}
+use Rattle.newlines.specs.PlainTurn.{plainTurn}
 
 -- after a backslash: how many characters are passed, of which rest follow the backslash
 unfoldable pub escapeTurn : ℕ → List ℕ → Turn

@@ -23,10 +23,11 @@ use Rattle.state.specs.Lexer.{reachOf}
 use Rattle.state.specs.declared.Change.the-variants.{Keep, Push, Pop, Replace}
 use Rattle.state.specs.declared.Lexer.{Lexer}
 use Rattle.state.specs.declared.Taken.{Taken}
-use Rattle.strings.specs.PlainTurn.{plainTurn}
+use Rattle.newlines.specs.PlainTurn.{plainTurn}
 use Rattle.strings.specs.ConsumeRawString.{hashes, quoteTurn, rawTurn, rawToken, consumeRawStringContents}
 use Rattle.strings.specs.Delimited.{Hashes, Delimited}
-use Rattle.strings.specs.TurnLaws.{quote-ascii, plain-at, raw-at}
+use Rattle.strings.specs.TurnLaws.{quote-ascii, raw-at}
+use Rattle.newlines.specs.TurnLaws.{plain-at}
 use Rattle.strings.specs.HashLaws.{counted}
 use Rattle.strings.specs.SafeLaws.{raw-safe}
 

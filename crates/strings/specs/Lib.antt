@@ -1,6 +1,3 @@
-pub mod ConsumeNewline
-pub mod PlainTurn
-pub mod ConsumeComment
 pub mod ConsumeStringLiteral
 pub mod ConsumeRawString
 pub mod Delimited

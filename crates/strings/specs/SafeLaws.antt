@@ -1,62 +1,33 @@
 -- Every turn stays within the source: what it passes are whole characters of it, with no more columns than their bytes allow.
---     plain-safe, comment-safe, literal-safe, raw-safe     what `FollowLaws` asks of a loop's turn
+--     literal-safe, raw-safe     what `FollowLaws` asks of a loop's turn
 -- Assumes nothing.
 use Prim.Native.Nat.{ℕ, _+_, _<_}
 use native.Mathlib.Omega.{arith}
 use mathlib.Core.Path.{_≡_, sym, subst}
-use mathlib.Core.Bool.{true}
 use mathlib.Core.List.{List}
 use lib.ListN.{length, drop}
-use borrow.Author.Tests.{eqb-true}
-use Rattle.base.specs.PickLaws.{by-test, by-eq}
+use Rattle.base.specs.PickLaws.{by-eq}
 use Rattle.utf8.specs.Encode.{WellFormed}
 use Rattle.utf8.specs.Chars.{chars}
-use Rattle.property.specs.Table.{propertiesAt}
-use Rattle.fitness.specs.FitLaws.{FitTable}
 use Rattle.text.specs.Bytes.{byteAt}
-use Rattle.text.specs.Tests.{cr, lf, hash, minus, backslash, letterU, curlyOpen}
-use Rattle.text.specs.CountLaws.{width-most}
+use Rattle.text.specs.Tests.{backslash, letterU, curlyOpen}
 use Rattle.text.specs.Follow.{turnAt}
-use Rattle.text.specs.Stands.{Passes, Within, Safe}
-use Rattle.text.specs.FollowLaws.{here, one-char, one-more, one-ascii, no-char, lands}
+use Rattle.text.specs.Stands.{Within, Safe}
+use Rattle.text.specs.FollowLaws.{one-more, one-ascii, no-char}
 use Rattle.text.specs.declared.Turn.the-variants.{Pass, Close}
 use Rattle.state.specs.Modes.{quoteOf, hashCountOf}
-use Rattle.strings.specs.PlainTurn.{plainTurn}
-use Rattle.strings.specs.ConsumeComment.{commentTurn}
+use Rattle.newlines.specs.PlainTurn.{plainTurn}
 use Rattle.strings.specs.ConsumeStringLiteral.{escapeTurn, literalTurn}
 use Rattle.strings.specs.ConsumeRawString.{hashes, quoteTurn, rawTurn}
-use Rattle.strings.specs.TurnLaws.{isPair, both, quote-ascii, len-one, plain-at, comment-at, escape-at, literal-at, raw-at}
+use Rattle.newlines.specs.SafeLaws.{plain-safe, two}
+use Rattle.strings.specs.TurnLaws.{quote-ascii, escape-at, literal-at, raw-at}
 use Rattle.strings.specs.HashLaws.{counted, pass-hashes}
 
-pub plain-safe : (look : ℕ → ℕ) (s : List ℕ) → Safe (plainTurn look) s
-plain-safe look s i h w =
-    let c = here s i w h in
-    let p = one-char s i (c .code) (c .len) (c .at) (c .well) in
-    let one : c .code < 128 → Passes s i 1 = λ k. subst (Passes s i) (len-one (c .at) k) p in
-    subst (Within s i) (sym (plain-at look s i (c .code) (c .len) (c .at) (c .well)))
-    (by-eq (Within s i) (c .code) cr
-    (λ e. by-eq (Within s i) (byteAt s (i + 1)) lf (λ f. one-more s i 1 lf (one (omega arith)) f (omega arith)) (λ _. tt))
-    (λ _. by-eq (Within s i) (c .code) lf (λ e. one (omega arith)) (λ _. (p, omega (arith, width-most (look (c .code)), p .some)))))
-
 module _ (s : List ℕ) (i : ℕ) (h : i < length s) (w : WellFormed (drop i s)) where
-  -- two ASCII characters
-  two : (d e : ℕ) → byteAt s i ≡ d → d < 128 → byteAt s (i + 1) ≡ e → e < 128 → Passes s i 2
-  two d e f k g l = one-more s i 1 e (one-ascii s i d w f k) g l
-
-  pair : (d e : ℕ) → d < 128 → e < 128 → isPair s i d e ≡ true → Passes s i 2
-  pair d e k l t = let b = both _ _ t in two d e (eqb-true _ _ (b .0)) k (eqb-true _ _ (b .1)) l
-
-  comment-within : (table : List ℕ) → FitTable table → Within s i (turnAt (commentTurn (propertiesAt table)) (chars (drop i s)))
-  comment-within table fit =
-      subst (Within s i) (sym (comment-at s i w h table fit))
-      (by-test (Within s i) (isPair s i hash minus) (λ e. (pair hash minus (omega arith) (omega arith) e, omega arith))
-      (λ _. by-test (Within s i) (isPair s i minus hash) (λ e. (lands (pair minus hash (omega arith) (omega arith) e), omega arith))
-      (λ _. plain-safe (propertiesAt table) s i h w)))
-
   escape-within : (quote : ℕ) → quote < 128 → byteAt s i ≡ backslash → Within s i (escapeTurn quote (chars (drop (i + 1) s)))
   escape-within quote q b =
       let p = one-ascii s i backslash w b (omega arith) in
-      let skipped : (d : ℕ) → d < 128 → byteAt s (i + 1) ≡ d → Within s i (Pass 2 2) = λ d k e. (two backslash d b (omega arith) e k, omega arith) in
+      let skipped : (d : ℕ) → d < 128 → byteAt s (i + 1) ≡ d → Within s i (Pass 2 2) = λ d k e. (two s i h w backslash d b (omega arith) e k, omega arith) in
       subst (Within s i) (sym (escape-at s i quote (p .well) q))
       (by-eq (Within s i) (byteAt s (i + 1)) letterU
       (λ e. by-eq (Within s i) (byteAt s (i + 2)) curlyOpen
@@ -89,9 +60,6 @@ module _ (s : List ℕ) (i : ℕ) (h : i < length s) (w : WellFormed (drop i s))
   raw-within look delimiter =
       subst (Within s i) (sym (raw-at s i w h look delimiter))
       (by-eq (Within s i) (byteAt s i) (quoteOf delimiter) (quote-within delimiter) (λ _. plain-safe look s i h w))
-
-pub comment-safe : (table s : List ℕ) → FitTable table → Safe (commentTurn (propertiesAt table)) s
-comment-safe table s fit i h w = comment-within s i h w table fit
 
 pub literal-safe : (look : ℕ → ℕ) (quote : ℕ) (s : List ℕ) → quote < 128 → Safe (literalTurn look quote) s
 literal-safe look quote s q i h w = literal-within s i h w look quote q

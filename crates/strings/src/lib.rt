@@ -1,27 +1,26 @@
-// Newlines, comments, string literals and raw strings (lexer.rs `consume_newline`, `consume_comment`, `consume_string_literal`,
-// `consume_raw_string_contents`, `consume_raw_string_end`). What a loop does at a character is a turn, a function with no loop, and the
-// loop follows the turns. It knows no list and no records.
+// String literals and raw strings (lexer.rs `consume_string_literal`, `consume_raw_string_contents`, `consume_raw_string_end`). What a loop does
+// at a character is a turn, a function with no loop, and the loop follows the turns. It knows no comments, no list and no records.
 ghost use mathlib.Core.Path.{_≡_};
 ghost use Prim.Native.Nat.{_+_, _≤_, _<_};
 ghost use lib.ListN.{length, drop};
 ghost use Rattle.base.specs.Refusal.{sourceMost};
 ghost use Rattle.position.specs.Position.{columnMost};
-ghost use Rattle.position.specs.Place.{alongBy};
 ghost use Rattle.utf8.specs.Encode.{WellFormed};
 ghost use Rattle.utf8.specs.Chars.{chars};
 ghost use Rattle.property.specs.Table.{propertiesAt};
 ghost use Rattle.fitness.specs.FitLaws.{FitTable};
-ghost use Rattle.fitness.specs.Ascii.{isPrintable};
-ghost use Rattle.text.specs.Bytes.{byteAt};
 ghost use Rattle.text.specs.Follow.{turnAt};
 ghost use Rattle.text.specs.Stands.{Stands, charsFrom};
 ghost use Rattle.state.specs.Lexer.{reachOf};
-ghost use Rattle.strings.specs.ConsumeNewline.{consumeNewline};
-ghost use Rattle.strings.specs.PlainTurn.{plainTurn};
-ghost use Rattle.strings.specs.ConsumeComment.{commentTurn, consumeCommentMulti, consumeComment};
 ghost use Rattle.strings.specs.ConsumeStringLiteral.{escapeTurn, literalTurn, consumeStringLiteral};
 ghost use Rattle.strings.specs.ConsumeRawString.{rawClosed, consumeRawStringContents, consumeRawStringEnd};
-use base::code_between;
+use base::chars::BACKSLASH;
+use base::chars::CURLY_OPEN;
+use base::chars::HASH;
+use base::chars::LETTER_U;
+use newlines::char_turn;
+use newlines::is_printable;
+use newlines::plain_turn;
 use position::Reach;
 use state::Change;
 use state::Lexer;
@@ -30,150 +29,6 @@ use text::Turn;
 use text::byte_at;
 use token::kinds;
 
-const LF: u32 = 10;
-
-const CR: u32 = 13;
-
-const SPACE: u32 = 32;
-
-const HASH: u32 = 35;
-
-const MINUS: u32 = 45;
-
-const BACKSLASH: u32 = 92;
-
-const U: u32 = 117;
-
-const CURLY_OPEN: u32 = 123;
-
-const TILDE: u32 = 126;
-
-// lexer.rs `consume_newline`. A "\r" or a "\n" has been matched.
-pub fn consume_newline(source: &[u8], lexer: Lexer) -> Taken
-    requires { ⌜ Stands (now source) (reachOf lexer) ⌝ }
-    ensures { λ r. ⌜ r ≡ consumeNewline (charsFrom (now (source .entry)) (reachOf lexer)) lexer ⌝ }
-{
-    let reach = lexer.reach();
-    let at = reach.byte.0;
-    let b = byte_at(source, at);
-    if b == CR {
-        let after = byte_at(source, at + 1);
-        if after == LF {
-            return lexer.token_to(kinds::NEW_LINE, reach.next_line(2));
-        }
-        return lexer.stuck();
-    }
-    if b == LF {
-        return lexer.token_to(kinds::NEW_LINE, reach.next_line(1));
-    }
-    lexer.stuck()
-}
-
-// The arms that all loops have in common, for any character: only newlines count.
-fn char_turn(source: &[u8], table: &[u32], at: usize) -> Turn
-    requires { ⌜ WellFormed (drop at (now source)) × (at < length (now source)) ⌝ }
-    requires { ⌜ FitTable (now table) ⌝ }
-    ensures { λ r. ⌜ r ≡ turnAt (plainTurn (propertiesAt (now (table .entry)))) (chars (drop at (now (source .entry)))) ⌝ }
-{
-    let c = text::char_at(source, table, at);
-    let code = c.code;
-    if code == CR {
-        if byte_at(source, at + 1) == LF {
-            return Turn::Line(2);
-        }
-        return Turn::Stuck;
-    }
-    if code == LF {
-        return Turn::Line(1);
-    }
-    Turn::Pass(c.len, property::width_of(c.properties))
-}
-
-// A printable ASCII character: it has one byte and one column, so its properties need not be asked for.
-fn is_printable(b: u32) -> bool
-    ensures { λ r. ⌜ r ≡ isPrintable b ⌝ }
-{
-    code_between(b, SPACE, TILDE)
-}
-
-// The arms in common, at any character. Each loop tests for a printable one by itself, so that the test is part of the loop.
-fn plain_turn(source: &[u8], table: &[u32], at: usize) -> Turn
-    requires { ⌜ WellFormed (drop at (now source)) × (at < length (now source)) ⌝ }
-    requires { ⌜ FitTable (now table) ⌝ }
-    ensures { λ r. ⌜ r ≡ turnAt (plainTurn (propertiesAt (now (table .entry)))) (chars (drop at (now (source .entry)))) ⌝ }
-{
-    if is_printable(byte_at(source, at)) {
-        return Turn::Pass(1, 1);
-    }
-    char_turn(source, table, at)
-}
-
-// One turn in a multi-line comment: "#-" is passed over as a pair, and does not nest.
-fn comment_turn(source: &[u8], table: &[u32], at: usize) -> Turn
-    requires { ⌜ WellFormed (drop at (now source)) × (at < length (now source)) ⌝ }
-    requires { ⌜ FitTable (now table) ⌝ }
-    ensures { λ r. ⌜ r ≡ turnAt (commentTurn (propertiesAt (now (table .entry)))) (chars (drop at (now (source .entry)))) ⌝ }
-{
-    let b = byte_at(source, at);
-    if b == HASH {
-        if byte_at(source, at + 1) == MINUS {
-            return Turn::Pass(2, 2);
-        }
-    }
-    if b == MINUS {
-        if byte_at(source, at + 1) == HASH {
-            return Turn::Close(2, 2);
-        }
-    }
-    if is_printable(b) {
-        return Turn::Pass(1, 1);
-    }
-    char_turn(source, table, at)
-}
-
-// The multi-line comment. Its "#" is passed, and its "-" may also begin the close.
-fn consume_comment_multi(source: &[u8], table: &[u32], lexer: Lexer) -> Taken
-    requires { ⌜ Stands (now source) (alongBy 1 1 (reachOf lexer)) × FitTable (now table) ⌝ }
-    ensures { λ r. ⌜ r ≡ consumeCommentMulti (propertiesAt (now (table .entry))) (charsFrom (now (source .entry)) (alongBy 1 1 (reachOf lexer))) lexer ⌝ }
-{
-    let mut reach = lexer.reach().along_ascii(1);
-    let mut i = reach.byte.0;
-    while i < source.len() {
-        match comment_turn(source, table, i) {
-            Turn::Pass(bytes, columns) => {
-                reach = reach.along(bytes, columns);
-            }
-            Turn::Line(bytes) => {
-                reach = reach.next_line(bytes);
-            }
-            Turn::Close(bytes, columns) => {
-                return lexer.token_to(kinds::COMMENT_MULTI, reach.along(bytes, columns));
-            }
-            Turn::Stuck => {
-                return lexer.stuck();
-            }
-        }
-        i = reach.byte.0;
-    }
-    lexer.token_to(kinds::ERROR, reach)
-}
-
-// lexer.rs `consume_comment`. The `#` has been matched.
-pub fn consume_comment(source: &[u8], table: &[u32], lexer: Lexer) -> Taken
-    requires { ⌜ Stands (now source) (reachOf lexer) × FitTable (now table) ⌝ }
-    requires { ⌜ byteAt (now source) (reachOf lexer .byte .0) ≡ 35 ⌝ }
-    ensures { λ r. ⌜ r ≡ consumeComment (propertiesAt (now (table .entry))) (charsFrom (now (source .entry)) (reachOf lexer)) lexer ⌝ }
-{
-    let start = lexer.reach().along_ascii(1);
-    if byte_at(source, start.byte.0) == MINUS {
-        return consume_comment_multi(source, table, lexer);
-    }
-    lexer.token_to(
-        kinds::COMMENT_SINGLE,
-        text::run_utf8(source, table, start, text::NO_LINE_END),
-    )
-}
-
 // A backslash at `at`, and what it escapes: `\u{` covers its brace, which opens no template.
 fn escape_turn(source: &[u8], at: usize, quote: u32) -> Turn
     requires { ⌜ WellFormed (drop (at + 1) (now source)) × (at < length (now source)) ⌝ }
@@ -181,7 +36,7 @@ fn escape_turn(source: &[u8], at: usize, quote: u32) -> Turn
     ensures { λ r. ⌜ r ≡ escapeTurn quote (chars (drop (at + 1) (now (source .entry)))) ⌝ }
 {
     let c = byte_at(source, at + 1);
-    if c == U {
+    if c == LETTER_U {
         if byte_at(source, at + 2) == CURLY_OPEN {
             return Turn::Pass(3, 3);
         }

@@ -15,7 +15,7 @@ use Rattle.text.specs.declared.Turn.{Turn}
 use Rattle.text.specs.declared.Turn.the-variants.{Pass}
 use Rattle.state.specs.Lexer.{reachOf}
 use Rattle.strings.specs.ConsumeRawString.{rawTurn, rawToken, consumeRawStringContents}
-use Rattle.strings.proofs.Loops.{begun, going-well, Turns, passes-fit, passed, passes-fall, lines-fit, lined, lines-fall, closes-fit, closed, stopped}
+use Rattle.newlines.proofs.Loops.{begun, going-well, Turns, passes-fit, passed, passes-fall, lines-fit, lined, lines-fall, closes-fit, closed, stopped}
 use Rattle.strings.proofs.Counting.{AtQuote, begins-count, counts-more, short-turn, full-turn, other-turn, along-none}
 use Rattle.strings.proofs.consume_raw_string_contents.Statement.{statement}
 use Rattle.strings.proofs.consume_raw_string_contents.Tie as tie

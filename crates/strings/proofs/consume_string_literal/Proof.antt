@@ -11,7 +11,7 @@ use Rattle.text.specs.FollowLaws.{ends}
 use Rattle.state.specs.Lexer.{reachOf}
 use Rattle.strings.specs.ConsumeStringLiteral.{literalTurn, literalToken, consumeStringLiteral}
 use Rattle.strings.specs.SafeLaws.{literal-safe}
-use Rattle.strings.proofs.Loops.{begun, going-well, Turns, passes-fit, passed, passes-fall, lines-fit, lined, lines-fall, closes-fit, closed, stopped}
+use Rattle.newlines.proofs.Loops.{begun, going-well, Turns, passes-fit, passed, passes-fall, lines-fit, lined, lines-fall, closes-fit, closed, stopped}
 use Rattle.strings.proofs.consume_string_literal.Statement.{statement}
 use Rattle.strings.proofs.consume_string_literal.Tie as tie
 

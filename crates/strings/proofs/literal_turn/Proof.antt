@@ -6,7 +6,8 @@ use denote.Ref.{now}
 use Rattle.base.specs.Cases.{cases}
 use Rattle.text.specs.Tests.{backslash}
 use Rattle.text.specs.FollowLaws.{one-ascii}
-use Rattle.strings.specs.TurnLaws.{literal-at, printable-at}
+use Rattle.strings.specs.TurnLaws.{literal-at}
+use Rattle.newlines.specs.TurnLaws.{printable-at}
 use Rattle.strings.proofs.literal_turn.Statement.{statement}
 use Rattle.strings.proofs.literal_turn.Tie as tie
 

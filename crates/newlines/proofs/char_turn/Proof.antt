@@ -1,11 +1,11 @@
--- `strings::char_turn` meets its contract: it takes the tests of `plain-at` in their order. Assumes nothing.
+-- `newlines::char_turn` meets its contract: it takes the tests of `plain-at` in their order. Assumes nothing.
 use borrow.Author.Needs.{needs}
 use mathlib.Core.Path.{sym, ap, _∙_}
 use Rattle.base.specs.Cases.{cases}
 use Rattle.property.specs.Parts.{widthOf}
-use Rattle.strings.specs.TurnLaws.{plain-at}
-use Rattle.strings.proofs.char_turn.Statement.{statement}
-use Rattle.strings.proofs.char_turn.Tie as tie
+use Rattle.newlines.specs.TurnLaws.{plain-at}
+use Rattle.newlines.proofs.char_turn.Statement.{statement}
+use Rattle.newlines.proofs.char_turn.Tie as tie
 
 char-at-requires : tie.Need-char-at-requires
 char-at-requires c κs = search needs

@@ -1,9 +1,9 @@
--- `strings::plain_turn` meets its contract: a printable ASCII character by `printable-at`, any other by the call. Assumes nothing.
+-- `newlines::plain_turn` meets its contract: a printable ASCII character by `printable-at`, any other by the call. Assumes nothing.
 use borrow.Author.Needs.{needs}
 use mathlib.Core.Path.{sym, _∙_}
-use Rattle.strings.specs.TurnLaws.{printable-at}
-use Rattle.strings.proofs.plain_turn.Statement.{statement}
-use Rattle.strings.proofs.plain_turn.Tie as tie
+use Rattle.newlines.specs.TurnLaws.{printable-at}
+use Rattle.newlines.proofs.plain_turn.Statement.{statement}
+use Rattle.newlines.proofs.plain_turn.Tie as tie
 
 byte-at-requires : tie.Need-byte-at-requires
 byte-at-requires c κs = search needs

@@ -1,4 +1,4 @@
--- `strings::consume_newline` meets its contract: it takes the tests of `newline-at` in their order. Assumes nothing.
+-- `newlines::consume_newline` meets its contract: it takes the tests of `newline-at` in their order. Assumes nothing.
 use borrow.Author.Needs.{needs}
 use native.Mathlib.Omega.{arith}
 use mathlib.Core.Path.{sym, ap, _∙_}
@@ -6,10 +6,10 @@ use Rattle.base.specs.Cases.{cases, pick-yes, pick-no, told-yes, told-no}
 use Rattle.position.specs.declared.Reach.{Reach}
 use Rattle.token.specs.Kind.{newLine}
 use Rattle.state.specs.Lexer.{tokenTo}
-use Rattle.strings.specs.TurnLaws.{newline-at}
-use Rattle.strings.proofs.Loops.{stands-line}
-use Rattle.strings.proofs.consume_newline.Statement.{statement}
-use Rattle.strings.proofs.consume_newline.Tie as tie
+use Rattle.newlines.specs.TurnLaws.{newline-at}
+use Rattle.newlines.proofs.Loops.{stands-line}
+use Rattle.newlines.proofs.consume_newline.Statement.{statement}
+use Rattle.newlines.proofs.consume_newline.Tie as tie
 
 reach-requires : tie.Need-reach-requires
 reach-requires c κs = search needs

@@ -18,7 +18,7 @@ use Rattle.text.specs.declared.Turn.the-variants.{Pass, Close}
 use Rattle.state.specs.Lexer.{reachOf, tokenTo, stuckAt}
 use Rattle.state.specs.declared.Lexer.{Lexer}
 use Rattle.state.specs.declared.Taken.{Taken}
-use Rattle.strings.specs.PlainTurn.{plainTurn}
+use Rattle.newlines.specs.PlainTurn.{plainTurn}
 
 -- one turn of the loop over a multi-line comment
 unfoldable pub commentTurn : (ℕ → ℕ) → ℕ → List ℕ → Turn

@@ -1,4 +1,4 @@
--- `strings::consume_comment_multi` meets its contract. The loop's invariant is `Going`: what is found from here is what was to be found
+-- `comments::consume_comment_multi` meets its contract. The loop's invariant is `Going`: what is found from here is what was to be found
 -- from the start. Each arm cites its law of `Loops`. Assumes nothing.
 use borrow.Author.Needs.{needs}
 use native.Mathlib.Omega.{arith}
@@ -11,11 +11,11 @@ use Rattle.property.specs.Table.{propertiesAt}
 use Rattle.text.specs.Stands.{Going}
 use Rattle.text.specs.FollowLaws.{ends}
 use Rattle.state.specs.Lexer.{reachOf}
-use Rattle.strings.specs.ConsumeComment.{commentTurn, commentToken, consumeCommentMulti}
-use Rattle.strings.specs.SafeLaws.{comment-safe}
-use Rattle.strings.proofs.Loops.{begun, going-well, Turns, passes-fit, passed, passes-fall, lines-fit, lined, lines-fall, closes-fit, closed, stopped}
-use Rattle.strings.proofs.consume_comment_multi.Statement.{statement}
-use Rattle.strings.proofs.consume_comment_multi.Tie as tie
+use Rattle.comments.specs.ConsumeComment.{commentTurn, commentToken, consumeCommentMulti}
+use Rattle.comments.specs.CommentLaws.{comment-safe}
+use Rattle.newlines.proofs.Loops.{begun, going-well, Turns, passes-fit, passed, passes-fall, lines-fit, lined, lines-fall, closes-fit, closed, stopped}
+use Rattle.comments.proofs.consume_comment_multi.Statement.{statement}
+use Rattle.comments.proofs.consume_comment_multi.Tie as tie
 
 abbrev Inv-loop : tie.InvT-loop
 Inv-loop source table lexer reach₀ i₀ reach i = Going (commentTurn (propertiesAt table)) source (alongBy 1 1 (reachOf lexer)) reach i

@@ -1,4 +1,4 @@
--- `strings::comment_turn` meets its contract: it takes the tests of `comment-at` in their order. Assumes nothing.
+-- `comments::comment_turn` meets its contract: it takes the tests of `comment-at` in their order. Assumes nothing.
 use borrow.Author.Needs.{needs}
 use mathlib.Core.Path.{_≡_, sym, _∙_}
 use mathlib.Core.Bool.{false}
@@ -6,9 +6,10 @@ use mathlib.Core.Logic.{⊎-elim}
 use denote.Ref.{now}
 use Rattle.base.specs.Cases.{cases, pick-no}
 use Rattle.text.specs.Tests.{hash, minus}
-use Rattle.strings.specs.TurnLaws.{isPair, comment-at, printable-at}
-use Rattle.strings.proofs.comment_turn.Statement.{statement}
-use Rattle.strings.proofs.comment_turn.Tie as tie
+use Rattle.newlines.specs.TurnLaws.{isPair, printable-at}
+use Rattle.comments.specs.CommentLaws.{comment-at}
+use Rattle.comments.proofs.comment_turn.Statement.{statement}
+use Rattle.comments.proofs.comment_turn.Tie as tie
 
 -- the tests that led past the two pairs
 no-open : (c : tie.Joined1) → let start = c .before .before .before .before in isPair (now (start .args .source)) (start .args .at) hash minus ≡ false

@@ -1,4 +1,4 @@
--- `strings::consume_comment` meets its contract: behind the "#" it takes the test of `comment-from`. Assumes nothing.
+-- `comments::consume_comment` meets its contract: behind the "#" it takes the test of `comment-from`. Assumes nothing.
 use borrow.Author.Needs.{needs}
 use native.Mathlib.Omega.{arith}
 use mathlib.Core.Path.{_≡_, sym, ap, subst, _∙_}
@@ -10,11 +10,11 @@ use Rattle.token.specs.Kind.{commentSingle}
 use Rattle.text.specs.Stands.{Stands}
 use Rattle.text.specs.FollowLaws.{one-ascii}
 use Rattle.state.specs.Lexer.{reachOf, tokenTo}
-use Rattle.strings.specs.TurnLaws.{comment-from}
-use Rattle.strings.specs.StandsLaws.{passed-stands}
-use Rattle.strings.proofs.Loops.{stands-along}
-use Rattle.strings.proofs.consume_comment.Statement.{statement}
-use Rattle.strings.proofs.consume_comment.Tie as tie
+use Rattle.comments.specs.CommentLaws.{comment-from}
+use Rattle.newlines.specs.StandsLaws.{passed-stands}
+use Rattle.newlines.proofs.Loops.{stands-along}
+use Rattle.comments.proofs.consume_comment.Statement.{statement}
+use Rattle.comments.proofs.consume_comment.Tie as tie
 
 -- behind the "#"
 behind : (c : tie.Start) → Stands (now (c .args .source)) (alongBy 1 1 (reachOf (c .args .lexer)))

@@ -1,0 +1,3 @@
+pub mod ConsumeComment
+pub mod CommentLaws
+pub mod StandsLaws

@@ -1,0 +1,5 @@
+pub mod ConsumeNewline
+pub mod PlainTurn
+pub mod TurnLaws
+pub mod SafeLaws
+pub mod StandsLaws
