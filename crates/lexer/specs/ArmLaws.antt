@@ -40,13 +40,13 @@ use Rattle.comments.specs.ConsumeComment.{consumeComment}
 use Rattle.strings.specs.ConsumeStringLiteral.{consumeStringLiteral}
 use Rattle.strings.specs.ConsumeRawString.{consumeRawStringContents, consumeRawStringEnd}
 use Rattle.options.specs.ConsumeFormatOptions.{consumeFormatOptions}
-use Rattle.names.specs.ConsumeWhitespace.{consumeWhitespace}
-use Rattle.names.specs.ConsumeNumber.{consumeNumber}
+use Rattle.numbers.specs.ConsumeWhitespace.{consumeWhitespace}
+use Rattle.numbers.specs.ConsumeNumber.{consumeNumber}
 use Rattle.names.specs.ConsumeIdOrKeyword.{consumeIdOrKeyword, consumeIgnored}
-use Rattle.lexer.specs.ConsumeSymbol.{consumeSymbol}
+use Rattle.symbol_tokens.specs.ConsumeSymbol.{consumeSymbol}
 use Rattle.lexer.specs.GetNextToken.{nextChar, oneByte, startString, inLiteral, inCode, takeToken, remainingAt}
 use Rattle.lexer.specs.Step.{isFull, halfOf, halfAt, half}
-use Rattle.lexer.specs.Fine.{InLiteralIs, InCodeIs, Other}
+use Rattle.lexer.specs.Arms.{InLiteralIs, InCodeIs, Other}
 use Rattle.lexer.specs.NextLaws.{next-char, next-ascii, next-test}
 use Rattle.lexer.specs.declared.Half.{Half}
 use Rattle.lexer.specs.declared.What.the-variants as what

@@ -26,10 +26,10 @@ use Rattle.comments.specs.ConsumeComment.{consumeComment}
 use Rattle.strings.specs.ConsumeStringLiteral.{consumeStringLiteral}
 use Rattle.strings.specs.ConsumeRawString.{consumeRawStringContents, consumeRawStringEnd}
 use Rattle.options.specs.ConsumeFormatOptions.{consumeFormatOptions}
-use Rattle.names.specs.ConsumeWhitespace.{consumeWhitespace}
-use Rattle.names.specs.ConsumeNumber.{consumeNumber}
+use Rattle.numbers.specs.ConsumeWhitespace.{consumeWhitespace}
+use Rattle.numbers.specs.ConsumeNumber.{consumeNumber}
 use Rattle.names.specs.ConsumeIdOrKeyword.{consumeIdOrKeyword, consumeIgnored}
-use Rattle.lexer.specs.ConsumeSymbol.{consumeSymbol}
+use Rattle.symbol_tokens.specs.ConsumeSymbol.{consumeSymbol}
 
 -- ---- the arms
 

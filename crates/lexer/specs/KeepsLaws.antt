@@ -42,7 +42,7 @@ use Rattle.names.specs.ConsumeIdOrKeyword.{nameEnd, remaining, nameBytes, parse
 use Rattle.names.specs.NameLaws.{raw-delimiter}
 use Rattle.names.specs.declared.RawStart.{RawStart}
 use Rattle.names.specs.declared.RawStart.the-variants.{Opens, Nothing}
-use Rattle.lexer.specs.ConsumeSymbol.{symbolToken}
+use Rattle.symbol_tokens.specs.ConsumeSymbol.{symbolToken}
 use Rattle.lexer.specs.GetNextToken.{nextChar, inLiteral, inCode, takeToken}
 use Rattle.lexer.specs.Keeps.{Keeps}
 

@@ -15,38 +15,34 @@ ghost use Rattle.text.specs.Bytes.{byteAt};
 ghost use Rattle.text.specs.Stands.{Stands, charsFrom};
 ghost use Rattle.state.specs.Lexer.{reachOf};
 ghost use Rattle.state.specs.Stack.{Agrees};
-ghost use Rattle.lexer.specs.ConsumeSymbol.{symbolChange, consumeSymbol};
 ghost use Rattle.lexer.specs.GetNextToken.{oneByte, startString, takeToken};
 ghost use Rattle.lexer.specs.Step.{isFull, stoodStill, halfOf, half, step};
-ghost use Rattle.lexer.specs.Fine.{Fine, InLiteralIs, InCodeIs, BeginsIs, Other};
+ghost use Rattle.lexer.specs.Fine.{Fine};
+ghost use Rattle.lexer.specs.Arms.{InLiteralIs, InCodeIs, BeginsIs, Other};
 use base::between;
+use base::chars::CR;
+use base::chars::CURLY_OPEN;
+use base::chars::DOUBLE_QUOTE;
+use base::chars::HASH;
+use base::chars::LF;
+use base::chars::SINGLE_QUOTE;
+use base::chars::SPACE;
+use base::chars::TAB;
+use base::chars::UNDERSCORE;
 use state::Change;
+use state::LITERAL;
 use state::Lexer;
 use state::Modes;
+use state::RAW_END;
+use state::RAW_START;
 use state::State;
+use state::TEMPLATE_EXPR;
+use state::TEMPLATE_EXPR_FORMAT;
 use state::Taken;
 use text::byte_at;
 use token::Token;
 use token::kinds;
 use token::token_of;
-
-const TAB: u32 = 9;
-
-const LF: u32 = 10;
-
-const CR: u32 = 13;
-
-const SPACE: u32 = 32;
-
-const DOUBLE_QUOTE: u32 = 34;
-
-const HASH: u32 = 35;
-
-const SINGLE_QUOTE: u32 = 39;
-
-const UNDERSCORE: u32 = 95;
-
-const CURLY_OPEN: u32 = 123;
 
 // What a read step finds.
 pub enum What {
@@ -97,49 +93,8 @@ fn start_string(lexer: Lexer, delimiter: u16) -> Taken
             kind: kinds::STRING_START,
             detail: delimiter,
         },
-        Change::Push(state::LITERAL * 512 + delimiter),
+        Change::Push(LITERAL * 512 + delimiter),
     )
-}
-
-// What a symbol does to the modes of a template; in map mode "{" pushes nothing.
-fn symbol_change(mode: u16, kind: u8) -> Change
-    ensures { λ r. ⌜ r ≡ symbolChange mode kind ⌝ }
-{
-    if mode == state::TEMPLATE_EXPR * 512 {
-        if kind == kinds::CURLY_OPEN {
-            return Change::Push(state::TEMPLATE_EXPR_INLINE_MAP * 512);
-        }
-        if kind == kinds::COLON {
-            return Change::Push(state::TEMPLATE_EXPR_FORMAT * 512);
-        }
-        if kind == kinds::CURLY_CLOSE {
-            return Change::Pop;
-        }
-        return Change::Keep;
-    }
-    if mode == state::TEMPLATE_EXPR_INLINE_MAP * 512 {
-        if kind == kinds::CURLY_CLOSE {
-            return Change::Pop;
-        }
-        return Change::Keep;
-    }
-    Change::Keep
-}
-
-// lexer.rs `consume_symbol`; an unknown symbol is an Error of one byte.
-fn consume_symbol(source: &[u8], lexer: Lexer) -> Taken
-    requires { ⌜ Stands (now source) (reachOf lexer) × (reachOf lexer .byte .0 < length (now source)) ⌝ }
-    ensures { λ r. ⌜ r ≡ consumeSymbol (charsFrom (now (source .entry)) (reachOf lexer)) lexer ⌝ }
-{
-    let at = lexer.place.current_byte.0;
-    match symbols::symbol(source, at) {
-        symbols::SymbolAt::Is { kind, len } => Taken {
-            token: token_of(kind),
-            lexer: lexer.advance_line(len),
-            change: symbol_change(lexer.mode, kind),
-        },
-        symbols::SymbolAt::Nothing => lexer.token(kinds::ERROR, 1),
-    }
 }
 
 // What a character outside a string begins.
@@ -200,9 +155,9 @@ fn in_rest(source: &[u8], table: &[u32], lexer: Lexer, b: u32) -> Taken
     ensures { λ r. ⌜ InCodeIs (now (source .entry)) (now (table .entry)) lexer r ⌝ }
 {
     match what_begins(source, table, lexer, b) {
-        Begins::Number => names::consume_number(source, lexer),
+        Begins::Number => numbers::consume_number(source, lexer),
         Begins::Name => names::consume_id_or_keyword(source, table, lexer),
-        Begins::Symbol => consume_symbol(source, lexer),
+        Begins::Symbol => symbol_tokens::consume_symbol(source, lexer),
     }
 }
 
@@ -215,10 +170,10 @@ fn in_code(source: &[u8], table: &[u32], lexer: Lexer) -> Taken
     let at = lexer.place.current_byte.0;
     let b = byte_at(source, at);
     if b == SPACE {
-        return names::consume_whitespace(source, lexer);
+        return numbers::consume_whitespace(source, lexer);
     }
     if b == TAB {
-        return names::consume_whitespace(source, lexer);
+        return numbers::consume_whitespace(source, lexer);
     }
     if b == LF {
         return newlines::consume_newline(source, lexer);
@@ -256,7 +211,7 @@ fn in_literal(source: &[u8], table: &[u32], lexer: Lexer, quote: u32) -> Taken
         return one_byte(
             lexer,
             token_of(kinds::CURLY_OPEN),
-            Change::Push(state::TEMPLATE_EXPR * 512),
+            Change::Push(TEMPLATE_EXPR * 512),
         );
     }
     strings::consume_string_literal(source, table, lexer, quote)
@@ -271,10 +226,10 @@ fn take_token(source: &[u8], table: &[u32], edition: u32, lexer: Lexer) -> Taken
     let tag = lexer.mode / 512;
     let delimiter = lexer.mode % 512;
     match tag {
-        1 => in_literal(source, table, lexer, state::quote_of(delimiter)),
-        4 => options::consume_format_options(source, table, edition, lexer),
-        5 => strings::consume_raw_string_contents(source, table, lexer, delimiter),
-        6 => strings::consume_raw_string_end(lexer, delimiter),
+        LITERAL => in_literal(source, table, lexer, state::quote_of(delimiter)),
+        TEMPLATE_EXPR_FORMAT => options::consume_format_options(source, table, edition, lexer),
+        RAW_START => strings::consume_raw_string_contents(source, table, lexer, delimiter),
+        RAW_END => strings::consume_raw_string_end(lexer, delimiter),
         _ => in_code(source, table, lexer),
     }
 }

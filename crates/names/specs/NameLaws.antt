@@ -40,8 +40,8 @@ use Rattle.text.specs.FollowLaws.{here, next-is, ascii-read, ascii-head}
 use Rattle.text.specs.CountLaws.{skip-run, along-stands, run-stands}
 use Rattle.state.specs.Lexer.{reachOf, tokenOf, tokenTo}
 use Rattle.state.specs.declared.Lexer.{Lexer}
-use Rattle.names.specs.Places.{PlaceIn, GoesOn}
-use Rattle.names.specs.PlaceLaws.{place-of, runEnd, skip-next, next-place}
+use Rattle.numbers.specs.Places.{PlaceIn, GoesOn}
+use Rattle.numbers.specs.PlaceLaws.{place-of, runEnd, skip-next, next-place}
 use Rattle.names.specs.ConsumeIdOrKeyword.{nameEnd, remaining, nameBytes, parseRawStringStart, rawStringStart, keywordOrId, orElse, rawOrName, nameToken}
 use Rattle.names.specs.Decided.{Small, RawDecides}
 use Rattle.names.specs.declared.RawStart.{RawStart}

@@ -1,6 +1,6 @@
--- Where the definitions of whitespace, numbers and names lead, whatever code there is: the reach after the token stands in the source
--- again, and at least one byte further on.
---     whitespace-goes, number-goes, id-or-keyword-goes, ignored-goes
+-- Where the definitions of names lead, whatever code there is: the reach after the token stands in the source again, and at least one byte
+-- further on.
+--     id-or-keyword-goes, ignored-goes
 -- Assumes nothing.
 use Prim.Native.Nat.{ℕ, _+_, _-_, _≤_, _<_}
 use native.Mathlib.Omega.{arith}
@@ -9,9 +9,8 @@ use mathlib.Core.Bool.{true, and-eq-true-iff}
 use mathlib.Core.List.{List, [], _∷_}
 use lib.Dec.{ltb, eqb}
 use lib.ListN.{length, take, drop}
-use borrow.Author.Tests.{lt-ltb, ltb-true}
+use borrow.Author.Tests.{ltb-true}
 use Rattle.base.specs.PickLaws.{by-test, by-eq}
-use Rattle.position.specs.Place.{alongBy}
 use Rattle.position.specs.declared.Reach.{Reach}
 use Rattle.utf8.specs.Chars.{chars}
 use Rattle.words.specs.Words.{isWord, startsWith, elseWord, elseIfWord, rWord}
@@ -19,57 +18,19 @@ use Rattle.keywords.specs.Keywords.{keywordOf}
 use Rattle.token.specs.Kind.{id, dot}
 use Rattle.words.specs.WordsLaws.{ascii}
 use Rattle.text.specs.Bytes.{byteAt}
-use Rattle.text.specs.Tests.{isWhitespace, testOf, doubleQuote, singleQuote}
-use Rattle.text.specs.Count.{countWhile}
+use Rattle.text.specs.Tests.{doubleQuote, singleQuote}
 use Rattle.text.specs.Stands.{Stands, charsFrom}
-use Rattle.text.specs.FollowLaws.{byte-within}
-use Rattle.text.specs.CountLaws.{count-more, test-ascii}
 use Rattle.state.specs.Modes.{hashCountOf}
 use Rattle.state.specs.Lexer.{reachOf}
 use Rattle.state.specs.declared.Lexer.{Lexer}
 use Rattle.state.specs.declared.Taken.{Taken}
-use Rattle.names.specs.Places.{PlaceIn, GoesOn}
-use Rattle.names.specs.PlaceLaws.{place-of, next-place, run-place, runEnd}
-use Rattle.names.specs.ConsumeWhitespace.{consumeWhitespace}
-use Rattle.names.specs.ConsumeNumber.{numberBytes, consumeNumber}
-use Rattle.names.specs.NumberLaws.{number-place}
+use Rattle.numbers.specs.Places.{PlaceIn, GoesOn}
+use Rattle.numbers.specs.PlaceLaws.{place-of, next-place, run-place, runEnd}
+use Rattle.numbers.specs.StandsLaws.{along-goes}
 use Rattle.names.specs.ConsumeIdOrKeyword.{nameEnd, remaining, nameBytes, parseRawStringStart, keywordOrId, rawOrName, nameToken, consumeIdOrKeyword, consumeIgnored}
 use Rattle.names.specs.NameLaws.{raw-start-at, name-goes, name-token-at, raw-opens, raw-not, r-stands, word-starts, starts-next}
 use Rattle.names.specs.declared.RawStart.{RawStart}
 use Rattle.names.specs.declared.RawStart.the-variants.{Opens, Nothing}
-
--- so many ASCII characters on
-along-goes : {s : List ℕ} {r : Reach} (n : ℕ) → Stands s r → PlaceIn s (r .byte .0 + n) → 0 < n → GoesOn s r (alongBy n n r)
-along-goes n o p h =
-    record {
-      stands = record {
-        small = o .small;
-        inside = p .inside;
-        well = p .well;
-        lines = omega (arith, o .lines);
-        columns = omega (arith, o .columns);
-      };
-      on = omega arith;
-    }
-
--- ---- whitespace and numbers
-
-pub whitespace-goes : (s : List ℕ) (l : Lexer) → Stands s (reachOf l) → isWhitespace (byteAt s (reachOf l .byte .0)) ≡ true
-    → GoesOn s (reachOf l) (reachOf (consumeWhitespace (charsFrom s (reachOf l)) l .lexer))
-unfolding testOf
-whitespace-goes s l o h =
-    let i = reachOf l .byte .0 in
-    let k : i < length s = byte-within s i (byteAt s i) refl (omega (arith, test-ascii (byteAt s i) 0 h)) in
-    let m = count-more isWhitespace (λ c. test-ascii c 0) s i (o .well) k (rw (lt-ltb i (length s) k) at h) in
-    along-goes (countWhile isWhitespace (chars (drop i s))) o (run-place (place-of o) 0) (omega (arith, m .0))
-
-pub number-goes : (s : List ℕ) (l : Lexer) → Stands s (reachOf l)
-    → (48 ≤ byteAt s (reachOf l .byte .0)) × (byteAt s (reachOf l .byte .0) ≤ 57)
-    → GoesOn s (reachOf l) (reachOf (consumeNumber (charsFrom s (reachOf l)) l .lexer))
-unfolding numberBytes
-number-goes s l o h = along-goes (numberBytes (charsFrom s (reachOf l))) o (number-place (place-of o) (omega (arith, h))) (omega arith)
-
--- ---- names
 
 -- an ASCII word that stands at a place ends at one
 word-place : (w : List ℕ) {s : List ℕ} {i : ℕ} → PlaceIn s i → ascii w ≡ true → startsWith w (drop i s) ≡ true → PlaceIn s (i + length w)

@@ -1,7 +1,7 @@
-// Whitespace, numbers, names and keywords, and the start of raw strings (lexer.rs `consume_number`, `consume_id_or_keyword`,
-// `parse_raw_string_start`, `consume_ignored`, and the arm of whitespace). It knows no list and no records.
+// Names and keywords, and the start of raw strings (lexer.rs `consume_id_or_keyword`, `parse_raw_string_start`, `consume_ignored`). It knows no
+// list and no records.
 ghost use mathlib.Core.Path.{_≡_};
-ghost use Prim.Native.Nat.{_+_, _≤_, _<_};
+ghost use Prim.Native.Nat.{_≤_, _<_};
 ghost use lib.ListN.{length, drop};
 ghost use Rattle.base.specs.Refusal.{sourceMost};
 ghost use Rattle.position.specs.Position.{columnMost};
@@ -9,16 +9,14 @@ ghost use Rattle.utf8.specs.Chars.{chars};
 ghost use Rattle.property.specs.Table.{propertiesAt};
 ghost use Rattle.fitness.specs.FitLaws.{FitTable};
 ghost use Rattle.text.specs.Bytes.{byteAt};
-ghost use Rattle.text.specs.Tests.{isDigit};
 ghost use Rattle.text.specs.Chars.{LenIs};
 ghost use Rattle.text.specs.Stands.{Stands, charsFrom};
 ghost use Rattle.state.specs.Lexer.{reachOf};
-ghost use Rattle.names.specs.Places.{PlaceIn, GoesOn};
-ghost use Rattle.names.specs.ConsumeWhitespace.{consumeWhitespace};
-ghost use Rattle.names.specs.ConsumeNumber.{exponentBytes, isFraction, tailBytes, zeroBytes, numberBytes, consumeNumber};
+ghost use Rattle.numbers.specs.Places.{PlaceIn, GoesOn};
 ghost use Rattle.names.specs.ConsumeIdOrKeyword.{nameEnd, parseRawStringStart, rawStringStart, keywordOrId, nameToken, consumeIdOrKeyword, consumeIgnored};
 ghost use Rattle.names.specs.Decided.{RawDecides};
-use base::code_between;
+use base::chars::DOUBLE_QUOTE;
+use base::chars::SINGLE_QUOTE;
 use position::Reach;
 use state::Change;
 use state::Lexer;
@@ -26,148 +24,6 @@ use state::Taken;
 use text::byte_at;
 use text::run_end;
 use token::kinds;
-
-const PLUS: u32 = 43;
-
-const MINUS: u32 = 45;
-
-const DOT: u32 = 46;
-
-const ZERO: u32 = 48;
-
-const UNDERSCORE: u32 = 95;
-
-const B: u32 = 98;
-
-const E: u32 = 101;
-
-const O: u32 = 111;
-
-const X: u32 = 120;
-
-// Spaces and tabs. One has been matched.
-pub fn consume_whitespace(source: &[u8], lexer: Lexer) -> Taken
-    requires { ⌜ Stands (now source) (reachOf lexer) ⌝ }
-    ensures { λ r. ⌜ r ≡ consumeWhitespace (charsFrom (now (source .entry)) (reachOf lexer)) lexer ⌝ }
-{
-    let reach = lexer.reach();
-    let at = reach.byte.0;
-    let count = run_end(source, at, text::WHITESPACE) - at;
-    lexer
-        .indent_by(count as u32)
-        .token(kinds::WHITESPACE, count)
-}
-
-// The byte after the exponent at `at`, or `at` where there is none.
-fn exponent_end(source: &[u8], at: usize) -> usize
-    requires { ⌜ PlaceIn (now source) at ⌝ }
-    ensures { λ r. ⌜ r ≡ at + exponentBytes (chars (drop at (now (source .entry)))) ⌝ }
-{
-    if byte_at(source, at) != E {
-        return at;
-    }
-    let sign = byte_at(source, at + 1);
-    if sign == PLUS {
-        return run_end(source, at + 2, text::DECIMAL_DIGIT);
-    }
-    if sign == MINUS {
-        return run_end(source, at + 2, text::DECIMAL_DIGIT);
-    }
-    run_end(source, at + 1, text::DECIMAL_DIGIT)
-}
-
-fn is_digit(b: u32) -> bool
-    ensures { λ r. ⌜ r ≡ isDigit b ⌝ }
-{
-    code_between(b, 48, 57)
-}
-
-// Does what stands at `at`, after a dot, belong to the number? A digit does, and an exponent; `1.exp()` is a call.
-fn is_fraction(source: &[u8], at: usize) -> bool
-    requires { ⌜ PlaceIn (now source) at ⌝ }
-    ensures { λ r. ⌜ r ≡ isFraction (chars (drop at (now (source .entry)))) ⌝ }
-{
-    let b = byte_at(source, at);
-    if is_digit(b) {
-        return true;
-    }
-    if b != E {
-        return false;
-    }
-    let c = byte_at(source, at + 1);
-    if is_digit(c) {
-        return true;
-    }
-    if c == UNDERSCORE {
-        return true;
-    }
-    if c == PLUS {
-        return true;
-    }
-    if c == MINUS {
-        return true;
-    }
-    false
-}
-
-// The byte after a number whose whole part ends at `at`.
-fn tail_end(source: &[u8], at: usize) -> usize
-    requires { ⌜ PlaceIn (now source) at ⌝ }
-    ensures { λ r. ⌜ r ≡ at + tailBytes (chars (drop at (now (source .entry)))) ⌝ }
-{
-    if byte_at(source, at) != DOT {
-        return exponent_end(source, at);
-    }
-    if !is_fraction(source, at + 1) {
-        return at;
-    }
-    exponent_end(source, run_end(source, at + 1, text::DECIMAL_DIGIT))
-}
-
-// The byte after a number whose whole part is the zero before `at`.
-fn zero_end(source: &[u8], at: usize) -> usize
-    requires { ⌜ PlaceIn (now source) at ⌝ }
-    ensures { λ r. ⌜ r ≡ at + zeroBytes (chars (drop at (now (source .entry)))) ⌝ }
-{
-    let letter = byte_at(source, at);
-    if letter == B {
-        return run_end(source, at + 1, text::BINARY_DIGIT);
-    }
-    if letter == O {
-        return run_end(source, at + 1, text::OCTAL_DIGIT);
-    }
-    if letter == X {
-        return run_end(source, at + 1, text::HEX_DIGIT);
-    }
-    tail_end(source, at)
-}
-
-// The byte after the number at `at`.
-fn number_end(source: &[u8], at: usize) -> usize
-    requires { ⌜ PlaceIn (now source) at ⌝ }
-    requires { ⌜ (48 ≤ byteAt (now source) at) × (byteAt (now source) at ≤ 57) ⌝ }
-    ensures { λ r. ⌜ r ≡ at + numberBytes (chars (drop at (now (source .entry)))) ⌝ }
-{
-    let whole = run_end(source, at + 1, text::DECIMAL_DIGIT);
-    if byte_at(source, at) != ZERO {
-        return tail_end(source, whole);
-    }
-    if whole != at + 1 {
-        return tail_end(source, whole);
-    }
-    zero_end(source, whole)
-}
-
-// lexer.rs `consume_number`. A digit has been matched.
-pub fn consume_number(source: &[u8], lexer: Lexer) -> Taken
-    requires { ⌜ Stands (now source) (reachOf lexer) ⌝ }
-    requires { ⌜ (48 ≤ byteAt (now source) (reachOf lexer .byte .0)) × (byteAt (now source) (reachOf lexer .byte .0) ≤ 57) ⌝ }
-    ensures { λ r. ⌜ r ≡ consumeNumber (charsFrom (now (source .entry)) (reachOf lexer)) lexer ⌝ }
-{
-    let reach = lexer.reach();
-    let at = reach.byte.0;
-    lexer.token(kinds::NUMBER, number_end(source, at) - at)
-}
 
 // The start of a raw string, after its `r`.
 pub enum RawStart {
@@ -187,10 +43,10 @@ fn parse_raw_string_start(source: &[u8], at: usize) -> RawStart
         return RawStart::Nothing;
     }
     let quote = byte_at(source, quote_at);
-    if quote == 34 {
+    if quote == DOUBLE_QUOTE {
         return RawStart::Opens(2 * (hash_count as u16));
     }
-    if quote == 39 {
+    if quote == SINGLE_QUOTE {
         return RawStart::Opens(2 * (hash_count as u16) + 1);
     }
     RawStart::Nothing

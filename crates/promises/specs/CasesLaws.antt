@@ -28,8 +28,8 @@ use Rattle.strings.specs.ConsumeStringLiteral.{escapeTurn, literalTurn, consume
 use Rattle.newlines.specs.PlainTurn.{plainTurn}
 use Rattle.options.specs.ConsumeFormatOptions.{isAligned, skipBytes, findBrace, consumeFormatOptions}
 use Rattle.names.specs.ConsumeIdOrKeyword.{nameEnd, parseRawStringStart, keywordOrId, rawOrName, nameToken}
-use Rattle.names.specs.ConsumeNumber.{nextPasses, exponentBytes, isFraction, fractionBytes, tailBytes, zeroBytes, numberBytes}
-use Rattle.lexer.specs.ConsumeSymbol.{symbolChange}
+use Rattle.numbers.specs.ConsumeNumber.{nextPasses, exponentBytes, isFraction, fractionBytes, tailBytes, zeroBytes, numberBytes}
+use Rattle.symbol_tokens.specs.ConsumeSymbol.{symbolChange}
 use Rattle.lexer.specs.GetNextToken.{inLiteral, inCode, takeToken, remainingAt}
 use Rattle.lexer.specs.Step.{stoodStill, half, step}
 use Rattle.reading.specs.Reading.{readIn, readFrom}

@@ -28,11 +28,11 @@ use Rattle.state.specs.State.{startState}
 use Rattle.state.specs.declared.State.{State}
 use Rattle.lexer.specs.Step.{step}
 use Rattle.lexer.specs.Fine.{Cuts}
-use Rattle.lexer.specs.FineLaws.{no-tail}
-use Rattle.lexer.specs.Invariant.{Ok, measure}
-use Rattle.lexer.specs.InvariantLaws.{start-ok, step-ok}
-use Rattle.lexer.specs.MeasureLaws.{step-falls}
-use Rattle.lexer.specs.ReadsLaws.{token-reads, end-stays}
+use Rattle.stepping.specs.FineLaws.{no-tail}
+use Rattle.stepping.specs.Invariant.{Ok, measure}
+use Rattle.stepping.specs.InvariantLaws.{start-ok, step-ok}
+use Rattle.stepping.specs.MeasureLaws.{step-falls}
+use Rattle.stepping.specs.ReadsLaws.{token-reads, end-stays}
 use Rattle.lexer.specs.declared.What.{What}
 use Rattle.lexer.specs.declared.What.the-variants as what
 use Rattle.reading.specs.Reading.{rowOf, Stop, ended, stuck, deep, Reading, afterStep, readIn, readFrom, reading}

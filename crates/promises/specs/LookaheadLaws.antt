@@ -22,7 +22,7 @@ use Rattle.rows.specs.Row.{room, rowAt, rowsOf, putRows, rowFits}
 use Rattle.rows.specs.RowLaws.{rows-length, rows-at, rows-back, fits-packs}
 use Rattle.rows.specs.declared.Row.{Row}
 use Rattle.state.specs.State.{startState}
-use Rattle.lexer.specs.InvariantLaws.{start-ok}
+use Rattle.stepping.specs.InvariantLaws.{start-ok}
 use Rattle.reading.specs.Reading.{Stop, ended, stuck}
 use Rattle.reading.specs.Scan.{readingOf, Scans}
 use Rattle.reading.specs.ShownLaws.{reading-shown, stuck-some}

@@ -48,7 +48,7 @@ use Rattle.options.specs.declared.Brace.the-variants.{At, Nowhere}
 use Rattle.names.specs.ConsumeIdOrKeyword.{nameEnd, remaining, nameBytes, parseRawStringStart, orElse, rawOrName, keywordOrId, nameToken}
 use Rattle.names.specs.declared.RawStart.{RawStart}
 use Rattle.names.specs.declared.RawStart.the-variants.{Opens, Nothing}
-use Rattle.lexer.specs.ConsumeSymbol.{symbolChange, symbolToken}
+use Rattle.symbol_tokens.specs.ConsumeSymbol.{symbolChange, symbolToken}
 use Rattle.lexer.specs.GetNextToken.{nextChar, oneByte, inLiteral, inCode, takeToken}
 use Rattle.lexer.specs.ArmLaws.{above, no-digit, high-letter, rest-symbol, take-code}
 use Rattle.reading.specs.Potential.{owns}

@@ -28,12 +28,13 @@ use Rattle.state.specs.declared.State.{State}
 use Rattle.state.specs.declared.Taken.{Taken}
 use Rattle.lexer.specs.GetNextToken.{oneByte}
 use Rattle.lexer.specs.Step.{isFull, stoodStill, whatOf, halfOf, half, step}
-use Rattle.lexer.specs.StepLaws.{step-stack, change-same}
-use Rattle.lexer.specs.FineLaws.{Goes}
-use Rattle.lexer.specs.FallsLaws as falls
-use Rattle.lexer.specs.FallsLaws.{Falls}
-use Rattle.lexer.specs.CasesLaws.{still-is, by-half}
-use Rattle.lexer.specs.Invariant.{Ok}
+use Rattle.lexer.specs.StepLaws.{step-stack}
+use Rattle.stepping.specs.MirrorsLaws.{change-same}
+use Rattle.stepping.specs.FineLaws.{Goes}
+use Rattle.stepping.specs.FallsLaws as falls
+use Rattle.stepping.specs.FallsLaws.{Falls}
+use Rattle.stepping.specs.CasesLaws.{still-is, by-half}
+use Rattle.stepping.specs.Invariant.{Ok}
 use Rattle.lexer.specs.declared.Half.{Half}
 use Rattle.lexer.specs.declared.Step.{Step}
 use Rattle.lexer.specs.declared.What.{What}

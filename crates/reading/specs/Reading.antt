@@ -11,7 +11,7 @@ use Rattle.state.specs.State.{startState}
 use Rattle.state.specs.declared.Lexer.{Lexer}
 use Rattle.state.specs.declared.State.{State}
 use Rattle.lexer.specs.Step.{step}
-use Rattle.lexer.specs.Invariant.{measure}
+use Rattle.stepping.specs.Invariant.{measure}
 use Rattle.lexer.specs.declared.What.{What}
 use Rattle.lexer.specs.declared.What.the-variants as what
 

@@ -10,9 +10,9 @@ use Rattle.property.specs.Table.{propertiesAt}
 use Rattle.fitness.specs.FitLaws.{FitTable}
 use Rattle.state.specs.declared.State.{State}
 use Rattle.lexer.specs.Step.{step}
-use Rattle.lexer.specs.Invariant.{Ok, measure}
-use Rattle.lexer.specs.InvariantLaws.{step-ok}
-use Rattle.lexer.specs.MeasureLaws.{step-falls}
+use Rattle.stepping.specs.Invariant.{Ok, measure}
+use Rattle.stepping.specs.InvariantLaws.{step-ok}
+use Rattle.stepping.specs.MeasureLaws.{step-falls}
 use Rattle.lexer.specs.declared.What.{What}
 use Rattle.lexer.specs.declared.What.the-variants as what
 use Rattle.reading.specs.Reading.{Reading, rowOf, onto, afterStep, readIn, readFrom}

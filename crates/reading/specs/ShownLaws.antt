@@ -14,9 +14,9 @@ use Rattle.rows.specs.Row.{rowFits}
 use Rattle.rows.specs.declared.Row.{Row}
 use Rattle.state.specs.declared.State.{State}
 use Rattle.lexer.specs.Step.{step}
-use Rattle.lexer.specs.Invariant.{Ok, measure}
-use Rattle.lexer.specs.InvariantLaws.{step-ok}
-use Rattle.lexer.specs.ReadsLaws.{token-reads}
+use Rattle.stepping.specs.Invariant.{Ok, measure}
+use Rattle.stepping.specs.InvariantLaws.{step-ok}
+use Rattle.stepping.specs.ReadsLaws.{token-reads}
 use Rattle.lexer.specs.declared.What.{What}
 use Rattle.lexer.specs.declared.What.the-variants as what
 use Rattle.reading.specs.Reading.{stuck, Reading, afterStep, readIn, readFrom}

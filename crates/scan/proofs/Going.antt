@@ -24,12 +24,13 @@ use Rattle.state.specs.declared.Change.the-variants.{Keep}
 use Rattle.state.specs.declared.Lexer.{Lexer}
 use Rattle.state.specs.declared.State.{State}
 use Rattle.lexer.specs.Step.{half, step}
-use Rattle.lexer.specs.Mirrors.{Same}
-use Rattle.lexer.specs.StepLaws.{step-codes, change-same}
-use Rattle.lexer.specs.Invariant.{Ok, measure}
-use Rattle.lexer.specs.InvariantLaws.{step-ok}
-use Rattle.lexer.specs.MeasureLaws.{step-falls}
-use Rattle.lexer.specs.ReadsLaws.{token-reads, stuck-stays}
+use Rattle.stepping.specs.Mirrors.{Same}
+use Rattle.lexer.specs.StepLaws.{step-codes}
+use Rattle.stepping.specs.MirrorsLaws.{change-same}
+use Rattle.stepping.specs.Invariant.{Ok, measure}
+use Rattle.stepping.specs.InvariantLaws.{step-ok}
+use Rattle.stepping.specs.MeasureLaws.{step-falls}
+use Rattle.stepping.specs.ReadsLaws.{token-reads, stuck-stays}
 use Rattle.lexer.specs.declared.Half.{Half}
 use Rattle.lexer.specs.declared.Step.{Step}
 use Rattle.lexer.specs.declared.What.{What}

@@ -14,7 +14,7 @@ ghost use Rattle.property.specs.Table.{propertiesAt};
 ghost use Rattle.fitness.specs.FitLaws.{FitTable};
 ghost use Rattle.rows.specs.Row.{room};
 ghost use Rattle.state.specs.Lexer.{reachOf};
-ghost use Rattle.lexer.specs.Invariant.{Ok};
+ghost use Rattle.stepping.specs.Invariant.{Ok};
 ghost use Rattle.reading.specs.Reading.{rowOf};
 ghost use Rattle.reading.specs.Scan.{whole, Fills, ReadsOn, Scans};
 ghost use Rattle.reading.specs.Reading.{deep, stuckReading};

@@ -8,7 +8,7 @@ use Rattle.text.specs.Stands.{charsFrom}
 use Rattle.state.specs.Lexer.{reachOf}
 use Rattle.state.specs.declared.Lexer.{Lexer}
 use Rattle.state.specs.declared.Taken.{Taken}
-use Rattle.lexer.specs.Fine.{InCodeIs, takenBy, DigitAt, BeginsIs}
+use Rattle.lexer.specs.Arms.{InCodeIs, takenBy, DigitAt, BeginsIs}
 use Rattle.lexer.specs.declared.Begins.{Begins}
 use Rattle.lexer.proofs.in_rest.Statement.{statement}
 use Rattle.lexer.proofs.in_rest.Tie as tie

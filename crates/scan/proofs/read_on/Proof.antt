@@ -4,7 +4,7 @@ use mathlib.Core.Path.{_≡_, sym, ap, _∙_}
 use borrow.Author.Needs.{needs}
 use Rattle.state.specs.State.{stateOf}
 use Rattle.lexer.specs.StepLaws.{fits-codes}
-use Rattle.lexer.specs.Invariant.{measure}
+use Rattle.stepping.specs.Invariant.{measure}
 use Rattle.lexer.specs.declared.Half.{Half}
 use Rattle.lexer.specs.declared.What.{What}
 use Rattle.token.specs.declared.Token.{Token}

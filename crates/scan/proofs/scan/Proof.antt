@@ -5,8 +5,8 @@ use native.Mathlib.Omega.{arith}
 use borrow.Author.Needs.{needs}
 use Rattle.utf8.specs.CharsLaws.{well-of-fine}
 use Rattle.fitness.specs.FitLaws.{fit-of}
-use Rattle.lexer.specs.Invariant.{Ok}
-use Rattle.lexer.specs.InvariantLaws.{start-ok}
+use Rattle.stepping.specs.Invariant.{Ok}
+use Rattle.stepping.specs.InvariantLaws.{start-ok}
 use Rattle.reading.specs.ScanLaws.{scans-long, scans-bad-table, scans-bad, scans-cut, scans-fine}
 use Rattle.scan.proofs.scan.Statement.{statement}
 use Rattle.scan.proofs.scan.Tie as tie

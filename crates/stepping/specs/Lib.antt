@@ -1,0 +1,12 @@
+pub mod Invariant
+pub mod Reads
+pub mod Mirrors
+pub mod FineLaws
+pub mod MirrorsLaws
+pub mod JoinsLaws
+pub mod ChangeLaws
+pub mod InvariantLaws
+pub mod FallsLaws
+pub mod CasesLaws
+pub mod ReadsLaws
+pub mod MeasureLaws
