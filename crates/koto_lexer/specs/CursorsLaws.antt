@@ -10,7 +10,7 @@ use Rattle.lookahead.specs.declared.Status.{Status}
 use Rattle.lookahead.specs.declared.Status.the-variants.{End, Stuck}
 use Rattle.lookahead.specs.declared.Given.the-variants as given
 use Rattle.lookahead.specs.declared.Peeked.the-variants as peeked
-use Rattle.koto_lexer.specs.Scans.{endNumber, stuckNumber, refusedNumber}
+use Rattle.reading.specs.Status.{endNumber, stuckNumber, refusedNumber}
 use Rattle.koto_lexer.specs.Cursors.{byStatus, nextBy, peekBy}
 
 module _ {A : Type 0} (f : Status → A) (y : A) where

@@ -2,7 +2,7 @@
 use mathlib.Core.Path.{ap, _∙_}
 use Rattle.lookahead.specs.Next as next
 use Rattle.lookahead.specs.declared.Given.{Given}
-use Rattle.koto_lexer.specs.Cursors.{wordsOf, givenShown, givenRow, givenTaken, givenQueued}
+use Rattle.lookahead.specs.Told.{recordNumbers, givenShown, givenRow, givenTaken, givenQueued}
 use borrow.Author.Needs.{needs}
 use Rattle.koto_lexer.proofs.cursors.koto_next.Statement.{statement}
 use Rattle.koto_lexer.proofs.cursors.koto_next.Tie as tie
@@ -47,7 +47,7 @@ returns c =
       taken-is = at-taken .given-taken .ensures ∙ ap (λ (g : Given). givenTaken g (start .args .taken .now)) e;
       queued-is = at-queued .given-queued .ensures ∙ ap (λ (g : Given). givenQueued g (start .args .queued .now)) e;
       shown-is = at-shown .given-shown .ensures ∙ ap givenShown e;
-      words-are = at-record .put-record .ensures ∙ ap wordsOf (at-row .given-row .ensures ∙ ap givenRow e);
+      words-are = at-record .put-record .ensures ∙ ap recordNumbers (at-row .given-row .ensures ∙ ap givenRow e);
       place-is = at-place .given-place .ensures ∙ ap next.placeOf e;
     }
 

@@ -2,7 +2,7 @@
 use mathlib.Core.Path.{ap, _∙_}
 use Rattle.lookahead.specs.Peek as peek
 use Rattle.lookahead.specs.declared.Peeked.{Peeked}
-use Rattle.koto_lexer.specs.Cursors.{wordsOf, peekedShown, peekedRow, peekedQueued}
+use Rattle.lookahead.specs.Told.{recordNumbers, peekedShown, peekedRow, peekedQueued}
 use borrow.Author.Needs.{needs}
 use Rattle.koto_lexer.proofs.cursors.koto_peek.Statement.{statement}
 use Rattle.koto_lexer.proofs.cursors.koto_peek.Tie as tie
@@ -42,7 +42,7 @@ returns c =
       number = c .peeked-number .ensures ∙ ap peek.numberOf e;
       queued-is = at-queued .peeked-queued .ensures ∙ ap (λ (p : Peeked). peekedQueued p (start .args .queued .now)) e;
       shown-is = at-shown .peeked-shown .ensures ∙ ap peekedShown e;
-      words-are = at-record .put-record .ensures ∙ ap wordsOf (at-row .peeked-row .ensures ∙ ap peekedRow e);
+      words-are = at-record .put-record .ensures ∙ ap recordNumbers (at-row .peeked-row .ensures ∙ ap peekedRow e);
       place-is = at-place .peeked-place .ensures ∙ ap peek.placeOf e;
     }
 
