@@ -387,4 +387,4 @@ koto-parse-spec 𝓤 H 𝓜 𝓖 𝓡 =
     (cited 𝓤 H (Inner 𝓤 H (𝓖 .A) (𝓜 .mem) (𝓡 .run)) 𝓜 𝓡 code.env #inner inner-def.routine
     code.calls-parse-lent·parse (inner-thm.met 𝓤 H 𝓜 𝓖 𝓡))
     (cited 𝓤 H (Tell 𝓤 H (𝓖 .A) (𝓜 .mem) (𝓡 .run)) 𝓜 𝓡 code.env #tell tell-def.routine
-    code.calls-koto-lexer·formats·tell (tell-thm.met 𝓤 H 𝓜 𝓖 𝓡)))
+    code.calls-koto-pool·formats·tell (tell-thm.met 𝓤 H 𝓜 𝓖 𝓡)))

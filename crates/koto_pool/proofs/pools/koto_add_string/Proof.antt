@@ -367,4 +367,4 @@ koto-add-string-spec 𝓤 H 𝓜 𝓖 𝓡 =
     (cited 𝓤 H (Inner 𝓤 H (𝓖 .A) (𝓜 .mem) (𝓡 .run)) 𝓜 𝓡 code.env #inner inner-def.routine
     code.calls-pool-lent·add-string (inner-thm.met 𝓤 H 𝓜 𝓖 𝓡))
     (cited 𝓤 H (Tell 𝓤 H (𝓖 .A) (𝓜 .mem) (𝓡 .run)) 𝓜 𝓡 code.env #tell tell-def.routine
-    code.calls-koto-lexer·pools·tell (tell-thm.met 𝓤 H 𝓜 𝓖 𝓡)))
+    code.calls-koto-pool·pools·tell (tell-thm.met 𝓤 H 𝓜 𝓖 𝓡)))

@@ -28,7 +28,22 @@ given-number-requires-3 : tie.Need-given-number-requires-3
 given-number-requires-3 c κs = search needs
 
 returns : tie.Need-returns
-returns c = cc
+returns c =
+    let at-len = c .before in
+    let at-place = at-len .before in
+    let at-shown = at-place .before in
+    let at-precision = at-shown .before in
+    let at-width = at-precision .before in
+    let at-alignment = at-width .before in
+    rw (
+      at-alignment .alignment-number .ensures,
+      at-width .given-number .ensures,
+      at-precision .given-number2 .ensures,
+      at-shown .shown-number .ensures,
+      at-place .fill-place .ensures,
+      at-len .fill-len .ensures,
+      c .given-number3 .ensures,
+    )
 
 pub options-numbers-spec : {M : Type 1} → statement M
 options-numbers-spec =
