@@ -4,8 +4,4 @@ pub mod Clusters
 pub mod Scans
 pub mod Cursors
 pub mod CursorsLaws
-pub mod Pools
-pub mod PoolsLaws
-pub mod Formats
-pub mod FormatsLaws
 pub mod CallsLaws

@@ -5,27 +5,7 @@ use mathlib.Core.Path.{_≡_}
 use mathlib.Core.List.{List}
 use Rattle.rows.specs.Row.{room, putRows}
 use Rattle.reading.specs.Scan.{scanned, written, numberOf, placeOf, countOf}
-use Rattle.reading.specs.declared.Scanned.{Scanned}
-use Rattle.reading.specs.declared.Scanned.the-variants.{End, Stuck, TooLong, BadTable, BadUtf8, ListFull, ModesFull}
-
--- how the scan ended: at the end, stuck, or refused
-abbrev pub endNumber : ℕ
-endNumber = 0
-
-abbrev pub stuckNumber : ℕ
-stuckNumber = 1
-
-abbrev pub refusedNumber : ℕ
-refusedNumber = 2
-
-abbrev pub statusOf : Scanned → ℕ
-statusOf (End n b) = endNumber
-statusOf (Stuck n b) = stuckNumber
-statusOf TooLong = refusedNumber
-statusOf (BadTable i) = refusedNumber
-statusOf (BadUtf8 i) = refusedNumber
-statusOf (ListFull n b) = refusedNumber
-statusOf (ModesFull n b) = refusedNumber
+use Rattle.reading.specs.Status.{statusOf}
 
 -- what `koto_scan` ensures, of the list `new` that it leaves of the list `old`; the byte is the current byte, or the refusal's place
 pub record ScanIs (source table old new : List ℕ) (status count byte r : ℕ) : Type 0 where

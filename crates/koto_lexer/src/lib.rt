@@ -1,4 +1,4 @@
-// The public calls for C, and for whatever calls C (include/koto_lexer.h).
+// The public calls for C, and for whatever calls C (include/koto_lexer.h); the two that change a pool stand in the crate `koto_pool`.
 //
 // Each takes every input, calls the inner function of its name, and hands its answer out as numbers: the refusal's number is returned, 0
 // where there is none, and every other number goes to a place that the caller lends. All of these are written by every call, so no answer
@@ -6,8 +6,6 @@
 mod bytes;
 mod clusters;
 mod cursors;
-mod formats;
-mod pools;
 mod scans;
 mod tables;
 
@@ -16,8 +14,6 @@ pub use bytes::koto_read_char;
 pub use clusters::koto_first_cluster;
 pub use cursors::koto_next;
 pub use cursors::koto_peek;
-pub use formats::koto_parse;
-pub use pools::koto_add_string;
 pub use scans::koto_scan;
 pub use tables::koto_check_table;
 pub use tables::koto_read_table;

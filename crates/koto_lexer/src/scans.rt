@@ -1,30 +1,6 @@
 // The scan for C.
-ghost use mathlib.Core.Path.{_≡_};
-ghost use Rattle.koto_lexer.specs.Scans.{statusOf, ScanIs};
-use reading::Scanned;
+ghost use Rattle.koto_lexer.specs.Scans.{ScanIs};
 use scan::answer;
-
-// How a scan ends, as a number: what a cursor over its list carries.
-pub const END: u32 = 0;
-
-pub const STUCK: u32 = 1;
-
-// The scan was refused: a cursor made of this is refused too.
-pub const REFUSED: u32 = 2;
-
-fn status_of(scanned: Scanned) -> u32
-    ensures { λ r. ⌜ r ≡ statusOf scanned ⌝ }
-{
-    match scanned {
-        Scanned::End { count: _, byte: _ } => END,
-        Scanned::Stuck { count: _, byte: _ } => STUCK,
-        Scanned::TooLong => REFUSED,
-        Scanned::BadTable(_) => REFUSED,
-        Scanned::BadUtf8(_) => REFUSED,
-        Scanned::ListFull { count: _, byte: _ } => REFUSED,
-        Scanned::ModesFull { count: _, byte: _ } => REFUSED,
-    }
-}
 
 // Writes the records of a source at the start of the list; every word past them stays. Refused are a source that is too long with 1, then
 // a table that is unfit with 2, then ill-formed bytes with 3, each before a word is written; then a token for which there is no record with
@@ -42,7 +18,7 @@ pub extern "C" fn koto_scan(
         (now (status .exit)) (now (count .exit)) (now (byte .exit)) r ⌝ }
 {
     let scanned = scan::scan(source, table, list);
-    *status = status_of(scanned);
+    *status = answer::status_of(scanned);
     *count = answer::count_of(scanned);
     *byte = answer::place_of(scanned);
     answer::number_of(scanned)

@@ -1,6 +1,7 @@
 pub mod Cursor
 pub mod Next
 pub mod Peek
+pub mod Told
 pub mod Queue
 pub mod Calls
 pub mod CursorLaws

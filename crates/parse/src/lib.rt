@@ -4,6 +4,7 @@
 // of which there are at most two; an addition that finds no room ends the parse before anything else that was wrong, as in the Rust, where
 // it comes first. What the one pass does is the definition (specs/), and that the two stages are the same is proved.
 pub mod answer;
+pub mod numbers;
 
 ghost use mathlib.Core.Path.{_≡_};
 ghost use Prim.Native.Nat.{_+_, _≤_};

@@ -1,5 +1,6 @@
 pub mod Reading
 pub mod Scan
+pub mod Status
 pub mod ReadingLaws
 pub mod ShownLaws
 pub mod ScanLaws

@@ -1,6 +1,7 @@
-// Document 01's numbers of a scan's answer, for whoever prints it or hands it on.
+// A scan's answer, number by number, for whoever prints it or hands it on.
 ghost use mathlib.Core.Path.{_≡_};
 ghost use Rattle.reading.specs.Scan.{numberOf, placeOf, countOf};
+ghost use Rattle.reading.specs.Status.{statusOf};
 use base::refusals::BAD_TABLE;
 use base::refusals::BAD_UTF8;
 use base::refusals::LIST_FULL;
@@ -8,6 +9,14 @@ use base::refusals::MODES_FULL;
 use base::refusals::NO_REFUSAL;
 use base::refusals::TOO_LONG;
 use reading::Scanned;
+
+// How a scan ends, as a number: what a cursor over its list carries.
+pub const END: u32 = 0;
+
+pub const STUCK: u32 = 1;
+
+// The scan was refused: a cursor made of this is refused too.
+pub const REFUSED: u32 = 2;
 
 // The refusal's number; 0 where there is no refusal.
 pub fn number_of(scanned: Scanned) -> u32
@@ -51,5 +60,20 @@ pub fn count_of(scanned: Scanned) -> usize
         Scanned::BadUtf8(_) => 0,
         Scanned::ListFull { count, byte: _ } => count,
         Scanned::ModesFull { count, byte: _ } => count,
+    }
+}
+
+// How it ended.
+pub fn status_of(scanned: Scanned) -> u32
+    ensures { λ r. ⌜ r ≡ statusOf scanned ⌝ }
+{
+    match scanned {
+        Scanned::End { count: _, byte: _ } => END,
+        Scanned::Stuck { count: _, byte: _ } => STUCK,
+        Scanned::TooLong => REFUSED,
+        Scanned::BadTable(_) => REFUSED,
+        Scanned::BadUtf8(_) => REFUSED,
+        Scanned::ListFull { count: _, byte: _ } => REFUSED,
+        Scanned::ModesFull { count: _, byte: _ } => REFUSED,
     }
 }

@@ -1,4 +1,6 @@
 -- `bytes::koto_check_utf8` meets its contract: each number is that of the check. Assumes nothing.
+use mathlib.Core.Path.{ap, _∙_}
+use Rattle.utf8.specs.Answer.{numberOf, placeOf, checkCut}
 use borrow.Author.Needs.{needs}
 use Rattle.koto_lexer.proofs.bytes.koto_check_utf8.Statement.{statement}
 use Rattle.koto_lexer.proofs.bytes.koto_check_utf8.Tie as tie
@@ -16,7 +18,15 @@ check-number-requires : tie.Need-check-number-requires
 check-number-requires c κs = search needs
 
 returns : tie.Need-returns
-returns c = record { number = cc; place-is = cc; cut-is = cc }
+returns c =
+    let at-cut = c .before in
+    let at-place = at-cut .before in
+    let e = at-place .before .check-utf8 .ensures in
+    record {
+      number = c .check-number .ensures ∙ ap numberOf e;
+      place-is = at-place .check-place .ensures ∙ ap placeOf e;
+      cut-is = at-cut .check-cut .ensures ∙ ap checkCut e;
+    }
 
 pub koto-check-utf8-spec : {M : Type 1} → statement M
 koto-check-utf8-spec =

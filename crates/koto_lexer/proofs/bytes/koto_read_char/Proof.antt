@@ -1,4 +1,7 @@
 -- `bytes::koto_read_char` meets its contract: each number is that of what was read. Assumes nothing.
+use mathlib.Core.Path.{ap, _∙_}
+use Rattle.utf8.specs.Lengths.{lenOf}
+use Rattle.utf8.specs.Answer.{readNumber, codeOf, cutOf}
 use borrow.Author.Needs.{needs}
 use Rattle.koto_lexer.proofs.bytes.koto_read_char.Statement.{statement}
 use Rattle.koto_lexer.proofs.bytes.koto_read_char.Tie as tie
@@ -19,7 +22,17 @@ read-number-requires : tie.Need-read-number-requires
 read-number-requires c κs = search needs
 
 returns : tie.Need-returns
-returns c = record { number = cc; code-is = cc; len-is = cc; cut-is = cc }
+returns c =
+    let at-cut = c .before in
+    let at-len = at-cut .before in
+    let at-code = at-len .before in
+    let e = at-code .before .read-char .ensures in
+    record {
+      number = c .read-number .ensures ∙ ap readNumber e;
+      code-is = at-code .read-code .ensures ∙ ap codeOf e;
+      len-is = at-len .read-len .ensures ∙ ap lenOf e;
+      cut-is = at-cut .read-cut .ensures ∙ ap cutOf e;
+    }
 
 pub koto-read-char-spec : {M : Type 1} → statement M
 koto-read-char-spec =

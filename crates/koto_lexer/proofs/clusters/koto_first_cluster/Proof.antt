@@ -1,4 +1,6 @@
 -- `clusters::koto_first_cluster` meets its contract: each number is that of the answer. Assumes nothing.
+use mathlib.Core.Path.{ap, _∙_}
+use Rattle.cluster.specs.Call.{numberOf, placeOf, lenOf}
 use borrow.Author.Needs.{needs}
 use Rattle.koto_lexer.proofs.clusters.koto_first_cluster.Statement.{statement}
 use Rattle.koto_lexer.proofs.clusters.koto_first_cluster.Tie as tie
@@ -16,7 +18,15 @@ number-of-requires : tie.Need-number-of-requires
 number-of-requires c κs = search needs
 
 returns : tie.Need-returns
-returns c = record { number = cc; len-is = cc; place-is = cc }
+returns c =
+    let at-place = c .before in
+    let at-len = at-place .before in
+    let e = at-len .before .first-cluster .ensures in
+    record {
+      number = c .number-of .ensures ∙ ap numberOf e;
+      len-is = at-len .len-of .ensures ∙ ap lenOf e;
+      place-is = at-place .place-of .ensures ∙ ap placeOf e;
+    }
 
 pub koto-first-cluster-spec : {M : Type 1} → statement M
 koto-first-cluster-spec =

@@ -1,8 +1,5 @@
 -- `cursors::koto_next` meets its contract: each number is that of the inner call's answer. Assumes nothing.
-use mathlib.Core.Path.{ap, _∙_}
-use Rattle.lookahead.specs.Next as next
-use Rattle.lookahead.specs.declared.Given.{Given}
-use Rattle.koto_lexer.specs.Cursors.{wordsOf, givenShown, givenRow, givenTaken, givenQueued}
+use Rattle.koto_lexer.specs.CursorsLaws.{next-told}
 use borrow.Author.Needs.{needs}
 use Rattle.koto_lexer.proofs.cursors.koto_next.Statement.{statement}
 use Rattle.koto_lexer.proofs.cursors.koto_next.Tie as tie
@@ -39,17 +36,15 @@ returns c =
     let at-shown = at-row .before .before in
     let at-queued = at-shown .before in
     let at-taken = at-queued .before in
-    let told = at-taken .before in
-    let start = told .before .before .before .before in
-    let e = told .next-by .ensures in
-    record {
-      number = c .given-number .ensures ∙ ap next.numberOf e;
-      taken-is = at-taken .given-taken .ensures ∙ ap (λ (g : Given). givenTaken g (start .args .taken .now)) e;
-      queued-is = at-queued .given-queued .ensures ∙ ap (λ (g : Given). givenQueued g (start .args .queued .now)) e;
-      shown-is = at-shown .given-shown .ensures ∙ ap givenShown e;
-      words-are = at-record .put-record .ensures ∙ ap wordsOf (at-row .given-row .ensures ∙ ap givenRow e);
-      place-is = at-place .given-place .ensures ∙ ap next.placeOf e;
-    }
+    next-told
+    (at-taken .before .next-by .ensures)
+    (at-taken .given-taken .ensures)
+    (at-queued .given-queued .ensures)
+    (at-shown .given-shown .ensures)
+    (at-row .given-row .ensures)
+    (at-record .put-record .ensures)
+    (at-place .given-place .ensures)
+    (c .given-number .ensures)
 
 pub koto-next-spec : {M : Type 1} → statement M
 koto-next-spec =

@@ -1,8 +1,5 @@
 -- `cursors::koto_peek` meets its contract: each number is that of the inner call's answer. Assumes nothing.
-use mathlib.Core.Path.{ap, _∙_}
-use Rattle.lookahead.specs.Peek as peek
-use Rattle.lookahead.specs.declared.Peeked.{Peeked}
-use Rattle.koto_lexer.specs.Cursors.{wordsOf, peekedShown, peekedRow, peekedQueued}
+use Rattle.koto_lexer.specs.CursorsLaws.{peek-told}
 use borrow.Author.Needs.{needs}
 use Rattle.koto_lexer.proofs.cursors.koto_peek.Statement.{statement}
 use Rattle.koto_lexer.proofs.cursors.koto_peek.Tie as tie
@@ -35,16 +32,14 @@ returns c =
     let at-row = at-record .before in
     let at-shown = at-row .before .before in
     let at-queued = at-shown .before in
-    let told = at-queued .before in
-    let start = told .before .before .before in
-    let e = told .peek-by .ensures in
-    record {
-      number = c .peeked-number .ensures ∙ ap peek.numberOf e;
-      queued-is = at-queued .peeked-queued .ensures ∙ ap (λ (p : Peeked). peekedQueued p (start .args .queued .now)) e;
-      shown-is = at-shown .peeked-shown .ensures ∙ ap peekedShown e;
-      words-are = at-record .put-record .ensures ∙ ap wordsOf (at-row .peeked-row .ensures ∙ ap peekedRow e);
-      place-is = at-place .peeked-place .ensures ∙ ap peek.placeOf e;
-    }
+    peek-told
+    (at-queued .before .peek-by .ensures)
+    (at-queued .peeked-queued .ensures)
+    (at-shown .peeked-shown .ensures)
+    (at-row .peeked-row .ensures)
+    (at-record .put-record .ensures)
+    (at-place .peeked-place .ensures)
+    (c .peeked-number .ensures)
 
 pub koto-peek-spec : {M : Type 1} → statement M
 koto-peek-spec =

@@ -1,7 +1,7 @@
 -- `cursors::next_by` meets its contract: the status is what its number names, and the inner call does the rest. Assumes nothing.
 use borrow.Author.Needs.{needs}
 use borrow.Author.Tests.{ne-eqb}
-use Rattle.koto_lexer.specs.Scans.{endNumber, stuckNumber}
+use Rattle.reading.specs.Status.{endNumber, stuckNumber}
 use Rattle.koto_lexer.proofs.cursors.next_by.Statement.{statement}
 use Rattle.koto_lexer.proofs.cursors.next_by.Tie as tie
 

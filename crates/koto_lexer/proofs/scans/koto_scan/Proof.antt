@@ -1,4 +1,7 @@
 -- `scans::koto_scan` meets its contract: each number is that of the scan's answer, and the list is as it left it. Assumes nothing.
+use mathlib.Core.Path.{ap, _∙_}
+use Rattle.reading.specs.Scan.{numberOf, placeOf, countOf}
+use Rattle.reading.specs.Status.{statusOf}
 use borrow.Author.Needs.{needs}
 use Rattle.koto_lexer.proofs.scans.koto_scan.Statement.{statement}
 use Rattle.koto_lexer.proofs.scans.koto_scan.Tie as tie
@@ -22,7 +25,18 @@ same-length : tie.Need-same-length
 same-length c = search needs
 
 returns : tie.Need-returns
-returns c = record { number = cc; status-is = cc; count-is = cc; byte-is = cc; words = cc }
+returns c =
+    let at-byte = c .before in
+    let at-count = at-byte .before in
+    let at-status = at-count .before in
+    let scan = at-status .before .before .before .scan .ensures in
+    record {
+      number = c .number-of .ensures ∙ ap numberOf (scan .answer);
+      status-is = at-status .status-of .ensures ∙ ap statusOf (scan .answer);
+      count-is = at-count .count-of .ensures ∙ ap countOf (scan .answer);
+      byte-is = at-byte .place-of .ensures ∙ ap placeOf (scan .answer);
+      words = scan .words;
+    }
 
 pub koto-scan-spec : {M : Type 1} → statement M
 koto-scan-spec =

@@ -1,4 +1,6 @@
 -- `tables::koto_check_table` meets its contract: each number is that of the check. Assumes nothing.
+use mathlib.Core.Path.{ap, _∙_}
+use Rattle.fitness.specs.Fit.{numberOf, placeOf}
 use borrow.Author.Needs.{needs}
 use Rattle.koto_lexer.proofs.tables.koto_check_table.Statement.{statement}
 use Rattle.koto_lexer.proofs.tables.koto_check_table.Tie as tie
@@ -13,7 +15,13 @@ check-number-requires : tie.Need-check-number-requires
 check-number-requires c κs = search needs
 
 returns : tie.Need-returns
-returns c = record { number = cc; place-is = cc }
+returns c =
+    let at-place = c .before in
+    let e = at-place .before .check-table .ensures in
+    record {
+      number = c .check-number .ensures ∙ ap numberOf e;
+      place-is = at-place .check-place .ensures ∙ ap placeOf e;
+    }
 
 pub koto-check-table-spec : {M : Type 1} → statement M
 koto-check-table-spec =
