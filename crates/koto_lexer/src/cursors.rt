@@ -6,8 +6,8 @@ use lookahead::Given;
 use lookahead::Peeked;
 use lookahead::Status;
 use lookahead::answer;
-use scan::answer::END;
-use scan::answer::STUCK;
+use reading::answer::END;
+use reading::answer::STUCK;
 
 fn cursor_of(taken: usize, queued: usize, count: usize, status: Status) -> Cursor
     ensures { λ r. ⌜ r ≡ cursorOf taken queued count status ⌝ }

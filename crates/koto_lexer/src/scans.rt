@@ -1,6 +1,6 @@
 // The scan for C.
 ghost use Rattle.koto_lexer.specs.Scans.{ScanIs};
-use scan::answer;
+use reading::answer;
 
 // Writes the records of a source at the start of the list; every word past them stays. Refused are a source that is too long with 1, then
 // a table that is unfit with 2, then ill-formed bytes with 3, each before a word is written; then a token for which there is no record with

@@ -2,9 +2,9 @@
 // space between two of them. This crate knows no source and no table.
 use libc::STDOUT_FILENO;
 use reading::Scanned;
+use reading::answer;
 use rows::Row;
 use rows::RowAt;
-use scan::answer;
 ghost use mathlib.Core.Path.{_≡_};
 ghost use Prim.Native.Nat.{_<_, _≤_};
 ghost use Rattle.rows.specs.Row.{room};

@@ -22,6 +22,7 @@ use Rattle.fitness.specs.Fit.{tableCheck}
 use Rattle.fitness.specs.FitLaws.{FitTable, fit-of}
 use Rattle.fitness.specs.declared.TableCheck.the-variants.{Fit}
 use Rattle.input.specs.Input.{baseEdition}
+use Rattle.input.specs.InputLaws.{is-fine}
 use Rattle.rows.specs.declared.Row.{Row}
 use Rattle.state.specs.Lexer.{reachOf}
 use Rattle.state.specs.State.{startState}
@@ -78,12 +79,12 @@ module _ (s table : List ℕ) (edition : ℕ) (fit : FitTable table) where
 
   module _ (st : State) (ok : Ok s st) (nest : Nested st) where
     by-what : (go : State → Reading) (w : What) → step (propertiesAt table) edition s st .what ≡ w
-        → (measure s (next st) < measure s st → Rest s (next st) (go (next st))) → Rest s st (afterStep go (next st) w)
+        → (measure s (next st) < measure s st → Rest s (next st) (go (next st))) → Rest s st (afterStep go (st .lexer) (next st) w)
     unfolding Chained CutOnly endOf
     by-what go (what.Token u) e ih =
         let r = ih (step-falls s table edition fit st ok u e) in
         let t = token-reads s table edition fit st ok u e in
-        let row = rowOf u (next st .lexer) in
+        let row = rowOf u (st .lexer) (next st .lexer) in
         let from : row .start ≡ reachOf (st .lexer) .byte .0 = ap (λ (b : ByteOffset). b .0) (t .joins .bytes) in
         let joined : Joined (reachOf (st .lexer) .byte .0) (st .lexer .place .span .end .line) (st .lexer .place .span .end .column .0) row =
         record {
@@ -180,4 +181,4 @@ pub never-full : (source table : List ℕ) (n : ℕ) → length source ≤ sourc
 unfolding scanned
 never-full source table n h fit w room e =
     has-room source n (readingOf source table) (reading-is-whole source table baseEdition h w (fit-of table fit)) room
-    (rw (le-ltb sourceMost (length source) h, fit, fine-of-well 0 source w) at e)
+    (rw (is-fine sourceMost source table (record { short = h; fit = fit; well = w })) at e)

@@ -26,7 +26,7 @@ use Rattle.stepping.specs.InvariantLaws.{start-ok}
 use Rattle.reading.specs.Reading.{Stop, ended, stuck}
 use Rattle.reading.specs.Scan.{readingOf, Scans}
 use Rattle.reading.specs.ShownLaws.{reading-shown, stuck-some}
-use Rattle.reading.specs.WholeLaws.{Whole, end-whole, stuck-whole}
+use Rattle.reading.specs.WholeLaws.{ReadWhole, end-whole, stuck-whole}
 use Rattle.reading.specs.declared.Scanned.{Scanned}
 use Rattle.reading.specs.declared.Scanned.the-variants as scanned
 use Rattle.lookahead.specs.Cursor.{queueMost, fitBy, isFit, startCursor, recordAt, ahead}
@@ -295,15 +295,15 @@ module _ (old : List ℕ) (rows : List Row) (status : Status) (h : length rows �
       }
 
 -- the rows of a source that is read whole
-whole-shown : (source table : List ℕ) (room n : ℕ) (stop : Stop) → Whole source table room n stop → (i : ℕ) (d : Row)
+whole-shown : (source table : List ℕ) (room n : ℕ) (stop : Stop) → ReadWhole source table room n stop → (i : ℕ) (d : Row)
     → i < length (readingOf source table .rows) → rowFits (getD (readingOf source table .rows) i d) ≡ true
 whole-shown source table room n stop w =
-    reading-shown source table baseEdition (property.fit-of table (w .fit)) startState
-    (start-ok source (w .small) (well-of-fine 0 source (w .well)))
+    reading-shown source table baseEdition (property.fit-of table (w .readable .fit)) startState
+    (start-ok source (w .readable .short) (w .readable .well))
 
 module _ (source table old new : List ℕ) where
   -- from what was read whole and written
-  from-whole : (n : ℕ) (stop : Stop) (status : Status) (c : Cursor) → Whole source table (room old) n stop
+  from-whole : (n : ℕ) (stop : Stop) (status : Status) (c : Cursor) → ReadWhole source table (room old) n stop
       → new ≡ putRows old (readingOf source table .rows) → c ≡ startCursor n status → (status ≡ Stuck → stop ≡ stuck)
       → HandsOut new (readingOf source table .rows) c
   from-whole n stop status c w p e k =

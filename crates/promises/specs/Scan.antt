@@ -6,10 +6,10 @@ use mathlib.Core.Path.{_≡_}
 use mathlib.Core.List.{List}
 use lib.ListN.{length, take}
 use Rattle.base.specs.Refusal.{none, tooLong, badTable, badUtf8, listFull, modesFull, sourceMost}
-use Rattle.utf8.specs.Encode.{WellFormed}
 use Rattle.utf8.specs.Meaning.{Longest}
 use Rattle.fitness.specs.Fit.{tableCheck}
 use Rattle.fitness.specs.declared.TableCheck.the-variants.{Fit, BadTable}
+use Rattle.input.specs.Input as input
 use Rattle.rows.specs.Row.{room, putRows}
 use Rattle.rows.specs.declared.Row.{Row}
 use Rattle.reading.specs.Reading as reading
@@ -29,9 +29,7 @@ pub data Status : Type 0 where
 abbrev pub statusOf : Scanned → Status
 statusOf (answer.End n b) = end
 statusOf (answer.Stuck n b) = stuck
-statusOf answer.TooLong = refused
-statusOf (answer.BadTable i) = refused
-statusOf (answer.BadUtf8 i) = refused
+statusOf (answer.Refused x) = refused
 statusOf (answer.ListFull n b) = refused
 statusOf (answer.ModesFull n b) = refused
 
@@ -55,10 +53,8 @@ refuses number place count = record { status = refused; count = count; said = sa
 -- ---- the promise
 
 -- refusals 1, 2 and 3 are not given
-pub record Readable (source table : List ℕ) : Type 0 where
-  pub short : length source ≤ sourceMost
-  pub fit : tableCheck table ≡ Fit
-  pub well : WellFormed source
+abbrev pub Readable : List ℕ → List ℕ → Type 0
+Readable source table = input.Readable sourceMost source table
 
 -- the records of the source's reading, and why it stops
 abbrev pub rows : List ℕ → List ℕ → List Row

@@ -6,30 +6,21 @@
 use Prim.Native.Nat.{ℕ, _+_, _-_, _<_, _≤_}
 use native.Mathlib.Omega.{arith}
 use mathlib.Core.Path.{_≡_, refl, sym, ap, subst, _∙_}
-use mathlib.Core.Bool.{Bool, true, false}
 use mathlib.Core.List.{List, []}
 use lib.Dec.{ltb}
 use lib.ListN.{length, take}
 use lib.Seq.{take-all, length-take-le}
 use borrow.Author.Tests.{lt-ltb, le-ltb}
-use Rattle.base.specs.Pick.{pick}
 use Rattle.base.specs.PickLaws.{by-test, by-lt, split-lt}
 use Rattle.base.specs.Refusal.{listFull, sourceMost}
-use Rattle.utf8.specs.Chars.{checkFrom}
-use Rattle.utf8.specs.CharsLaws.{fine-of-well}
-use Rattle.utf8.specs.Meaning.{Longest}
-use Rattle.utf8.specs.MeaningLaws.{check-is, ill-formed}
-use Rattle.utf8.specs.declared.Utf8Check.{Utf8Check}
-use Rattle.utf8.specs.declared.Utf8Check.the-variants as utf8
-use Rattle.fitness.specs.Fit.{tableCheck}
-use Rattle.fitness.specs.declared.TableCheck.{TableCheck}
-use Rattle.fitness.specs.declared.TableCheck.the-variants.{Fit, BadTable}
+use Rattle.input.specs.Input.{inputCheck}
+use Rattle.input.specs.InputLaws.{is-long, is-table, is-ill, is-fine, by-input}
 use Rattle.rows.specs.Row.{room, putRows, putRowsAt}
 use Rattle.rows.specs.RowLaws.{rows-one-by-one}
 use Rattle.rows.specs.declared.Row.{Row}
 use Rattle.reading.specs.Reading as reading
-use Rattle.reading.specs.Scan.{endOf, whole, byRoom, onTable, onUtf8, readingOf, scanned, writtenBy, written, Scans, numberOf, countOf}
-use Rattle.reading.specs.ScanLaws.{scans-long, scans-bad-table, scans-bad, scans-cut, scans-fine, one-answer}
+use Rattle.reading.specs.Scan.{endOf, whole, byRoom, readingOf, scanned, writtenBy, written, Scans, numberOf, countOf}
+use Rattle.reading.specs.ScanLaws.{scans-refused, scans-fine, one-answer}
 use Rattle.reading.specs.declared.Scanned.{Scanned}
 use Rattle.reading.specs.declared.Scanned.the-variants as answer
 use Rattle.promises.specs.Scan.{scanSays, Readable, rows, stop, ScanPromise}
@@ -61,16 +52,10 @@ module _ (source table old : List ℕ) where
   abbrev n : ℕ
   n = room old
 
-  -- wrong bytes and cut ones alike
-  ill : length source ≤ sourceMost → tableCheck table ≡ Fit → (i : ℕ) → Longest source i → Scans source table old (answer.BadUtf8 i) old
-  ill h f i l =
-      ill-formed source i (λ (c : Utf8Check). checkFrom 0 source ≡ c → Scans source table old (answer.BadUtf8 i) old) (checkFrom 0 source) l
-      (check-is source (checkFrom 0 source) refl) (λ e. scans-bad h f e) (λ e. scans-cut h f e) refl
-
   -- where no refusal of 1 to 3 is given
   read : Readable source table
       → Scans source table old (byRoom n 0 0 (readingOf source table)) (putRowsAt old 0 (take (n - 0) (rows source table)))
-  read g = scans-fine (g .short) (g .fit) (fine-of-well 0 source (g .well)) refl (record { answer = refl; words = refl })
+  read g = scans-fine (is-fine sourceMost source table g) refl (record { answer = refl; words = refl })
 
   module _ (r : Scanned) (new : List ℕ) (p : Scans source table old r new) where
     -- a refusal that writes nothing
@@ -91,9 +76,9 @@ module _ (source table old : List ℕ) where
         let k : ℕ = length (rows source table) in
         let z : n - 0 ≡ n = omega arith in
         record {
-          too-long = λ h. kept (scans-long h);
-          bad-table = λ h i e. kept (scans-bad-table h e);
-          bad-utf8 = λ h f i l. kept (ill h f i l);
+          too-long = λ h. kept (scans-refused (is-long sourceMost source table h));
+          bad-table = λ h i e. kept (scans-refused (is-table sourceMost source table h i e));
+          bad-utf8 = λ h f i l. kept (scans-refused (is-ill sourceMost source table h f i l));
           ended = λ g e h. ap scanSays (by-stop g e h);
           is-stuck = λ g e h. ap scanSays (by-stop g e h);
           list-full = λ g h. ap scanSays (by-reading g ∙ not-all-fit n (readingOf source table) h);
@@ -106,30 +91,6 @@ module _ (source table old : List ℕ) where
 pub scan-has-one-answer : (source table old : List ℕ) (r q : Scanned) (new other : List ℕ) → Scans source table old r new
     → Scans source table old q other → (r ≡ q) × (new ≡ other)
 scan-has-one-answer source table old r q new other a b = one-answer source table old r q new other a b
-
--- ---- any answer, by its cases
-
--- what refusals 1 to 3 make of an answer
-abbrev refusing : List ℕ → List ℕ → Scanned → Scanned
-refusing source table r = pick (ltb sourceMost (length source)) answer.TooLong (onTable (tableCheck table) (onUtf8 (checkFrom 0 source) r))
-
--- they give one answer to all, or leave each as it is
-by-refusals : (P : (Scanned → Scanned) → Type 0) (source table : List ℕ)
-    → ((x : Scanned) → ((rows : List Row) → writtenBy x rows ≡ []) → countOf x ≡ 0 → P (λ _. x)) → P (λ r. r) → P (refusing source table)
-by-refusals P source table f g = by-length (ltb sourceMost (length source))
-  where
-    by-bytes : (c : Utf8Check) → P (λ r. onUtf8 c r)
-    by-bytes utf8.Fine = g
-    by-bytes (utf8.BadAt i) = f (answer.BadUtf8 i) (λ _. refl) refl
-    by-bytes (utf8.CutAt i) = f (answer.BadUtf8 i) (λ _. refl) refl
-
-    by-table : (t : TableCheck) (c : Utf8Check) → P (λ r. onTable t (onUtf8 c r))
-    by-table Fit c = by-bytes c
-    by-table (BadTable i) c = f (answer.BadTable i) (λ _. refl) refl
-
-    by-length : (b : Bool) → P (λ r. pick b answer.TooLong (onTable (tableCheck table) (onUtf8 (checkFrom 0 source) r)))
-    by-length true = f answer.TooLong (λ _. refl) refl
-    by-length false = by-table (tableCheck table) (checkFrom 0 source)
 
 -- ---- the count
 
@@ -153,8 +114,8 @@ counted : (source table : List ℕ) (n : ℕ) → countOf (scanned source table 
 unfolding scanned written
 counted source table n =
     let q : reading.Reading = readingOf source table in
-    by-refusals (λ (g : Scanned → Scanned). Counts n q (g (byRoom n 0 0 q))) source table
-    (λ x w c. c ∙ ap length (sym (w (take n (q .rows))))) (room-counts n q)
+    by-input answer.Refused (λ (g : Scanned → Scanned). Counts n q (g (byRoom n 0 0 q))) (inputCheck sourceMost source table) (λ _. refl)
+    (room-counts n q)
 
 pub count-is-written : (source table old : List ℕ) (r : Scanned) (new : List ℕ) → Scans source table old r new
     → countOf r ≡ length (written source table (room old))
@@ -187,8 +148,8 @@ module _ (source table : List ℕ) (m n : ℕ) (le : m ≤ n) where
   unfolding scanned
   agree =
       let q : reading.Reading = readingOf source table in
-      by-refusals (λ (g : Scanned → Scanned). Agree m n le q (g (byRoom m 0 0 q)) (g (byRoom n 0 0 q))) source table
-      (λ x w _ _. (refl, w (take n (q .rows)) ∙ sym (w (take m (q .rows))))) (room-agrees m n le q)
+      by-input answer.Refused (λ (g : Scanned → Scanned). Agree m n le q (g (byRoom m 0 0 q)) (g (byRoom n 0 0 q)))
+      (inputCheck sourceMost source table) (λ x _. (refl, refl)) (room-agrees m n le q)
 
   same-rows : (numberOf (scanned source table m) ≡ listFull → ⊥) → written source table n ≡ written source table m
   unfolding written

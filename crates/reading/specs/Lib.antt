@@ -1,11 +1,12 @@
 pub mod Reading
 pub mod Scan
 pub mod Status
+pub mod Potential
 pub mod ReadingLaws
 pub mod ShownLaws
 pub mod ScanLaws
 pub mod WholeLaws
-pub mod Potential
+pub mod GoingLaws
 pub mod PaidLaws
 pub mod WorthLaws
 pub mod PotentialLaws

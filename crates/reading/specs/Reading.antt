@@ -17,9 +17,10 @@ use Rattle.lexer.specs.declared.What.the-variants as what
 
 -- ---- records
 
--- `LexedToken`: a token with the bytes, the span and the indent that the lexer has after it
-abbrev pub rowOf : Token → Lexer → Row
-rowOf t l =
+-- `LexedToken`: a token with the bytes, the span and the indent that the lexer l has after it. What it may tell of the lexer before it comes in
+-- too: document 02 asks for the depth there
+abbrev pub rowOf : Token → Lexer → Lexer → Row
+rowOf t before l =
     record {
       kind = t .kind;
       detail = t .detail;
@@ -52,26 +53,26 @@ abbrev pub onto : Row → Reading → Reading
 onto row r = record { rows = row ∷ r .rows; stop = r .stop }
 
 -- an Error that advanced nothing is the last record; l is the lexer after it
-abbrev pub stuckReading : Lexer → Reading
-stuckReading l = record { rows = rowOf (plainToken error) l ∷ []; stop = stuck }
+abbrev pub stuckReading : Lexer → Lexer → Reading
+stuckReading before l = record { rows = rowOf (plainToken error) before l ∷ []; stop = stuck }
 
 -- nothing more is read
 abbrev pub stopped : Stop → Reading
 stopped why = record { rows = []; stop = why }
 
--- what a step found, the state after it, and what `go` reads from there
-abbrev pub afterStep : (State → Reading) → State → What → Reading
-afterStep go after (what.Token t) = onto (rowOf t (after .lexer)) (go after)
-afterStep go after what.Stuck = stuckReading (after .lexer)
-afterStep go after what.ModesFull = stopped deep
-afterStep go after what.End = stopped ended
+-- what a step found, the lexer before it, the state after it, and what `go` reads from there
+abbrev pub afterStep : (State → Reading) → Lexer → State → What → Reading
+afterStep go before after (what.Token t) = onto (rowOf t before (after .lexer)) (go after)
+afterStep go before after what.Stuck = stuckReading before (after .lexer)
+afterStep go before after what.ModesFull = stopped deep
+afterStep go before after what.End = stopped ended
 
 -- the reading from a state, in so many steps. `readFrom` gives it one more than can be taken: `ReadingLaws.reading-step` is its equation, in
 -- which no steps are counted
 unfoldable pub readIn : ℕ → (ℕ → ℕ) → ℕ → List ℕ → State → Reading
 readIn zero look edition s st = stopped ended
 readIn (suc n) look edition s st =
-    afterStep (λ after. readIn n look edition s after) (step look edition s st .state) (step look edition s st .what)
+    afterStep (λ after. readIn n look edition s after) (st .lexer) (step look edition s st .state) (step look edition s st .what)
 
 unfoldable pub readFrom : (ℕ → ℕ) → ℕ → List ℕ → State → Reading
 readFrom look edition s st = readIn (suc (measure s st)) look edition s st

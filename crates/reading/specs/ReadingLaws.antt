@@ -27,9 +27,9 @@ module _ (s table : List ℕ) (edition : ℕ) (fit : FitTable table) where
   -- two ways to read on that agree wherever a token leads
   after-same : (go other : State → Reading) (st : State) (w : What) → step (propertiesAt table) edition s st .what ≡ w
       → ((t : State) → measure s t < measure s st → Ok s t → go t ≡ other t) → Ok s st
-      → afterStep go (next st) w ≡ afterStep other (next st) w
+      → afterStep go (st .lexer) (next st) w ≡ afterStep other (st .lexer) (next st) w
   after-same go other st (what.Token u) e h ok =
-      ap (onto (rowOf u (next st .lexer))) (h (next st) (step-falls s table edition fit st ok u e) (step-ok s table edition fit st ok))
+      ap (onto (rowOf u (st .lexer) (next st .lexer))) (h (next st) (step-falls s table edition fit st ok u e) (step-ok s table edition fit st ok))
   after-same go other st what.Stuck e h ok = refl
   after-same go other st what.ModesFull e h ok = refl
   after-same go other st what.End e h ok = refl
@@ -44,7 +44,7 @@ module _ (s table : List ℕ) (edition : ℕ) (fit : FitTable table) where
 
   pub reading-step : (st : State) → Ok s st
       → readFrom (propertiesAt table) edition s st
-      ≡ afterStep (readFrom (propertiesAt table) edition s) (next st) (step (propertiesAt table) edition s st .what)
+      ≡ afterStep (readFrom (propertiesAt table) edition s) (st .lexer) (next st) (step (propertiesAt table) edition s st .what)
   unfolding readFrom readIn
   reading-step st ok =
       after-same (in-steps (measure s st)) (readFrom (propertiesAt table) edition s) st (step (propertiesAt table) edition s st .what) refl

@@ -7,22 +7,17 @@ use mathlib.Core.List.{List, [], _∷_}
 use lib.Dec.{ltb}
 use lib.ListN.{length, take}
 use Rattle.base.specs.Pick.{pick}
-use Rattle.base.specs.Refusal.{none, tooLong, badTable, badUtf8, listFull, modesFull, sourceMost}
-use Rattle.utf8.specs.Chars.{checkFrom}
-use Rattle.utf8.specs.declared.Utf8Check.{Utf8Check}
-use Rattle.utf8.specs.declared.Utf8Check.the-variants as utf8
+use Rattle.base.specs.Refusal.{none, listFull, modesFull, sourceMost}
 use Rattle.property.specs.Table.{propertiesAt}
-use Rattle.fitness.specs.Fit.{tableCheck}
-use Rattle.fitness.specs.declared.TableCheck.{TableCheck}
-use Rattle.fitness.specs.declared.TableCheck.the-variants as table
-use Rattle.input.specs.Input.{baseEdition}
+use Rattle.input.specs.Input as input
+use Rattle.input.specs.Input.{baseEdition, inputCheck, onInput}
 use Rattle.rows.specs.Row.{room, putRows, putRowsAt}
 use Rattle.rows.specs.declared.Row.{Row}
 use Rattle.state.specs.Lexer.{reachOf}
 use Rattle.state.specs.declared.State.{State}
 use Rattle.reading.specs.Reading.{Stop, ended, stuck, deep, Reading, readFrom, reading}
 use Rattle.reading.specs.declared.Scanned.{Scanned}
-use Rattle.reading.specs.declared.Scanned.the-variants.{End, Stuck, TooLong, BadTable, BadUtf8, ListFull, ModesFull}
+use Rattle.reading.specs.declared.Scanned.the-variants.{End, Stuck, Refused, ListFull, ModesFull}
 
 -- ---- by the room
 
@@ -55,17 +50,6 @@ ReadsOn look edition s st k old r new = Fills old k (reachOf (st .lexer) .byte .
 
 -- ---- a scan
 
--- r, where the table is fit
-abbrev pub onTable : TableCheck → Scanned → Scanned
-onTable table.Fit r = r
-onTable (table.BadTable i) r = BadTable i
-
--- r, where the bytes are well formed; wrong bytes and cut ones are one refusal
-abbrev pub onUtf8 : Utf8Check → Scanned → Scanned
-onUtf8 utf8.Fine r = r
-onUtf8 (utf8.BadAt i) r = BadUtf8 i
-onUtf8 (utf8.CutAt i) r = BadUtf8 i
-
 -- the reading of a source with a table
 abbrev pub readingOf : List ℕ → List ℕ → Reading
 readingOf source table = reading (propertiesAt table) baseEdition source
@@ -73,14 +57,11 @@ readingOf source table = reading (propertiesAt table) baseEdition source
 -- the answer for the bytes of a source, the numbers of a table, and a list's room
 unfoldable pub scanned : List ℕ → List ℕ → ℕ → Scanned
 scanned source table n =
-    pick (ltb sourceMost (length source)) TooLong
-    (onTable (tableCheck table) (onUtf8 (checkFrom 0 source) (byRoom n 0 0 (readingOf source table))))
+    onInput Refused (inputCheck sourceMost source table) (byRoom n 0 0 (readingOf source table))
 
 -- the records that are written: none at refusals 1 to 3, or else those that have room
 abbrev pub writtenBy : Scanned → List Row → List Row
-writtenBy TooLong rows = []
-writtenBy (BadTable i) rows = []
-writtenBy (BadUtf8 i) rows = []
+writtenBy (Refused x) rows = []
 writtenBy (End n b) rows = rows
 writtenBy (Stuck n b) rows = rows
 writtenBy (ListFull n b) rows = rows
@@ -99,9 +80,7 @@ pub record Scans (source table old : List ℕ) (r : Scanned) (new : List ℕ) : 
 abbrev pub numberOf : Scanned → ℕ
 numberOf (End n b) = none
 numberOf (Stuck n b) = none
-numberOf TooLong = tooLong
-numberOf (BadTable i) = badTable
-numberOf (BadUtf8 i) = badUtf8
+numberOf (Refused x) = input.numberOf x
 numberOf (ListFull n b) = listFull
 numberOf (ModesFull n b) = modesFull
 
@@ -109,9 +88,7 @@ numberOf (ModesFull n b) = modesFull
 abbrev pub placeOf : Scanned → ℕ
 placeOf (End n b) = b
 placeOf (Stuck n b) = b
-placeOf TooLong = 0
-placeOf (BadTable i) = i
-placeOf (BadUtf8 i) = i
+placeOf (Refused x) = input.placeOf x
 placeOf (ListFull n b) = b
 placeOf (ModesFull n b) = b
 
@@ -119,8 +96,6 @@ placeOf (ModesFull n b) = b
 abbrev pub countOf : Scanned → ℕ
 countOf (End n b) = n
 countOf (Stuck n b) = n
-countOf TooLong = 0
-countOf (BadTable i) = 0
-countOf (BadUtf8 i) = 0
+countOf (Refused x) = 0
 countOf (ListFull n b) = n
 countOf (ModesFull n b) = n

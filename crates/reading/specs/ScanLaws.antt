@@ -1,6 +1,6 @@
 -- What a scan's loop and its callers may use of `Scan`.
 --     fills-none, fills-full, fills-row    a reading with no record; one that has a record and no room; one more record
---     scans-long, scans-bad-table, scans-bad, scans-cut    a scan that one of refusals 1 to 3 meets
+--     scans-refused                        a scan that one of refusals 1 to 3 meets
 --     scans-fine                           a scan that none of them meets
 --     count-room                           a scan counts no more records than the list has room for
 --     one-answer                           no second answer and no second list fits a scan
@@ -15,23 +15,20 @@ use lib.ListN.{length, take}
 use borrow.Author.Tests.{lt-ltb, le-ltb}
 use Rattle.base.specs.PickLaws.{by-test, by-lt}
 use Rattle.base.specs.Refusal.{sourceMost}
-use Rattle.utf8.specs.Chars.{checkFrom}
-use Rattle.utf8.specs.declared.Utf8Check.{Utf8Check}
-use Rattle.utf8.specs.declared.Utf8Check.the-variants as utf8
 use Rattle.property.specs.Table.{propertiesAt}
-use Rattle.fitness.specs.Fit.{tableCheck}
-use Rattle.fitness.specs.declared.TableCheck.{TableCheck}
-use Rattle.fitness.specs.declared.TableCheck.the-variants as property
-use Rattle.input.specs.Input.{baseEdition}
+use Rattle.input.specs.Input.{baseEdition, inputCheck}
+use Rattle.input.specs.InputLaws.{by-input}
+use Rattle.input.specs.declared.Refusal.{Refusal}
+use Rattle.input.specs.declared.Input.the-variants as input
 use Rattle.rows.specs.Row.{room, putRow, putRows, putRowsAt}
 use Rattle.rows.specs.RowLaws.{put-length, puts-none, puts-next, rows-none, rows-one-by-one}
 use Rattle.rows.specs.declared.Row.{Row}
 use Rattle.state.specs.State.{startState}
 use Rattle.state.specs.declared.State.{State}
 use Rattle.reading.specs.Reading.{Stop, ended, stuck, deep, Reading, onto, stopped}
-use Rattle.reading.specs.Scan.{endOf, whole, byRoom, Fills, ReadsOn, onTable, onUtf8, readingOf, scanned, writtenBy, written, Scans, countOf}
+use Rattle.reading.specs.Scan.{endOf, whole, byRoom, Fills, ReadsOn, readingOf, scanned, writtenBy, written, Scans, countOf}
 use Rattle.reading.specs.declared.Scanned.{Scanned}
-use Rattle.reading.specs.declared.Scanned.the-variants.{TooLong, BadTable, BadUtf8, ListFull}
+use Rattle.reading.specs.declared.Scanned.the-variants.{Refused, ListFull}
 
 take-none : (n : ℕ) → take {A = Row} n [] ≡ []
 take-none zero = refl
@@ -96,42 +93,28 @@ module _ {source table old : List ℕ} where
         words = sym (ap (putRows old) (ap (λ (x : Scanned). writtenBy x (take (room old) (readingOf source table .rows))) e ∙ w) ∙ rows-none old);
       }
 
-  pub scans-long : sourceMost < length source → Scans source table old TooLong old
+  pub scans-refused : {x : Refusal} → inputCheck sourceMost source table ≡ input.Refused x → Scans source table old (Refused x) old
   unfolding scanned
-  scans-long h = refused (rw (lt-ltb sourceMost (length source) h)) refl
+  scans-refused e = refused (rw e) refl
 
-  module _ (h : length source ≤ sourceMost) where
-    pub scans-bad-table : {i : ℕ} → tableCheck table ≡ property.BadTable i → Scans source table old (BadTable i) old
-    unfolding scanned
-    scans-bad-table e = refused (rw (le-ltb sourceMost (length source) h, e)) refl
-
-    module _ (fit : tableCheck table ≡ property.Fit) where
-      pub scans-bad : {i : ℕ} → checkFrom 0 source ≡ utf8.BadAt i → Scans source table old (BadUtf8 i) old
-      unfolding scanned
-      scans-bad e = refused (rw (le-ltb sourceMost (length source) h, fit, e)) refl
-
-      pub scans-cut : {i : ℕ} → checkFrom 0 source ≡ utf8.CutAt i → Scans source table old (BadUtf8 i) old
-      unfolding scanned
-      scans-cut e = refused (rw (le-ltb sourceMost (length source) h, fit, e)) refl
-
-      -- no refusal of 1 to 3: the records are read from the start
-      pub scans-fine : {st : State} {r : Scanned} {new : List ℕ} → checkFrom 0 source ≡ utf8.Fine → st ≡ startState
-          → ReadsOn (propertiesAt table) baseEdition source st 0 old r new → Scans source table old r new
-      unfolding scanned written
-      scans-fine {st} {r} {new} c q g =
-          let f : Fills old 0 0 (readingOf source table) r new =
-          subst (λ (x : State). ReadsOn (propertiesAt table) baseEdition source x 0 old r new) q g in
-          let e : scanned source table (room old) ≡ byRoom (room old) 0 0 (readingOf source table) =
-          rw (le-ltb sourceMost (length source) h, fit, c) in
-          let rows : List Row = take (room old) (readingOf source table .rows) in
-          let z : room old - 0 ≡ room old = omega arith in
-          record {
-            answer = f .answer ∙ sym e;
-            words = f .words
-                ∙ ap (λ (n : ℕ). putRowsAt old 0 (take n (readingOf source table .rows))) z
-                ∙ rows-one-by-one old rows
-                ∙ sym (ap (λ (x : Scanned). putRows old (writtenBy x rows)) e ∙ ap (putRows old) (room-writes (room old) 0 0 (readingOf source table) rows));
-          }
+  -- no refusal of 1 to 3: the records are read from the start
+  pub scans-fine : {st : State} {r : Scanned} {new : List ℕ} → inputCheck sourceMost source table ≡ input.Fine → st ≡ startState
+      → ReadsOn (propertiesAt table) baseEdition source st 0 old r new → Scans source table old r new
+  unfolding scanned written
+  scans-fine {st} {r} {new} c q g =
+      let f : Fills old 0 0 (readingOf source table) r new =
+      subst (λ (x : State). ReadsOn (propertiesAt table) baseEdition source x 0 old r new) q g in
+      let e : scanned source table (room old) ≡ byRoom (room old) 0 0 (readingOf source table) =
+      rw c in
+      let rows : List Row = take (room old) (readingOf source table .rows) in
+      let z : room old - 0 ≡ room old = omega arith in
+      record {
+        answer = f .answer ∙ sym e;
+        words = f .words
+            ∙ ap (λ (n : ℕ). putRowsAt old 0 (take n (readingOf source table .rows))) z
+            ∙ rows-one-by-one old rows
+            ∙ sym (ap (λ (x : Scanned). putRows old (writtenBy x rows)) e ∙ ap (putRows old) (room-writes (room old) 0 0 (readingOf source table) rows));
+      }
 
 -- ---- how many records a scan counts
 
@@ -148,20 +131,11 @@ module _ (n : ℕ) where
       stops stuck h = h
       stops deep h = by-test Within (ltb (k + length (r .rows)) n) (λ _. h) (λ _. h)
 
-  table-counts : (t : TableCheck) (r : Scanned) → Within r → Within (onTable t r)
-  table-counts property.Fit r h = h
-  table-counts (property.BadTable i) r h = omega arith
-
-  utf8-counts : (u : Utf8Check) (r : Scanned) → Within r → Within (onUtf8 u r)
-  utf8-counts utf8.Fine r h = h
-  utf8-counts (utf8.BadAt i) r h = omega arith
-  utf8-counts (utf8.CutAt i) r h = omega arith
-
   pub count-room : (source table : List ℕ) → countOf (scanned source table n) ≤ n
   unfolding scanned
   count-room source table =
-      by-test Within (ltb sourceMost (length source)) (λ _. omega arith)
-      (λ _. table-counts (tableCheck table) _ (utf8-counts (checkFrom 0 source) _ (room-counts 0 0 (readingOf source table))))
+      by-input Refused (λ (g : Scanned → Scanned). Within (g (byRoom n 0 0 (readingOf source table)))) (inputCheck sourceMost source table)
+      (λ _. omega arith) (room-counts 0 0 (readingOf source table))
 
 -- no second answer and no second list fits
 pub one-answer : (source table old : List ℕ) (r q : Scanned) (new other : List ℕ) → Scans source table old r new → Scans source table old q other

@@ -12,6 +12,7 @@ use Rattle.property.specs.Table.{propertiesAt}
 use Rattle.fitness.specs.FitLaws.{FitTable}
 use Rattle.rows.specs.Row.{rowFits}
 use Rattle.rows.specs.declared.Row.{Row}
+use Rattle.state.specs.declared.Lexer.{Lexer}
 use Rattle.state.specs.declared.State.{State}
 use Rattle.lexer.specs.Step.{step}
 use Rattle.stepping.specs.Invariant.{Ok, measure}
@@ -38,7 +39,7 @@ module _ (s table : List ℕ) (edition : ℕ) (fit : FitTable table) where
 
   -- after a step, if what is read on from there may be shown
   after-shown : (go : State → Reading) (st : State) → Ok s st → (w : What) → step (propertiesAt table) edition s st .what ≡ w
-      → AllShown (go (next st) .rows) → AllShown (afterStep go (next st) w .rows)
+      → AllShown (go (next st) .rows) → AllShown (afterStep go (st .lexer) (next st) w .rows)
   unfolding AllShown rowFits
   after-shown go st ok (what.Token u) e a = (token-reads s table edition fit st ok u e .shown, a)
   after-shown go st ok what.Stuck e a = (refl, tt)
@@ -60,15 +61,15 @@ module _ (s table : List ℕ) (edition : ℕ) (fit : FitTable table) where
 
 -- ---- a reading that is stuck
 
-after-some : (go : State → Reading) (after : State) (w : What) → afterStep go after w .stop ≡ stuck
-    → 0 < length (afterStep go after w .rows)
-after-some go after (what.Token u) e = omega arith
-after-some go after what.Stuck e = omega arith
-after-some go after what.ModesFull e = let z : _≡_ {A = ℕ} 0 1 = cc in absurd (omega arith)
-after-some go after what.End e = let z : _≡_ {A = ℕ} 0 1 = cc in absurd (omega arith)
+after-some : (go : State → Reading) (before : Lexer) (after : State) (w : What) → afterStep go before after w .stop ≡ stuck
+    → 0 < length (afterStep go before after w .rows)
+after-some go before after (what.Token u) e = omega arith
+after-some go before after what.Stuck e = omega arith
+after-some go before after what.ModesFull e = let z : _≡_ {A = ℕ} 0 1 = cc in absurd (omega arith)
+after-some go before after what.End e = let z : _≡_ {A = ℕ} 0 1 = cc in absurd (omega arith)
 
 pub stuck-some : (look : ℕ → ℕ) (edition : ℕ) (s : List ℕ) (st : State) → readFrom look edition s st .stop ≡ stuck
     → 0 < length (readFrom look edition s st .rows)
 unfolding readFrom readIn
 stuck-some look edition s st =
-    after-some (readIn (measure s st) look edition s) (step look edition s st .state) (step look edition s st .what)
+    after-some (readIn (measure s st) look edition s) (st .lexer) (step look edition s st .state) (step look edition s st .what)

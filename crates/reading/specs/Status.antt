@@ -2,7 +2,7 @@
 -- Assumes nothing.
 use Prim.Native.Nat.{ℕ}
 use Rattle.reading.specs.declared.Scanned.{Scanned}
-use Rattle.reading.specs.declared.Scanned.the-variants.{End, Stuck, TooLong, BadTable, BadUtf8, ListFull, ModesFull}
+use Rattle.reading.specs.declared.Scanned.the-variants.{End, Stuck, Refused, ListFull, ModesFull}
 
 -- at the end, stuck, or refused
 abbrev pub endNumber : ℕ
@@ -17,8 +17,6 @@ refusedNumber = 2
 abbrev pub statusOf : Scanned → ℕ
 statusOf (End n b) = endNumber
 statusOf (Stuck n b) = stuckNumber
-statusOf TooLong = refusedNumber
-statusOf (BadTable i) = refusedNumber
-statusOf (BadUtf8 i) = refusedNumber
+statusOf (Refused x) = refusedNumber
 statusOf (ListFull n b) = refusedNumber
 statusOf (ModesFull n b) = refusedNumber

@@ -10,44 +10,38 @@ use lib.ListN.{length, take}
 use lib.Seq.{take-all}
 use Rattle.base.specs.PickLaws.{by-test, by-lt}
 use Rattle.base.specs.Refusal.{sourceMost}
-use Rattle.utf8.specs.Chars.{checkFrom}
-use Rattle.utf8.specs.declared.Utf8Check.{Utf8Check}
-use Rattle.utf8.specs.declared.Utf8Check.the-variants as utf8
-use Rattle.fitness.specs.Fit.{tableCheck}
-use Rattle.fitness.specs.declared.TableCheck.{TableCheck}
-use Rattle.fitness.specs.declared.TableCheck.the-variants as property
+use Rattle.input.specs.Input.{inputCheck, Readable, onInput}
+use Rattle.input.specs.InputLaws.{fine-of}
+use Rattle.input.specs.declared.Input.{Input}
+use Rattle.input.specs.declared.Input.the-variants as input
 use Rattle.rows.specs.Row.{room, putRows}
 use Rattle.rows.specs.declared.Row.{Row}
 use Rattle.reading.specs.Reading.{Stop, ended, stuck, deep}
-use Rattle.reading.specs.Scan.{endOf, whole, byRoom, onTable, onUtf8, readingOf, scanned, writtenBy, written, Scans}
+use Rattle.reading.specs.Scan.{endOf, whole, byRoom, readingOf, scanned, writtenBy, written, Scans}
 use Rattle.reading.specs.declared.Scanned.{Scanned}
-use Rattle.reading.specs.declared.Scanned.the-variants.{End, Stuck, TooLong, BadTable, BadUtf8, ListFull, ModesFull}
+use Rattle.reading.specs.declared.Scanned.the-variants.{End, Stuck, Refused, ListFull, ModesFull}
 
 -- a source that is read whole, into a list with room for so many records: n of them, and how it stops
-pub record Whole (source table : List ℕ) (room n : ℕ) (stop : Stop) : Type 0 where
-  pub small : length source ≤ sourceMost
-  pub fit : tableCheck table ≡ property.Fit
-  pub well : checkFrom 0 source ≡ utf8.Fine
+pub record ReadWhole (source table : List ℕ) (room n : ℕ) (stop : Stop) : Type 0 where
+  pub readable : Readable sourceMost source table
   pub counted : n ≡ length (readingOf source table .rows)
   pub has-room : n ≤ room
   pub stops : readingOf source table .stop ≡ stop
 
 -- what an answer means, if it is no refusal
 abbrev Means : List ℕ → List ℕ → ℕ → Scanned → Type 0
-Means source table room (End n b) = Whole source table room n ended
-Means source table room (Stuck n b) = Whole source table room n stuck
-Means source table room TooLong = Unit {0}
-Means source table room (BadTable i) = Unit {0}
-Means source table room (BadUtf8 i) = Unit {0}
+Means source table room (End n b) = ReadWhole source table room n ended
+Means source table room (Stuck n b) = ReadWhole source table room n stuck
+Means source table room (Refused x) = Unit {0}
 Means source table room (ListFull n b) = Unit {0}
 Means source table room (ModesFull n b) = Unit {0}
 
 module _ (source table : List ℕ) (room : ℕ) where
-  module _ (h : length source ≤ sourceMost) (fit : tableCheck table ≡ property.Fit) (well : checkFrom 0 source ≡ utf8.Fine) where
+  module _ (g : Readable sourceMost source table) where
     by-stop : (b : ℕ) → length (readingOf source table .rows) ≤ room → (why : Stop) → readingOf source table .stop ≡ why
         → Means source table room (whole room (0 + length (readingOf source table .rows)) b why)
-    by-stop b k ended e = record { small = h; fit = fit; well = well; counted = omega arith; has-room = omega arith; stops = e }
-    by-stop b k stuck e = record { small = h; fit = fit; well = well; counted = omega arith; has-room = omega arith; stops = e }
+    by-stop b k ended e = record { readable = g; counted = omega arith; has-room = omega arith; stops = e }
+    by-stop b k stuck e = record { readable = g; counted = omega arith; has-room = omega arith; stops = e }
     by-stop b k deep e =
         by-test (Means source table room) (ltb (0 + length (readingOf source table .rows)) room) (λ _. tt) (λ _. tt)
 
@@ -58,20 +52,12 @@ module _ (source table : List ℕ) (room : ℕ) where
 
   scanned-means : Means source table room (scanned source table room)
   unfolding scanned
-  scanned-means =
-      by-lt (Means source table room) sourceMost (length source) (λ _. tt)
-      (λ h. on-table h (tableCheck table) refl)
+  scanned-means = by-check (inputCheck sourceMost source table) refl
     where
-      on-utf8 : length source ≤ sourceMost → tableCheck table ≡ property.Fit → (u : Utf8Check) → checkFrom 0 source ≡ u
-          → Means source table room (onUtf8 u (byRoom room 0 0 (readingOf source table)))
-      on-utf8 h fit utf8.Fine e = read-means h fit e
-      on-utf8 h fit (utf8.BadAt i) e = tt
-      on-utf8 h fit (utf8.CutAt i) e = tt
-
-      on-table : length source ≤ sourceMost → (t : TableCheck) → tableCheck table ≡ t
-          → Means source table room (onTable t (onUtf8 (checkFrom 0 source) (byRoom room 0 0 (readingOf source table))))
-      on-table h property.Fit e = on-utf8 h e (checkFrom 0 source) refl
-      on-table h (property.BadTable i) e = tt
+      by-check : (c : Input) → inputCheck sourceMost source table ≡ c
+          → Means source table room (onInput Refused c (byRoom room 0 0 (readingOf source table)))
+      by-check input.Fine e = read-means (fine-of sourceMost source table e)
+      by-check (input.Refused x) e = tt
 
 module _ (source table old new : List ℕ) (n b : ℕ) where
   -- all records are written
@@ -89,9 +75,9 @@ module _ (source table old new : List ℕ) (n b : ℕ) where
   meant p = subst (Means source table (room old)) (sym (p .answer)) (scanned-means source table (room old))
 
   pub end-whole : Scans source table old (End n b) new
-      → Whole source table (room old) n ended × (new ≡ putRows old (readingOf source table .rows))
+      → ReadWhole source table (room old) n ended × (new ≡ putRows old (readingOf source table .rows))
   end-whole p = let w = meant p in (w, all-written p (omega (arith, w .counted, w .has-room)) (λ rows. refl))
 
   pub stuck-whole : Scans source table old (Stuck n b) new
-      → Whole source table (room old) n stuck × (new ≡ putRows old (readingOf source table .rows))
+      → ReadWhole source table (room old) n stuck × (new ≡ putRows old (readingOf source table .rows))
   stuck-whole p = let w = meant p in (w, all-written p (omega (arith, w .counted, w .has-room)) (λ rows. refl))

@@ -1,5 +1,16 @@
-// The reading of a source by the language alone, and what a scan must answer and write (see specs/). There is no function here, so that
-// whatever scans meets the same contract without knowing how another does; there is only the type of the answer.
+// The reading of a source by the language alone, and what a scan must answer and write (see specs/). What every reader of tokens shares stands
+// here, so that whatever scans meets the same contract without knowing how another does: the type of the answer with its numbers, and a token's
+// record.
+pub mod answer;
+
+ghost use mathlib.Core.Path.{_≡_};
+ghost use Prim.Native.Nat.{_≤_};
+ghost use Rattle.base.specs.Refusal.{sourceMost};
+ghost use Rattle.reading.specs.Reading.{rowOf};
+use input::Refusal;
+use rows::Row;
+use state::Lexer;
+use token::Token;
 
 // What a scan answers (document 01, "Records" and "Refusal numbers"). `count` is how many records were written, and `byte` is the current byte.
 pub enum Scanned {
@@ -7,14 +18,31 @@ pub enum Scanned {
     End { count: usize, byte: usize },
     // The last record is an Error that advanced nothing, which the Rust repeats for ever.
     Stuck { count: usize, byte: usize },
-    // Refusal 1: the source is over 1,048,576 bytes.
-    TooLong,
-    // Refusal 2: the table is unfit, with its place.
-    BadTable(usize),
-    // Refusal 3: the bytes are ill-formed from this offset on.
-    BadUtf8(usize),
+    // One of refusals 1 to 3, before any work: a source of over 1,048,576 bytes, an unfit table, ill-formed bytes.
+    Refused(Refusal),
     // Refusal 4: a token is left to read and no record fits.
     ListFull { count: usize, byte: usize },
     // Refusal 5: a token would push a 65th mode.
     ModesFull { count: usize, byte: usize },
+}
+
+// The record of a token, from the lexer before it and after it (lexer.rs `LexedToken`). Today it tells nothing of the one before.
+pub fn row_of(token: Token, before: Lexer, after: Lexer) -> Row
+    requires { ⌜ (after .place .«previous_byte» .0 ≤ sourceMost) × (after .place .«current_byte» .0 ≤ sourceMost) ⌝ }
+    ensures { λ r. ⌜ r ≡ rowOf token before after ⌝ }
+{
+    let place = after.place;
+    let start = place.span.start;
+    let end = place.span.end;
+    Row {
+        kind: token.kind as u32,
+        detail: token.detail as u32,
+        start: place.previous_byte.0 as u32,
+        end: place.current_byte.0 as u32,
+        start_line: start.line,
+        start_column: start.column.0,
+        end_line: end.line,
+        end_column: end.column.0,
+        indent: after.indent,
+    }
 }

@@ -2,11 +2,11 @@
 // answers has, `STATUS COUNT BYTE` and the nine numbers of each record (tools/README.md). It knows nothing of how a scan comes about.
 use lines::same;
 use reading::Scanned;
+use reading::answer::count_of;
+use reading::answer::number_of;
+use reading::answer::place_of;
 use rows::Row;
 use rows::RowAt;
-use scan::answer::count_of;
-use scan::answer::number_of;
-use scan::answer::place_of;
 ghost use mathlib.Core.Path.{_≡_};
 ghost use Prim.Native.Nat.{_≤_, _<_};
 ghost use lib.ListN.{length, drop, replicate};

@@ -7,10 +7,7 @@ use Rattle.lexer.specs.StepLaws.{fits-codes}
 use Rattle.stepping.specs.Invariant.{measure}
 use Rattle.lexer.specs.declared.Half.{Half}
 use Rattle.lexer.specs.declared.What.{What}
-use Rattle.token.specs.declared.Token.{Token}
-use Rattle.rows.specs.declared.Row.{Row}
-use Rattle.reading.specs.Reading.{rowOf}
-use Rattle.scan.proofs.Going.{Going, begins, from-start, at-end, at-modes, at-full, at-stuck, keeps-is, changes-is, bounds, packs, falls, again}
+use Rattle.reading.specs.GoingLaws.{Going, begins, from-start, at-end, at-modes, at-full, at-stuck, keeps-is, changes-is, made, bounds, packs, falls, again}
 use Rattle.scan.proofs.read_on.Statement.{statement}
 use Rattle.scan.proofs.read_on.Tie as tie
 
@@ -24,10 +21,6 @@ abbrev μ-loop : tie.MeasureT-loop
 -- what the half found, by what the call answered
 told : {h k : Half} {w : What} → h ≡ k → h .what ≡ w → k .what ≡ w
 told e q = ap (λ (x : Half). x .what) (sym e) ∙ q
-
--- the record that was made, by what the call answered
-made : {h k : Half} {t : Token} {row : Row} → h ≡ k → row ≡ rowOf t (h .lexer) → row ≡ rowOf t (k .lexer)
-made {h} {k} {t} e q = q ∙ ap (λ (x : Half). rowOf t (x .lexer)) e
 
 -- ---- places: the function's start, the token that was found, that its record has room, and that it is made
 
@@ -86,7 +79,7 @@ put-row-requires c κs =
     let t = at-token r in
     let h = at-half t in (
       omega (arith, r .if1 .left, r .before .room .ensures),
-      packs (h .before .loop .inv) _ (told (h .read-half .ensures) (t .what .given .1)) (made (h .read-half .ensures) (c .row-of .ensures)),
+      packs (h .before .loop .inv) _ (told (h .read-half .ensures) (t .what .given .1)) (made (h .before .loop .inv) _ (h .read-half .ensures) (c .row-of .ensures)),
     )
 
 add-count : tie.Need-add-count Inv-loop μ-loop
@@ -111,7 +104,7 @@ loop-again c =
     let t = at-token r in
     let h = at-half t in
     again (h .before .loop .inv) _ (told (h .read-half .ensures) (t .what .given .1)) (omega (arith, r .if1 .left, r .before .room .ensures))
-    (made (h .read-half .ensures) (row .row-of .ensures)) (c .before .before .before .before .put-row .ensures)
+    (made (h .before .loop .inv) _ (h .read-half .ensures) (row .row-of .ensures)) (c .before .before .before .before .put-row .ensures)
     (keeps-is (h .before .loop .inv) (h .read-half .ensures) (c .enum-told .given .1))
 
 apply-requires : tie.Need-apply-requires Inv-loop μ-loop
@@ -133,7 +126,7 @@ loop-again-2 c =
     let t = at-token r in
     let h = at-half t in
     again (h .before .loop .inv) _ (told (h .read-half .ensures) (t .what .given .1)) (omega (arith, r .if1 .left, r .before .room .ensures))
-    (made (h .read-half .ensures) (row .row-of .ensures)) (c .before .before .before .before .before .put-row .ensures)
+    (made (h .before .loop .inv) _ (h .read-half .ensures) (row .row-of .ensures)) (c .before .before .before .before .before .put-row .ensures)
     (changes-is (h .before .loop .inv) (h .read-half .ensures) (c .apply .ensures))
 
 -- ---- the other ways out

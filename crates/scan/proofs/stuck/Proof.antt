@@ -2,7 +2,7 @@
 use native.Mathlib.Omega.{arith}
 use borrow.Author.Needs.{needs}
 use Rattle.reading.specs.ScanLaws.{fills-full}
-use Rattle.scan.proofs.Going.{error-packs, stuck-written}
+use Rattle.reading.specs.GoingLaws.{error-packs, stuck-written}
 use Rattle.scan.proofs.stuck.Statement.{statement}
 use Rattle.scan.proofs.stuck.Tie as tie
 
@@ -18,11 +18,11 @@ row-of-requires c κs = search needs
 put-row-requires : tie.Need-put-row-requires
 put-row-requires c κs = (
   omega (arith, c .before .before .before .if1 .taken, c .before .before .before .before .room .ensures),
-  error-packs (c .before .before .before .before .before .before .before .args .after) (c .before .token-of .ensures) (c .row-of .ensures),
+  error-packs (c .before .before .before .before .before .before .before .args .before) (c .before .before .before .before .before .before .before .args .after) (c .before .token-of .ensures) (c .row-of .ensures),
 )
 
-add-t14 : tie.Need-add-t14
-add-t14 c = search needs
+add-t15 : tie.Need-add-t15
+add-t15 c = search needs
 
 same-length : tie.Need-same-length
 same-length c = search needs
@@ -30,7 +30,8 @@ same-length c = search needs
 returns : tie.Need-returns
 returns c =
     let at-row = c .before .before .before in
-    stuck-written _ _ (at-row .before .before .before .before .before .before .before .args .after) (omega (arith, at-row .before .before .before .if1 .taken, at-row .before .before .before .before .room .ensures))
+    stuck-written _ _ (at-row .before .before .before .before .before .before .before .args .before)
+    (at-row .before .before .before .before .before .before .before .args .after) (omega (arith, at-row .before .before .before .if1 .taken, at-row .before .before .before .before .room .ensures))
     (at-row .before .token-of .ensures) (at-row .row-of .ensures) (c .before .before .put-row .ensures)
 
 same-length-2 : tie.Need-same-length-2
@@ -48,7 +49,7 @@ stuck-spec =
     token-of-requires
     row-of-requires
     put-row-requires
-    add-t14
+    add-t15
     same-length
     returns
     same-length-2

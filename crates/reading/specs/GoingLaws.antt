@@ -1,5 +1,10 @@
--- The loop of `read_on`, on plain values: what holds at its head, and what each way out and each turn owes. What completes the list from here
--- completes it from the start.
+-- A loop that reads on into a list, on plain values: what holds at its head (`Going`), and what each way out and each turn owes. What completes
+-- the list from here completes it from the start.
+--     row-same                                  a record is made of the lexers' place and indent alone
+--     error-packs, stuck-written                an Error that stands still
+--     begins, from-start                        into the loop
+--     at-end, at-modes, at-full, at-stuck       the ways out
+--     keeps-is, changes-is, made, bounds, packs, falls, again    a turn
 -- Assumes nothing.
 use Prim.Native.Nat.{ℕ, _+_, _≤_, _<_}
 use native.Mathlib.Omega.{arith}
@@ -35,16 +40,16 @@ use Rattle.lexer.specs.declared.Half.{Half}
 use Rattle.lexer.specs.declared.Step.{Step}
 use Rattle.lexer.specs.declared.What.{What}
 use Rattle.lexer.specs.declared.What.the-variants as what
 use Rattle.reading.specs.Reading.{rowOf, ended, stuck, deep, Reading, onto, stuckReading, stopped, afterStep, readFrom}
 use Rattle.reading.specs.Scan.{whole, Fills, ReadsOn}
 use Rattle.reading.specs.ReadingLaws.{reading-step}
 use Rattle.reading.specs.ScanLaws.{fills-none, fills-full, fills-row}
 use Rattle.reading.specs.declared.Scanned.{Scanned}
 use Rattle.reading.specs.declared.Scanned.the-variants.{End, Stuck, ListFull}
 
--- a record is made of the place and the indent alone
-row-same : (t : Token) (l m : Lexer) → Same l m → rowOf t l ≡ rowOf t m
-row-same t l m e =
+-- a record is made of the place and the indent after it alone
+pub row-same : (t : Token) (before l m : Lexer) → Same l m → rowOf t before l ≡ rowOf t before m
+row-same t before l m e =
     ap (λ (p : Place). record {
       kind = t .kind;
       detail = t .detail;
@@ -70,16 +75,16 @@ row-same t l m e =
 
 -- ---- an Error that stands still
 
-pub error-packs : (after : Lexer) {t : Token} {row : Row} → t ≡ plainToken error → row ≡ rowOf t after → Packs row
-error-packs after e q =
-    subst Packs (sym (q ∙ ap (λ (u : Token). rowOf u after) e)) (record { kind-fits = omega arith; detail-fits = omega arith })
+pub error-packs : (before after : Lexer) {t : Token} {row : Row} → t ≡ plainToken error → row ≡ rowOf t before after → Packs row
+error-packs before after e q =
+    subst Packs (sym (q ∙ ap (λ (u : Token). rowOf u before after) e)) (record { kind-fits = omega arith; detail-fits = omega arith })
 
-module _ (l : List ℕ) (k : ℕ) (after : Lexer) where
-  pub stuck-written : k < room l → {t : Token} {row : Row} {new : List ℕ} → t ≡ plainToken error → row ≡ rowOf t after → new ≡ putRow l k row
-      → Fills l k (reachOf after .byte .0) (stuckReading after) (Stuck (k + 1) (reachOf after .byte .0)) new
+module _ (l : List ℕ) (k : ℕ) (before after : Lexer) where
+  pub stuck-written : k < room l → {t : Token} {row : Row} {new : List ℕ} → t ≡ plainToken error → row ≡ rowOf t before after → new ≡ putRow l k row
+      → Fills l k (reachOf after .byte .0) (stuckReading before after) (Stuck (k + 1) (reachOf after .byte .0)) new
   stuck-written h {t} {row} {new} e q p =
-      let last : Row = rowOf (plainToken error) after in
-      let written : new ≡ putRow l k last = p ∙ ap (putRow l k) (q ∙ ap (λ (u : Token). rowOf u after) e) in
+      let last : Row = rowOf (plainToken error) before after in
+      let written : new ≡ putRow l k last = p ∙ ap (putRow l k) (q ∙ ap (λ (u : Token). rowOf u before after) e) in
       fills-row l k (reachOf after .byte .0) last (stopped stuck) (Stuck (k + 1) (reachOf after .byte .0)) new h
       (subst (λ (m : List ℕ). Fills (putRow l k last) (k + 1) (last .end) (stopped stuck) (Stuck (k + 1) (last .end)) m) (sym written)
       (fills-none (putRow l k last) (k + 1) (last .end) stuck (omega (arith, put-length l k last h))))
@@ -129,9 +134,9 @@ module _ {s table : List ℕ} {edition : ℕ} {st₀ : State} {k₀ : ℕ} {l₀
 
   -- what is left to read, by what the step found
   left-is : (w : What) → found .what ≡ w
-      → readFrom (propertiesAt table) edition s st ≡ afterStep (readFrom (propertiesAt table) edition s) next w
+      → readFrom (propertiesAt table) edition s st ≡ afterStep (readFrom (propertiesAt table) edition s) (st .lexer) next w
   left-is w e =
-      reading-step s table edition (g .fit) st (g .ok) ∙ ap (afterStep (readFrom (propertiesAt table) edition s) next) (found-is e)
+      reading-step s table edition (g .fit) st (g .ok) ∙ ap (afterStep (readFrom (propertiesAt table) edition s) (st .lexer) next) (found-is e)
 
   -- a way out
   comes : {r : Reading} {x : Scanned} {new : List ℕ} → readFrom (propertiesAt table) edition s st ≡ r → Fills l k byte r x new
@@ -150,19 +155,19 @@ module _ {s table : List ℕ} {edition : ℕ} {st₀ : State} {k₀ : ℕ} {l₀
 
   pub at-full : (u : Token) → found .what ≡ what.Token u → room l ≤ k → ReadsOn (propertiesAt table) edition s st₀ k₀ l₀ (ListFull k byte) l
   at-full u e h =
-      comes (left-is (what.Token u) e) (fills-full l k byte (rowOf u (next .lexer)) (readFrom (propertiesAt table) edition s next) (omega (arith, g .within)))
+      comes (left-is (what.Token u) e) (fills-full l k byte (rowOf u (st .lexer) (next .lexer)) (readFrom (propertiesAt table) edition s next) (omega (arith, g .within)))
 
   pub at-stuck : found .what ≡ what.Stuck → {after : Lexer} {x : Scanned} {new : List ℕ} → after ≡ found .lexer
-      → Fills l k (reachOf after .byte .0) (stuckReading after) x new → ReadsOn (propertiesAt table) edition s st₀ k₀ l₀ x new
+      → Fills l k (reachOf after .byte .0) (stuckReading (st .lexer) after) x new → ReadsOn (propertiesAt table) edition s st₀ k₀ l₀ x new
   at-stuck e {after} {x} {new} q f =
       let b : reachOf (found .lexer) .byte .0 ≡ byte =
       ap (λ (p : Place). p .«current_byte» .0) (sym (same .place) ∙ stuck-stays s table edition (g .fit) st (g .ok) (found-is e)) in
-      let r : stuckReading (found .lexer) ≡ stuckReading (next .lexer) =
-      ap (λ (row : Row). onto row (stopped stuck)) (sym (row-same (plainToken error) (next .lexer) (found .lexer) same)) in
+      let r : stuckReading (st .lexer) (found .lexer) ≡ stuckReading (st .lexer) (next .lexer) =
+      ap (λ (row : Row). onto row (stopped stuck)) (sym (row-same (plainToken error) (st .lexer) (next .lexer) (found .lexer) same)) in
       comes (left-is what.Stuck e)
-      (subst (λ (i : ℕ). Fills l k i (stuckReading (next .lexer)) x new) b
+      (subst (λ (i : ℕ). Fills l k i (stuckReading (st .lexer) (next .lexer)) x new) b
       (subst (λ (q : Reading). Fills l k (reachOf (found .lexer) .byte .0) q x new) r
-      (subst (λ (m : Lexer). Fills l k (reachOf m .byte .0) (stuckReading m) x new) q f)))
+      (subst (λ (m : Lexer). Fills l k (reachOf m .byte .0) (stuckReading (st .lexer) m) x new) q f)))
 
   -- the code's two ways to the state after the step
   pub changes-is : {h : Half} {x : State} → h ≡ found → x ≡ changedBy (h .change) (stateOf (h .lexer) (st .modes .codes)) → x ≡ next
@@ -170,6 +175,10 @@ module _ {s table : List ℕ} {edition : ℕ} {st₀ : State} {k₀ : ℕ} {l₀
 
   pub keeps-is : {h : Half} → h ≡ found → h .change ≡ Keep → stateOf (h .lexer) (st .modes .codes) ≡ next
   keeps-is {h} e q = changes-is e (ap (λ (c : Change). changedBy c (stateOf (h .lexer) (st .modes .codes))) (sym q))
+
+  -- the record that was made, by what the call answered
+  pub made : (u : Token) {h : Half} {row : Row} → h ≡ found → row ≡ rowOf u (st .lexer) (h .lexer) → row ≡ rowOf u (st .lexer) (found .lexer)
+  made u e q = q ∙ ap (λ (x : Half). rowOf u (st .lexer) (x .lexer)) e
 
   -- the bytes of a record have 32 bits
   pub bounds : (found .lexer .place .«previous_byte» .0 ≤ sourceMost) × (found .lexer .place .«current_byte» .0 ≤ sourceMost)
@@ -179,20 +188,20 @@ module _ {s table : List ℕ} {edition : ℕ} {st₀ : State} {k₀ : ℕ} {l₀
       (omega (arith, o .behind, o .fine .inside, o .fine .small), omega (arith, o .fine .inside, o .fine .small)))
 
   module _ (u : Token) (e : found .what ≡ what.Token u) where
-    pub packs : {row : Row} → row ≡ rowOf u (found .lexer) → Packs row
+    pub packs : {row : Row} → row ≡ rowOf u (st .lexer) (found .lexer) → Packs row
     unfolding rowFits
     packs {row} q =
-        subst Packs (sym q) (fits-packs (rowOf u (found .lexer)) (token-reads s table edition (g .fit) st (g .ok) u (found-is e) .shown))
+        subst Packs (sym q) (fits-packs (rowOf u (st .lexer) (found .lexer)) (token-reads s table edition (g .fit) st (g .ok) u (found-is e) .shown))
 
     pub falls : {x : State} → x ≡ next → measure s x < measure s st
     falls q = subst (λ (x : State). measure s x < measure s st) (sym q) (step-falls s table edition (g .fit) st (g .ok) u (found-is e))
 
     -- the record is written
-    again-next : k < room l → {l′ : List ℕ} {row : Row} → row ≡ rowOf u (found .lexer) → l′ ≡ putRow l k row
+    again-next : k < room l → {l′ : List ℕ} {row : Row} → row ≡ rowOf u (st .lexer) (found .lexer) → l′ ≡ putRow l k row
         → Going s table edition st₀ k₀ l₀ next (k + 1) l′
     again-next h {l′} {row} q p =
-        let written : l′ ≡ putRow l k (rowOf u (next .lexer)) =
-        p ∙ ap (putRow l k) (q ∙ sym (row-same u (next .lexer) (found .lexer) same)) in
+        let written : l′ ≡ putRow l k (rowOf u (st .lexer) (next .lexer)) =
+        p ∙ ap (putRow l k) (q ∙ sym (row-same u (st .lexer) (next .lexer) (found .lexer) same)) in
         let long : length l′ ≡ length l = ap length p ∙ put-length l k row h in
         record {
           ok = step-ok s table edition (g .fit) st (g .ok);
@@ -200,11 +209,11 @@ module _ {s table : List ℕ} {edition : ℕ} {st₀ : State} {k₀ : ℕ} {l₀
           within = omega arith;
           long = long ∙ g .long;
           rest = λ x new f. comes (left-is (what.Token u) e)
-              (fills-row l k byte (rowOf u (next .lexer)) (readFrom (propertiesAt table) edition s next) x new h
+              (fills-row l k byte (rowOf u (st .lexer) (next .lexer)) (readFrom (propertiesAt table) edition s next) x new h
               (subst (λ (m : List ℕ). ReadsOn (propertiesAt table) edition s next (k + 1) m x new) written f));
         }
 
     -- once more, from the state as the code has it
-    pub again : k < room l → {l′ : List ℕ} {row : Row} {x : State} → row ≡ rowOf u (found .lexer) → l′ ≡ putRow l k row → x ≡ next
+    pub again : k < room l → {l′ : List ℕ} {row : Row} {x : State} → row ≡ rowOf u (st .lexer) (found .lexer) → l′ ≡ putRow l k row → x ≡ next
         → Going s table edition st₀ k₀ l₀ x (k + 1) l′
     again h {l′} {row} q p y = subst (λ (x : State). Going s table edition st₀ k₀ l₀ x (k + 1) l′) (sym y) (again-next h q p)

@@ -1,14 +1,11 @@
 // A scan's answer, number by number, for whoever prints it or hands it on.
 ghost use mathlib.Core.Path.{_≡_};
 ghost use Rattle.reading.specs.Scan.{numberOf, placeOf, countOf};
 ghost use Rattle.reading.specs.Status.{statusOf};
-use base::refusals::BAD_TABLE;
-use base::refusals::BAD_UTF8;
+use crate::Scanned;
 use base::refusals::LIST_FULL;
 use base::refusals::MODES_FULL;
 use base::refusals::NO_REFUSAL;
-use base::refusals::TOO_LONG;
-use reading::Scanned;
 
 // How a scan ends, as a number: what a cursor over its list carries.
 pub const END: u32 = 0;
@@ -25,9 +22,7 @@ pub fn number_of(scanned: Scanned) -> u32
     match scanned {
         Scanned::End { count: _, byte: _ } => NO_REFUSAL,
         Scanned::Stuck { count: _, byte: _ } => NO_REFUSAL,
-        Scanned::TooLong => TOO_LONG,
-        Scanned::BadTable(_) => BAD_TABLE,
-        Scanned::BadUtf8(_) => BAD_UTF8,
+        Scanned::Refused(refusal) => input::answer::number_of(refusal),
         Scanned::ListFull { count: _, byte: _ } => LIST_FULL,
         Scanned::ModesFull { count: _, byte: _ } => MODES_FULL,
     }
@@ -40,9 +35,7 @@ pub fn place_of(scanned: Scanned) -> usize
     match scanned {
         Scanned::End { count: _, byte } => byte,
         Scanned::Stuck { count: _, byte } => byte,
-        Scanned::TooLong => 0,
-        Scanned::BadTable(i) => i,
-        Scanned::BadUtf8(i) => i,
+        Scanned::Refused(refusal) => input::answer::place_of(refusal),
         Scanned::ListFull { count: _, byte } => byte,
         Scanned::ModesFull { count: _, byte } => byte,
     }
@@ -55,9 +48,7 @@ pub fn count_of(scanned: Scanned) -> usize
     match scanned {
         Scanned::End { count, byte: _ } => count,
         Scanned::Stuck { count, byte: _ } => count,
-        Scanned::TooLong => 0,
-        Scanned::BadTable(_) => 0,
-        Scanned::BadUtf8(_) => 0,
+        Scanned::Refused(_) => 0,
         Scanned::ListFull { count, byte: _ } => count,
         Scanned::ModesFull { count, byte: _ } => count,
     }
@@ -70,9 +61,7 @@ pub fn status_of(scanned: Scanned) -> u32
     match scanned {
         Scanned::End { count: _, byte: _ } => END,
         Scanned::Stuck { count: _, byte: _ } => STUCK,
-        Scanned::TooLong => REFUSED,
-        Scanned::BadTable(_) => REFUSED,
-        Scanned::BadUtf8(_) => REFUSED,
+        Scanned::Refused(_) => REFUSED,
         Scanned::ListFull { count: _, byte: _ } => REFUSED,
         Scanned::ModesFull { count: _, byte: _ } => REFUSED,
     }
