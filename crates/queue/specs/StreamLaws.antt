@@ -1,34 +1,36 @@
--- The tokens of a list as the Rust's `TokenLexer` hands them out, and as a cursor sees them: both are the record that a place means.
---     get-in, get-past      `token_queue.get(n)`
---     token-at              the token of the lexer at a place
---     seen-says             what a cursor sees is the token there, if the record may be shown
---     upcoming-length, upcoming-same, upcoming-next, get-upcoming    the records of the places from one on
+-- The tokens of a list as the Rust's `TokenLexer` hands them out, and as a cursor's answers have them: both are the row that a place means.
+--     get-in, get-past, get-some    `token_queue.get(n)`
+--     get-front, get-last       the same after a `push_back`
+--     token-at                  the token of the lexer at a place
+--     shows-by                  rows that are shown, each by its index
+--     by-next, by-queued        a property of `next`'s answers, and of a look's at the queue, over rows that are shown
+--     by-peek                   a property of `peek`'s answers, by its tests
 -- Assumes nothing.
 use Prim.Native.Nat.{ℕ, zero, suc, _+_, _-_, _≤_, _<_}
-use native.Mathlib.Nat.{add-zero}
 use native.Mathlib.Omega.{arith}
-use mathlib.Core.Path.{_≡_, refl, sym, ap, _∙_}
-use mathlib.Core.Bool.{false}
+use mathlib.Core.Path.{_≡_, refl, sym, ap, subst, _∙_}
+use mathlib.Core.Bool.{Bool, true, false}
 use mathlib.Core.List.{List, [], _∷_, _++_}
-use mathlib.Core.Option.{Option, none, some}
-use lib.Dec.{ltb}
+use mathlib.Core.Option.{Option, none, some, Option·some-injective, Option·none-ne-some}
 use lib.ListN.{length, getD}
-use borrow.Author.Tests.{lt-ltb, le-ltb}
-use Rattle.base.specs.Pick.{pick}
-use Rattle.base.specs.PickLaws.{by-test, by-lt, split-lt}
-use Rattle.rows.specs.Row.{rowAt, rowsOf, rowFits, shownAt}
-use Rattle.rows.specs.RowLaws.{rows-of-length, rows-of-at}
+use Rattle.base.specs.PickLaws.{by-lt, split-lt, split-eq}
 use Rattle.rows.specs.declared.Row.{Row}
 use Rattle.rows.specs.declared.RowAt.{RowAt}
-use Rattle.lookahead.specs.Cursor.{recordAt, ahead, seenBy, seenAt}
-use Rattle.lookahead.specs.CursorLaws.{record-at, same-plus}
-use Rattle.lookahead.specs.Queue.{get, tokenAt}
-use Rattle.lookahead.specs.Calls.{upcoming}
+use Rattle.rows.specs.declared.RowAt.the-variants.{Fit}
+use Rattle.lookahead.specs.Cursor.{queueMost, isFit, recordAt, ahead}
+use Rattle.lookahead.specs.CursorLaws.{record-at, queued-there}
+use Rattle.lookahead.specs.Next.{movedOn, nextOf}
+use Rattle.lookahead.specs.Peek.{mustQueue, queuedOne, queuedAt, peekOf}
+use Rattle.lookahead.specs.AnswerLaws.{next-row, next-none, queued-row, queued-none, peek-far, peek-as-is, peek-full, peek-more}
 use Rattle.lookahead.specs.declared.Status.{Status}
 use Rattle.lookahead.specs.declared.Status.the-variants.{End, Stuck}
 use Rattle.lookahead.specs.declared.Cursor.{Cursor}
-use Rattle.lookahead.specs.declared.Seen.{Seen}
-use Rattle.lookahead.specs.declared.Seen.the-variants.{Token, Nothing, BadRecord}
+use Rattle.lookahead.specs.declared.Given.{Given}
+use Rattle.lookahead.specs.declared.Given.the-variants as given
+use Rattle.lookahead.specs.declared.Peeked.{Peeked}
+use Rattle.lookahead.specs.declared.Peeked.the-variants as peeked
+use Rattle.queue.specs.Queue.{get, tokenAt}
+use Rattle.queue.specs.Calls.{Shows}
 
 -- ---- `get`
 
@@ -44,93 +46,87 @@ get-past [] i h = refl
 get-past (t ∷ l) zero h = absurd (omega arith)
 get-past (t ∷ l) (suc i) h = get-past l i (omega arith)
 
-module _ (list : List ℕ) (count : ℕ) where
-  get-record : (i : ℕ) → i < count → get (rowsOf count list) i ≡ some (rowAt list i)
-  get-record i h =
-      get-in (rowsOf count list) i (rowAt list i) (omega (arith, rows-of-length count list))
-      ∙ ap some (rows-of-at count list i (rowAt list i) h)
+pub get-some : (l : List Row) (i : ℕ) → i < length l → (row : Row) × (get l i ≡ some row)
+unfolding get
+get-some [] i h = absurd (omega arith)
+get-some (t ∷ l) zero h = (t, refl)
+get-some (t ∷ l) (suc i) h = get-some l i (omega arith)
 
-  -- record i, where it is one of the scan's
-  abbrev pub recordOr : ℕ → Option Row
-  recordOr i = pick (ltb i count) (some (rowAt list i)) none
+pub get-front : (l m : List Row) (i : ℕ) → i < length l → get (l ++ m) i ≡ get l i
+unfolding get
+get-front [] m i h = absurd (omega arith)
+get-front (t ∷ l) m zero h = refl
+get-front (t ∷ l) m (suc i) h = get-front l m i (omega arith)
 
-  pub record-some : (i : ℕ) → i < count → recordOr i ≡ some (rowAt list i)
-  record-some i h = rw (lt-ltb i count h)
+pub get-last : (l : List Row) (t : Row) (i : ℕ) → i ≡ length l → get (l ++ (t ∷ [])) i ≡ some t
+unfolding get
+get-last [] t zero e = refl
+get-last [] t (suc i) e = absurd (omega arith)
+get-last (x ∷ l) t zero e = absurd (omega arith)
+get-last (x ∷ l) t (suc i) e = get-last l t i (omega arith)
 
-  pub record-none : (i : ℕ) → count ≤ i → recordOr i ≡ none
-  record-none i h = rw (le-ltb i count h)
+-- ---- the lexer's tokens
 
-  at-end : (i : ℕ) → get (rowsOf count list) i ≡ recordOr (recordAt count End i)
+module _ (rows : List Row) where
+  at-end : (i : ℕ) → get rows i ≡ get rows (recordAt (length rows) End i)
   at-end i =
-      split-lt i count
-      (λ h. let e : recordAt count End i ≡ i = omega (arith, record-at count End i) in get-record i h ∙ sym (rw e (record-some i h)))
-      (λ h. let e : recordAt count End i ≡ count = omega (arith, record-at count End i) in
-      get-past (rowsOf count list) i (omega (arith, rows-of-length count list)) ∙ sym (rw e (record-none count (omega arith))))
+      split-lt i (length rows)
+      (λ h. let e : recordAt (length rows) End i ≡ i = omega (arith, record-at (length rows) End i) in ap (get rows) (sym e))
+      (λ h. let e : recordAt (length rows) End i ≡ length rows = omega (arith, record-at (length rows) End i) in
+      get-past rows i h ∙ sym (ap (get rows) e ∙ get-past rows (length rows) (omega arith)))
 
-  at-stuck : (i : ℕ) → 0 < count → tokenAt (rowsOf count list) Stuck i ≡ recordOr (recordAt count Stuck i)
+  at-stuck : (i : ℕ) → 0 < length rows → tokenAt rows Stuck i ≡ get rows (recordAt (length rows) Stuck i)
   unfolding tokenAt
   at-stuck i k =
-      rw (rows-of-length count list)
-      (by-lt (λ (x : Option Row). x ≡ recordOr (recordAt count Stuck i)) i count
-      (λ h. let e : recordAt count Stuck i ≡ i = omega (arith, record-at count Stuck i) in get-record i h ∙ sym (rw e (record-some i h)))
-      (λ h. let e : recordAt count Stuck i ≡ count - 1 = omega (arith, record-at count Stuck i) in
-      let below : count - 1 < count = omega arith in
-      get-record (count - 1) below ∙ sym (rw e (record-some (count - 1) below))))
+      by-lt (λ (x : Option Row). x ≡ get rows (recordAt (length rows) Stuck i)) i (length rows)
+      (λ h. let e : i ≡ recordAt (length rows) Stuck i = omega (arith, record-at (length rows) Stuck i) in ap (get rows) e)
+      (λ h. let e : length rows - 1 ≡ recordAt (length rows) Stuck i = omega (arith, record-at (length rows) Stuck i) in ap (get rows) e)
 
-  pub token-at : (status : Status) (i : ℕ) → (status ≡ Stuck → 0 < count)
-      → tokenAt (rowsOf count list) status i ≡ recordOr (recordAt count status i)
+  pub token-at : (status : Status) (i : ℕ) → (status ≡ Stuck → 0 < length rows)
+      → tokenAt rows status i ≡ get rows (recordAt (length rows) status i)
   unfolding tokenAt
   token-at End i k = at-end i
   token-at Stuck i k = at-stuck i (k refl)
 
--- ---- what a cursor sees
+-- ---- the cursor's answers
 
--- what is said of the token there
-abbrev pub Says : List ℕ → Cursor → ℕ → Seen → Type 0
-Says list c n (Token row) = recordOr list (c .count) (ahead c n) ≡ some row
-Says list c n Nothing = c .count ≤ ahead c n
-Says list c n (BadRecord i) = (i ≡ ahead c n) × (i < c .count) × (rowFits (rowAt list i) ≡ false)
+pub shows-by : (shown : ℕ → RowAt) (rows : List Row) → ((i : ℕ) (d : Row) → i < length rows → shown i ≡ Fit (getD rows i d)) → Shows shown rows
+shows-by shown rows h i row e =
+    split-lt i (length rows)
+    (λ lt. h i row lt ∙ ap Fit (Option·some-injective (getD rows i row) row (sym (get-in rows i row lt) ∙ e)))
+    (λ ge. absurd (Option·none-ne-some row (sym (get-past rows i ge) ∙ e)))
 
-pub seen-says : (list : List ℕ) (c : Cursor) (n : ℕ) → Says list c n (seenAt list c n)
-unfolding seenAt shownAt
-seen-says list c n =
-    by-lt (Says list c n) (ahead c n) (c .count)
-    (λ h. by-test (λ (x : RowAt). Says list c n (seenBy (ahead c n) x)) (rowFits (rowAt list (ahead c n)))
-    (λ _. record-some list (c .count) (ahead c n) h) (λ f. (refl, h, f)))
-    (λ h. h)
+module _ (room : ℕ) (shown : ℕ → RowAt) (rows : List Row) (w : Shows shown rows) (c : Cursor) (f : isFit room c ≡ true)
+    (counted : c .count ≡ length rows) where
+  -- the row that is ahead, or nothing
+  pub by-next : (P : Given → Type 0) → ((row : Row) → get rows (ahead c 0) ≡ some row → P (given.Token row (movedOn c)))
+      → (c .count ≤ ahead c 0 → P given.Nothing) → P (nextOf room shown c)
+  by-next P token past =
+      split-lt (ahead c 0) (c .count)
+      (λ h. let there = get-some rows (ahead c 0) (omega arith) in
+      subst P (next-row room shown c f refl h (w (ahead c 0) (there .0) (there .1))) (token (there .0) (there .1)))
+      (λ h. subst P (next-none room shown c f refl h) (past h))
 
--- ---- the records of the places from one on
+  -- the queued row n, or nothing
+  pub by-queued : (P : Peeked → Type 0) (n : ℕ) → ((row : Row) → n < c .queued → get rows (ahead c n) ≡ some row → P (peeked.Token row c))
+      → (c .queued ≤ n → P (peeked.Nothing c)) → P (queuedAt shown c n)
+  by-queued P n token past =
+      split-lt n (c .queued)
+      (λ h. let below : ahead c n < c .count = queued-there room c f n h in
+      let there = get-some rows (ahead c n) (omega arith) in
+      subst P (queued-row shown c n refl below h (w (ahead c n) (there .0) (there .1))) (token (there .0) h (there .1)))
+      (λ h. subst P (queued-none shown c n h) (past h))
 
-module _ (list : List ℕ) (count : ℕ) (status : Status) where
-  pub upcoming-length : (place n : ℕ) → length (upcoming list count status place n) ≡ n
-  unfolding upcoming
-  upcoming-length place zero = refl
-  upcoming-length place (suc n) = ap suc (upcoming-length (place + 1) n)
-
-  -- places that mean one record begin the same
-  pub upcoming-same : (i j n : ℕ) → recordAt count status i ≡ recordAt count status j
-      → upcoming list count status i n ≡ upcoming list count status j n
-  unfolding upcoming
-  upcoming-same i j zero e = refl
-  upcoming-same i j (suc n) e = rw (e, upcoming-same (i + 1) (j + 1) n (same-plus count status i j 1 e))
-
-  -- one more
-  pub upcoming-next : (place n : ℕ)
-      → upcoming list count status place (suc n)
-      ≡ upcoming list count status place n ++ (rowAt list (recordAt count status (place + n)) ∷ [])
-  unfolding upcoming
-  upcoming-next place zero = ap (λ (i : ℕ). rowAt list (recordAt count status i) ∷ []) (sym (add-zero place))
-  upcoming-next place (suc n) =
-      let e : place + 1 + n ≡ place + suc n = omega arith in
-      ap (λ (l : List Row). rowAt list (recordAt count status place) ∷ l)
-      (upcoming-next (place + 1) n
-      ∙ ap (λ (i : ℕ). upcoming list count status (place + 1) n ++ (rowAt list (recordAt count status i) ∷ [])) e)
-
-  pub get-upcoming : (place n i : ℕ) → i < n
-      → get (upcoming list count status place n) i ≡ some (rowAt list (recordAt count status (place + i)))
-  unfolding upcoming get
-  get-upcoming place zero i h = absurd (omega arith)
-  get-upcoming place (suc n) zero h = ap (λ (j : ℕ). some (rowAt list (recordAt count status j))) (sym (add-zero place))
-  get-upcoming place (suc n) (suc i) h =
-      let e : place + 1 + i ≡ place + suc i = omega arith in
-      get-upcoming (place + 1) n i (omega arith) ∙ ap (λ (j : ℕ). some (rowAt list (recordAt count status j))) e
+pub by-peek : (room : ℕ) (shown : ℕ → RowAt) (c : Cursor) → isFit room c ≡ true → (P : Peeked → Type 0) (n : ℕ)
+    → (c .queued + 1 < n → P peeked.PeekTooFar)
+    → (mustQueue c n ≡ true → c .queued ≡ queueMost → P peeked.QueueFull)
+    → (mustQueue c n ≡ true → (c .queued ≡ queueMost → ⊥) → P (queuedAt shown (queuedOne c) n))
+    → (mustQueue c n ≡ false → n ≤ c .queued + 1 → P (queuedAt shown c n)) → P (peekOf room shown c n)
+by-peek room shown c f P n far full more as-is =
+    split-lt (c .queued + 1) n (λ h. subst P (peek-far room shown c n f h) (far h)) (λ h. near h (mustQueue c n) refl)
+  where
+    near : n ≤ c .queued + 1 → (t : Bool) → mustQueue c n ≡ t → P (peekOf room shown c n)
+    near h true e =
+        split-eq (c .queued) queueMost (λ q. subst P (peek-full room shown c n f h e q) (full e q))
+        (λ q. subst P (peek-more room shown c n f h e q) (more e q))
+    near h false e = subst P (peek-as-is room shown c n f h e) (as-is e h)
