@@ -6,6 +6,7 @@ use mathlib.Core.Path.{_≡_}
 use mathlib.Core.List.{List, [], _∷_}
 use lib.Dec.{eqb}
 use Rattle.base.specs.Pick.{pick}
+use Rattle.rows.specs.Row.{room, shownAt}
 use Rattle.rows.specs.declared.Row.{Row}
 use Rattle.lookahead.specs.Next as next
 use Rattle.lookahead.specs.Next.{nextOf}
@@ -54,7 +55,7 @@ wordsOf row =
 
 -- the answer for these numbers
 abbrev pub nextBy : List ℕ → ℕ → ℕ → ℕ → ℕ → Given
-nextBy list taken queued count status = byStatus (λ (x : Status). nextOf list (cursorOf taken queued count x)) given.BadState status
+nextBy list taken queued count status = byStatus (λ (x : Status). nextOf (room list) (shownAt list) (cursorOf taken queued count x)) given.BadState status
 
 -- 1 where a token is handed out
 abbrev pub givenShown : Given → ℕ
@@ -97,7 +98,7 @@ pub record NextIs (list : List ℕ) (taken queued count status newTaken newQueue
 
 -- the answer for these numbers
 abbrev pub peekBy : List ℕ → ℕ → ℕ → ℕ → ℕ → ℕ → Peeked
-peekBy list taken queued count status n = byStatus (λ (x : Status). peekOf list (cursorOf taken queued count x) n) peeked.BadState status
+peekBy list taken queued count status n = byStatus (λ (x : Status). peekOf (room list) (shownAt list) (cursorOf taken queued count x) n) peeked.BadState status
 
 -- 1 where a token is shown
 abbrev pub peekedShown : Peeked → ℕ

@@ -1,5 +1,6 @@
 -- Records written and read back.
 --     row-back                          a record's numbers read back are the record
+--     same-room                         lists of one length have one room
 --     put-by-stores                     eight stores, one after the other, put a record
 --     put-length, put-room, put-keeps   putting a record changes no number of another, and neither the list's length nor its room
 --     put-same, put-other               record i is then the one that was put, every other is as before
@@ -9,10 +10,11 @@
 --     rows-at                           each of many is read back
 --     rows-of-length, rows-of-at        the records of a list, one by one
 --     rows-back                         those that were put
+--     shown-fit, shown-unfit            what is shown at an index, by the test
 --     fits-packs, rows-shown            a record that may be shown can be put, and is then shown
 -- Assumes nothing.
 use mathlib.Core.Path.{_≡_, refl, sym, ap, _∙_}
-use mathlib.Core.Bool.{true, and-eq-true-iff}
+use mathlib.Core.Bool.{true, false, and-eq-true-iff}
 use mathlib.Core.List.{List, [], _∷_, _++_}
 use Prim.Native.Nat.{ℕ, zero, suc, _+_, _*_, _/_, _%_, _≤_, _<_}
 use native.Mathlib.Nat.{add-zero}
@@ -28,7 +30,7 @@ use Rattle.rows.specs.Store.{wordsAll}
 use Rattle.rows.specs.StoreLaws as store
 use Rattle.rows.specs.Row.{rowWords, kindRoom, room, wordsOf, Packs, rowFrom, firstRow, rowAt, putRow, putRows, putRowsAt, rowsOf, rowFits, shownAt}
 use Rattle.rows.specs.declared.Row.{Row}
-use Rattle.rows.specs.declared.RowAt.the-variants.{Fit}
+use Rattle.rows.specs.declared.RowAt.the-variants.{Fit, Unfit}
 
 -- records read from equal numbers are equal
 from-agree : (a b : List ℕ) (m n : ℕ) → ((k : ℕ) → k < 8 → getD a (m + k) 0 ≡ getD b (n + k) 0) → rowFrom a m ≡ rowFrom b n
@@ -50,6 +52,9 @@ row-back r l p =
     simp (k, d)
 
 -- ---- one record put
+
+pub same-room : (a b : List ℕ) → length a ≡ length b → room a ≡ room b
+same-room = store.same-room rowWords
 
 module _ (l : List ℕ) (i : ℕ) (r : Row) (h : i < room l) where
   pub put-by-stores : sets l (rowWords * i) (wordsOf r) ≡ putRow l i r
@@ -159,6 +164,14 @@ fits-packs r e =
       kind-fits = omega (arith, leb-true (r .kind) kindMost (tests .0));
       detail-fits = omega (arith, allowed-most (r .kind) (r .detail) (tests .1));
     }
+
+pub shown-fit : (l : List ℕ) (i : ℕ) → rowFits (rowAt l i) ≡ true → shownAt l i ≡ Fit (rowAt l i)
+unfolding shownAt
+shown-fit l i e = rw e
+
+pub shown-unfit : (l : List ℕ) (i : ℕ) → rowFits (rowAt l i) ≡ false → shownAt l i ≡ Unfit
+unfolding shownAt
+shown-unfit l i e = rw e
 
 -- a record that was put and may be shown is shown
 pub rows-shown : (l : List ℕ) (rows : List Row) (i : ℕ) (d : Row) → i < length rows → rowFits (getD rows i d) ≡ true → shownAt (putRows l rows) i ≡ Fit (getD rows i d)

@@ -1,4 +1,5 @@
 -- Records of one width put into a list, whatever their numbers are.
+--     same-room                         lists of one length have one room
 --     within                            a record that has room ends within the list
 --     put-by-stores                     stores, one after the other, put a record
 --     put-length, put-room, put-keeps   putting a record changes no number of another, and neither the list's length nor its room
@@ -19,6 +20,10 @@ use Rattle.base.specs.PickLaws.{split-lt}
 use Rattle.rows.specs.Store.{roomFor, putAt, wordsAll, putAll, putFrom}
 
 -- ---- places
+
+-- lists of one length have one room
+pub same-room : (w : ℕ) (a b : List ℕ) → length a ≡ length b → roomFor w a ≡ roomFor w b
+same-room w a b e = ap (λ (n : ℕ). n / w) e
 
 -- so many records that have room end within the list
 all-within : (w : ℕ) (l : List ℕ) (n : ℕ) → n ≤ roomFor w l → w * n ≤ length l
@@ -54,7 +59,7 @@ module _ (w : ℕ) (l : List ℕ) (i : ℕ) (numbers : List ℕ) (long : length 
   put-length = simp (length-append, length-drop, before-length) (omega (arith, within w l i h))
 
   pub put-room : roomFor w (putAt w l i numbers) ≡ roomFor w l
-  put-room = ap (λ (n : ℕ). n / w) put-length
+  put-room = same-room w (putAt w l i numbers) l put-length
 
   -- what is put, and what follows it, from the place of record i on
   pub put-there : drop (w * i) (putAt w l i numbers) ≡ numbers ++ drop (w * i + w) l
@@ -104,7 +109,7 @@ module _ {A : Type 0} (w : ℕ) (words : A → List ℕ) (long : (r : A) → len
         simp (length-append, words-length rows, length-drop) (omega (arith, all-within w l (length rows) h))
 
     pub all-room : length rows ≤ roomFor w l → roomFor w (putAll w words l rows) ≡ roomFor w l
-    all-room h = ap (λ (n : ℕ). n / w) (all-length h)
+    all-room h = same-room w (putAll w words l rows) l (all-length h)
 
     -- the record after them, put at its index
     pub all-next : (r : A) → putAt w (putAll w words l rows) (length rows) (words r) ≡ putAll w words l (rows ++ (r ∷ []))
