@@ -8,6 +8,7 @@ use lib.Dec.{eqb}
 use Rattle.base.specs.Pick.{pick}
 use Rattle.reading.specs.Status.{endNumber, stuckNumber}
 use Rattle.lookahead.specs.Told.{recordNumbers, givenShown, givenRow, givenTaken, givenQueued, peekedShown, peekedRow, peekedQueued}
+use Rattle.rows.specs.Row.{room, shownAt}
 use Rattle.lookahead.specs.Next as next
 use Rattle.lookahead.specs.Next.{nextOf}
 use Rattle.lookahead.specs.Peek as peek
@@ -33,7 +34,7 @@ cursorOf taken queued count status = record { taken = taken; queued = queued; co
 
 -- the answer for these numbers
 abbrev pub nextBy : List ℕ → ℕ → ℕ → ℕ → ℕ → Given
-nextBy list taken queued count status = byStatus (λ (x : Status). nextOf list (cursorOf taken queued count x)) given.BadState status
+nextBy list taken queued count status = byStatus (λ (x : Status). nextOf (room list) (shownAt list) (cursorOf taken queued count x)) given.BadState status
 
 -- what `koto_next` ensures
 pub record NextIs (list : List ℕ) (taken queued count status newTaken newQueued shown : ℕ) (words : List ℕ) (place r : ℕ) : Type 0 where
@@ -48,7 +49,7 @@ pub record NextIs (list : List ℕ) (taken queued count status newTaken newQueue
 
 -- the answer for these numbers
 abbrev pub peekBy : List ℕ → ℕ → ℕ → ℕ → ℕ → ℕ → Peeked
-peekBy list taken queued count status n = byStatus (λ (x : Status). peekOf list (cursorOf taken queued count x) n) peeked.BadState status
+peekBy list taken queued count status n = byStatus (λ (x : Status). peekOf (room list) (shownAt list) (cursorOf taken queued count x) n) peeked.BadState status
 
 -- what `koto_peek` ensures
 pub record PeekIs (list : List ℕ) (taken queued count status n newQueued shown : ℕ) (words : List ℕ) (place r : ℕ) : Type 0 where

@@ -3,7 +3,7 @@
 --     lists-within              no more records are counted than the list has room for
 --     one-listing               no second answer and no second list fits
 -- Assumes nothing.
-use Prim.Native.Nat.{ℕ, _/_, _≤_, _<_}
+use Prim.Native.Nat.{ℕ, _≤_, _<_}
 use native.Mathlib.Omega.{arith}
 use mathlib.Core.Path.{_≡_, refl, sym, ap, subst, _∙_}
 use mathlib.Core.List.{List}
@@ -13,7 +13,7 @@ use borrow.Author.Tests.{lt-ltb, le-ltb}
 use Rattle.base.specs.PickLaws.{by-test}
 use Rattle.fitness.specs.Small.{smallTable}
 use Rattle.rows.specs.Row.{room, putRows}
-use Rattle.rows.specs.RowLaws.{rows-none}
+use Rattle.rows.specs.RowLaws.{same-room, rows-none}
 use Rattle.reading.specs.Scan.{Scans, countOf}
 use Rattle.reading.specs.ScanLaws.{count-room}
 use Rattle.reading.specs.declared.Scanned.{Scanned}
@@ -43,7 +43,7 @@ listed-count source n =
 
 pub lists-within : {source old new : List ℕ} {r : Scanned} → Lists source old r new → length new ≡ length old → countOf r ≤ room new
 lists-within {source} {old} {new} {r} f long =
-    let same : room old ≡ room new = ap (λ (n : ℕ). n / 8) (sym long) in
+    let same : room old ≡ room new = same-room old new (sym long) in
     subst (λ (n : ℕ). countOf r ≤ n) same (subst (λ (x : Scanned). countOf x ≤ room old) (sym (f .answer)) (listed-count source (room old)))
 
 pub one-listing : (source old : List ℕ) (r q : Scanned) (new other : List ℕ) → Lists source old r new → Lists source old q other

@@ -5,18 +5,16 @@
 --     next-is, give-token, give-none, give-bad       `next`, by what is seen
 --     must-both                                      when a token must be queued
 --     show-is, show-token, show-none, show-bad       queued token n, by what is seen
---     queued-row, queued-bad, queued-none            queued token n, by the record that is there
---     next-row, next-bad, next-none                  `next`, by the record that is there
+--     queued-row, queued-bad, queued-none            queued token n, by what is shown there
+--     next-row, next-bad, next-none                  `next`, by what is shown there
 --     peek-far, peek-as-is, peek-full, peek-more     `peek`, by its tests
 -- Assumes nothing.
 use Prim.Native.Nat.{ℕ, _+_, _-_, _≤_, _<_}
 use native.Mathlib.Omega.{arith}
 use mathlib.Core.Path.{_≡_, refl, sym}
 use mathlib.Core.Bool.{true, false, and-eq-true-iff}
-use mathlib.Core.List.{List}
 use lib.Dec.{leb}
 use borrow.Author.Tests.{leb-true, lt-ltb, le-ltb, eq-eqb, ne-eqb}
-use Rattle.rows.specs.Row.{room, rowAt, rowFits, shownAt}
 use Rattle.rows.specs.declared.Row.{Row}
 use Rattle.rows.specs.declared.RowAt.{RowAt}
 use Rattle.rows.specs.declared.RowAt.the-variants.{Fit, Unfit}
@@ -49,16 +47,16 @@ module _ (c : Cursor) (n : ℕ) {last : ℕ} (e : last ≡ lastPlace (c .count) 
 
 -- ---- what is seen
 
-module _ (list : List ℕ) (c : Cursor) (n : ℕ) {i : ℕ} (e : i ≡ ahead c n) where
-  pub see-token : i < c .count → {r : RowAt} {row : Row} → r ≡ shownAt list i → r ≡ Fit row → seen.Token row ≡ seenAt list c n
+module _ (shown : ℕ → RowAt) (c : Cursor) (n : ℕ) {i : ℕ} (e : i ≡ ahead c n) where
+  pub see-token : i < c .count → {r : RowAt} {row : Row} → r ≡ shown i → r ≡ Fit row → seen.Token row ≡ seenAt shown c n
   unfolding seenAt
   see-token h q z = rw (← e, lt-ltb i (c .count) h, ← q, z)
 
-  pub see-bad : i < c .count → {r : RowAt} → r ≡ shownAt list i → r ≡ Unfit → seen.BadRecord i ≡ seenAt list c n
+  pub see-bad : i < c .count → {r : RowAt} → r ≡ shown i → r ≡ Unfit → seen.BadRecord i ≡ seenAt shown c n
   unfolding seenAt
   see-bad h q z = rw (← e, lt-ltb i (c .count) h, ← q, z)
 
-  pub see-nothing : c .count ≤ i → seen.Nothing ≡ seenAt list c n
+  pub see-nothing : c .count ≤ i → seen.Nothing ≡ seenAt shown c n
   unfolding seenAt
   see-nothing h = rw (← e, le-ltb i (c .count) h)
 
@@ -75,10 +73,10 @@ module _ (c : Cursor) {s : Seen} where
   give-bad e = rw e
 
 -- the answer of a cursor that is fit, by what was seen
-pub next-is : (list : List ℕ) (c : Cursor) {s : Seen} {v : Given} → isFit (room list) c ≡ true → s ≡ seenAt list c 0 → v ≡ givenBy c s
-    → v ≡ nextOf list c
+pub next-is : (room : ℕ) (shown : ℕ → RowAt) (c : Cursor) {s : Seen} {v : Given} → isFit room c ≡ true → s ≡ seenAt shown c 0
+    → v ≡ givenBy c s → v ≡ nextOf room shown c
 unfolding nextOf
-next-is list c f e g = rw (f, ← e) g
+next-is room shown c f e g = rw (f, ← e) g
 
 -- ---- `peek`
 
@@ -98,57 +96,48 @@ module _ (c : Cursor) {s : Seen} where
   show-bad e = rw e
 
 -- queued token n, by what was seen
-pub show-is : (list : List ℕ) (c : Cursor) (n : ℕ) {s : Seen} {v : Peeked} → n < c .queued → s ≡ seenAt list c n → v ≡ shownBy c s
-    → v ≡ queuedAt list c n
+pub show-is : (shown : ℕ → RowAt) (c : Cursor) (n : ℕ) {s : Seen} {v : Peeked} → n < c .queued → s ≡ seenAt shown c n → v ≡ shownBy c s
+    → v ≡ queuedAt shown c n
 unfolding queuedAt
-show-is list c n h e g = rw (lt-ltb n (c .queued) h, ← e) g
+show-is shown c n h e g = rw (lt-ltb n (c .queued) h, ← e) g
 
-module _ (list : List ℕ) (c : Cursor) (n : ℕ) (f : isFit (room list) c ≡ true) where
-  pub peek-far : c .queued + 1 < n → peeked.PeekTooFar ≡ peekOf list c n
+module _ (room : ℕ) (shown : ℕ → RowAt) (c : Cursor) (n : ℕ) (f : isFit room c ≡ true) where
+  pub peek-far : c .queued + 1 < n → peeked.PeekTooFar ≡ peekOf room shown c n
   unfolding peekOf
   peek-far h = rw (f, lt-ltb (c .queued + 1) n h)
 
   module _ (h : n ≤ c .queued + 1) where
-    pub peek-as-is : mustQueue c n ≡ false → queuedAt list c n ≡ peekOf list c n
+    pub peek-as-is : mustQueue c n ≡ false → queuedAt shown c n ≡ peekOf room shown c n
     unfolding peekOf
     peek-as-is m = rw (f, le-ltb (c .queued + 1) n h, m)
 
-    pub peek-full : mustQueue c n ≡ true → c .queued ≡ queueMost → peeked.QueueFull ≡ peekOf list c n
+    pub peek-full : mustQueue c n ≡ true → c .queued ≡ queueMost → peeked.QueueFull ≡ peekOf room shown c n
     unfolding peekOf
     peek-full m q = rw (f, le-ltb (c .queued + 1) n h, m, eq-eqb (c .queued) queueMost q)
 
-    pub peek-more : mustQueue c n ≡ true → (c .queued ≡ queueMost → ⊥) → queuedAt list (queuedOne c) n ≡ peekOf list c n
+    pub peek-more : mustQueue c n ≡ true → (c .queued ≡ queueMost → ⊥) → queuedAt shown (queuedOne c) n ≡ peekOf room shown c n
     unfolding peekOf
     peek-more m q = rw (f, le-ltb (c .queued + 1) n h, m, ne-eqb (c .queued) queueMost q)
 
--- ---- both, by the record that is there
+-- ---- both, by what is shown there
 
-module _ (list : List ℕ) (c : Cursor) (n : ℕ) {i : ℕ} (e : ahead c n ≡ i) (h : i < c .count) where
-  seen-row : rowFits (rowAt list i) ≡ true → seenAt list c n ≡ seen.Token (rowAt list i)
-  unfolding seenAt shownAt
-  seen-row t = rw (e, lt-ltb i (c .count) h, t)
+module _ (shown : ℕ → RowAt) (c : Cursor) (n : ℕ) {i : ℕ} (e : ahead c n ≡ i) (h : i < c .count) (q : n < c .queued) where
+  pub queued-row : {row : Row} → shown i ≡ Fit row → peeked.Token row c ≡ queuedAt shown c n
+  queued-row t = show-is shown c n q (see-token shown c n (sym e) h refl t) refl
 
-  seen-bad : rowFits (rowAt list i) ≡ false → seenAt list c n ≡ seen.BadRecord i
-  unfolding seenAt shownAt
-  seen-bad t = rw (e, lt-ltb i (c .count) h, t)
+  pub queued-bad : shown i ≡ Unfit → peeked.BadRecord i ≡ queuedAt shown c n
+  queued-bad t = show-is shown c n q (see-bad shown c n (sym e) h refl t) refl
 
-  module _ (q : n < c .queued) where
-    pub queued-row : rowFits (rowAt list i) ≡ true → peeked.Token (rowAt list i) c ≡ queuedAt list c n
-    queued-row t = show-is list c n q (sym (seen-row t)) refl
-
-    pub queued-bad : rowFits (rowAt list i) ≡ false → peeked.BadRecord i ≡ queuedAt list c n
-    queued-bad t = show-is list c n q (sym (seen-bad t)) refl
-
-pub queued-none : (list : List ℕ) (c : Cursor) (n : ℕ) → c .queued ≤ n → peeked.Nothing c ≡ queuedAt list c n
+pub queued-none : (shown : ℕ → RowAt) (c : Cursor) (n : ℕ) → c .queued ≤ n → peeked.Nothing c ≡ queuedAt shown c n
 unfolding queuedAt
-queued-none list c n h = rw (le-ltb n (c .queued) h)
+queued-none shown c n h = rw (le-ltb n (c .queued) h)
 
-module _ (list : List ℕ) (c : Cursor) (f : isFit (room list) c ≡ true) {i : ℕ} (e : ahead c 0 ≡ i) where
-  pub next-row : i < c .count → rowFits (rowAt list i) ≡ true → given.Token (rowAt list i) (movedOn c) ≡ nextOf list c
-  next-row h t = next-is list c f (sym (seen-row list c 0 e h t)) refl
+module _ (room : ℕ) (shown : ℕ → RowAt) (c : Cursor) (f : isFit room c ≡ true) {i : ℕ} (e : ahead c 0 ≡ i) where
+  pub next-row : i < c .count → {row : Row} → shown i ≡ Fit row → given.Token row (movedOn c) ≡ nextOf room shown c
+  next-row h t = next-is room shown c f (see-token shown c 0 (sym e) h refl t) refl
 
-  pub next-bad : i < c .count → rowFits (rowAt list i) ≡ false → given.BadRecord i ≡ nextOf list c
-  next-bad h t = next-is list c f (sym (seen-bad list c 0 e h t)) refl
+  pub next-bad : i < c .count → shown i ≡ Unfit → given.BadRecord i ≡ nextOf room shown c
+  next-bad h t = next-is room shown c f (see-bad shown c 0 (sym e) h refl t) refl
 
-  pub next-none : c .count ≤ i → given.Nothing ≡ nextOf list c
-  next-none h = next-is list c f (see-nothing list c 0 (sym e) h) refl
+  pub next-none : c .count ≤ i → given.Nothing ≡ nextOf room shown c
+  next-none h = next-is room shown c f (see-nothing shown c 0 (sym e) h) refl

@@ -1,13 +1,12 @@
 -- Document 01, "Look-ahead": a cursor over a scan's records. lexer.rs's `KotoLexer` has a queue of tokens beside its lexer; here both are
 -- numbers over the list. The tokens have places 0, 1, 2 and so on, without end at Stuck: those below `taken` are handed out, and so many as
--- `queued` says are queued from there on. A record is known here by its index alone; its numbers are known in the crate `token`.
+-- `queued` says are queued from there on. A record is known here by its index alone: of a list it is asked for how many records it has room,
+-- and what it shows at an index (`shown`). The layout of its records is known in the crate `rows`.
 -- Assumes nothing.
 use Prim.Native.Nat.{ℕ, _+_, _-_}
 use mathlib.Core.Bool.{Bool, false}
-use mathlib.Core.List.{List}
 use lib.Dec.{leb, ltb}
 use Rattle.base.specs.Pick.{pick}
-use Rattle.rows.specs.Row.{shownAt}
 use Rattle.rows.specs.declared.RowAt.{RowAt}
 use Rattle.rows.specs.declared.RowAt.the-variants.{Fit, Unfit}
 use Rattle.lookahead.specs.declared.Status.{Status}
@@ -60,5 +59,5 @@ seenBy i (Fit row) = Token row
 seenBy i Unfit = BadRecord i
 
 -- the token that comes after n others: its record, nothing, or that the record may not be shown (refusal 9)
-unfoldable pub seenAt : List ℕ → Cursor → ℕ → Seen
-seenAt list c n = pick (ltb (ahead c n) (c .count)) (seenBy (ahead c n) (shownAt list (ahead c n))) Nothing
+unfoldable pub seenAt : (ℕ → RowAt) → Cursor → ℕ → Seen
+seenAt shown c n = pick (ltb (ahead c n) (c .count)) (seenBy (ahead c n) (shown (ahead c n))) Nothing

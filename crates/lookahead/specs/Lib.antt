@@ -2,10 +2,5 @@ pub mod Cursor
 pub mod Next
 pub mod Peek
 pub mod Told
-pub mod Queue
-pub mod Calls
 pub mod CursorLaws
 pub mod AnswerLaws
-pub mod StreamLaws
-pub mod QueueLaws
-pub mod CallsLaws

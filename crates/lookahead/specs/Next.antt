@@ -1,10 +1,9 @@
 -- Document 01, "Look-ahead": `next`. It checks 8, 9; a refusal leaves the cursor.
 -- Assumes nothing.
 use Prim.Native.Nat.{ℕ, _-_}
-use mathlib.Core.List.{List}
 use Rattle.base.specs.Pick.{pick}
 use Rattle.base.specs.Refusal.{none, badState, badRecord}
-use Rattle.rows.specs.Row.{room}
+use Rattle.rows.specs.declared.RowAt.{RowAt}
 use Rattle.lookahead.specs.Cursor.{isFit, ahead, seenAt}
 use Rattle.lookahead.specs.declared.Cursor.{Cursor}
 use Rattle.lookahead.specs.declared.Seen.{Seen}
@@ -22,9 +21,9 @@ givenBy c (seen.Token row) = Token row (movedOn c)
 givenBy c seen.Nothing = Nothing
 givenBy c (seen.BadRecord i) = BadRecord i
 
--- the answer
-unfoldable pub nextOf : List ℕ → Cursor → Given
-nextOf list c = pick (isFit (room list) c) (givenBy c (seenAt list c 0)) BadState
+-- the answer, over a list that has room for so many records and shows these
+unfoldable pub nextOf : ℕ → (ℕ → RowAt) → Cursor → Given
+nextOf room shown c = pick (isFit room c) (givenBy c (seenAt shown c 0)) BadState
 
 -- document 01's number of an answer
 abbrev pub numberOf : Given → ℕ

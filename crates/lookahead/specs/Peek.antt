@@ -2,11 +2,10 @@
 -- Assumes nothing.
 use Prim.Native.Nat.{ℕ, _+_}
 use mathlib.Core.Bool.{Bool, _&&_}
-use mathlib.Core.List.{List}
 use lib.Dec.{eqb, leb, ltb}
 use Rattle.base.specs.Pick.{pick}
 use Rattle.base.specs.Refusal.{none, peekTooFar, queueFull, badState, badRecord}
-use Rattle.rows.specs.Row.{room}
+use Rattle.rows.specs.declared.RowAt.{RowAt}
 use Rattle.lookahead.specs.Cursor.{queueMost, isFit, ahead, seenAt}
 use Rattle.lookahead.specs.declared.Cursor.{Cursor}
 use Rattle.lookahead.specs.declared.Seen.{Seen}
@@ -33,17 +32,17 @@ shownBy c seen.Nothing = Nothing c
 shownBy c (seen.BadRecord i) = BadRecord i
 
 -- queued token n, or nothing where not so many are queued
-unfoldable pub queuedAt : List ℕ → Cursor → ℕ → Peeked
-queuedAt list c n = pick (ltb n (c .queued)) (shownBy c (seenAt list c n)) (Nothing c)
+unfoldable pub queuedAt : (ℕ → RowAt) → Cursor → ℕ → Peeked
+queuedAt shown c n = pick (ltb n (c .queued)) (shownBy c (seenAt shown c n)) (Nothing c)
 
--- the answer
-unfoldable pub peekOf : List ℕ → Cursor → ℕ → Peeked
-peekOf list c n =
-    pick (isFit (room list) c)
+-- the answer, over a list that has room for so many records and shows these
+unfoldable pub peekOf : ℕ → (ℕ → RowAt) → Cursor → ℕ → Peeked
+peekOf room shown c n =
+    pick (isFit room c)
     (pick (ltb (c .queued + 1) n) PeekTooFar
     (pick (mustQueue c n)
-    (pick (eqb (c .queued) queueMost) QueueFull (queuedAt list (queuedOne c) n))
-    (queuedAt list c n)))
+    (pick (eqb (c .queued) queueMost) QueueFull (queuedAt shown (queuedOne c) n))
+    (queuedAt shown c n)))
     BadState
 
 -- document 01's number of an answer

@@ -1,13 +1,13 @@
 // A scan's tokens one by one, and looking ahead: `next` and `peek` of lexer.rs's `KotoLexer`, over the list that a scan has written.
 //
 // The Rust keeps the tokens that it has looked at in a `VecDeque`. Here the list has all of them, so the queue is two numbers over it: the
-// queued tokens are those from `taken` on. This crate shows records through the crate `token`, and knows neither a record's words nor what
+// queued tokens are those from `taken` on. This crate shows records through the crate `rows`, and knows neither a record's words nor what
 // was scanned. Left out is `KotoLexer::source`: the caller has the source.
 pub mod answer;
 
 ghost use mathlib.Core.Path.{_≡_};
 ghost use Prim.Native.Nat.{_-_, _≤_};
-ghost use Rattle.rows.specs.Row.{room};
+ghost use Rattle.rows.specs.Row.{room, shownAt};
 ghost use Rattle.lookahead.specs.Cursor.{queueMost, isFit, lastPlace, ahead, seenAt};
 ghost use Rattle.lookahead.specs.Next.{movedOn, nextOf};
 ghost use Rattle.lookahead.specs.Peek.{mustQueue, queuedOne, queuedAt, peekOf};
@@ -49,7 +49,7 @@ pub enum Given {
     Nothing,
     // Refusal 8: the cursor is unfit for this list.
     BadState,
-    // Refusal 9: no scan wrote the record at this index.
+    // Refusal 9: the record at this index has a kind over 80, or a detail that its kind may not have.
     BadRecord(usize),
 }
 
@@ -64,7 +64,7 @@ pub enum Peeked {
     PeekTooFar,
     // Refusal 7: a token must be queued, and no more may be.
     QueueFull,
-    // Refusal 9: no scan wrote the record at this index.
+    // Refusal 9: the record at this index has a kind over 80, or a detail that its kind may not have.
     BadRecord(usize),
 }
 
@@ -166,7 +166,7 @@ impl Cursor {
 // The token that comes after n others.
 fn see(list: &[u32], cursor: Cursor, n: usize) -> Seen
     requires { ⌜ cursor .count ≤ room (now list) ⌝ }
-    ensures { λ r. ⌜ r ≡ seenAt (now (list .entry)) cursor n ⌝ }
+    ensures { λ r. ⌜ r ≡ seenAt (shownAt (now (list .entry))) cursor n ⌝ }
 {
     let i = cursor.ahead(n);
     if i < cursor.count {
@@ -180,7 +180,7 @@ fn see(list: &[u32], cursor: Cursor, n: usize) -> Seen
 
 // Hands out the next token. Refused are an unfit cursor, then a record that may not be shown.
 pub fn next(list: &[u32], cursor: Cursor) -> Given
-    ensures { λ r. ⌜ r ≡ nextOf (now (list .entry)) cursor ⌝ }
+    ensures { λ r. ⌜ r ≡ nextOf (room (now (list .entry))) (shownAt (now (list .entry))) cursor ⌝ }
 {
     if !cursor.is_fit(rows::room(list)) {
         return Given::BadState;
@@ -198,7 +198,7 @@ pub fn next(list: &[u32], cursor: Cursor) -> Given
 // Shows queued token n, or that not so many are queued.
 fn queued_at(list: &[u32], cursor: Cursor, n: usize) -> Peeked
     requires { ⌜ cursor .count ≤ room (now list) ⌝ }
-    ensures { λ r. ⌜ r ≡ queuedAt (now (list .entry)) cursor n ⌝ }
+    ensures { λ r. ⌜ r ≡ queuedAt (shownAt (now (list .entry))) cursor n ⌝ }
 {
     if n < cursor.queued {
         return match see(list, cursor, n) {
@@ -213,7 +213,7 @@ fn queued_at(list: &[u32], cursor: Cursor, n: usize) -> Peeked
 // Queues one more token, if there is one and n is at most what is queued, and shows queued token n. Refused are an unfit cursor, then an n
 // that is too far, then a full queue, then a record that may not be shown.
 pub fn peek(list: &[u32], cursor: Cursor, n: usize) -> Peeked
-    ensures { λ r. ⌜ r ≡ peekOf (now (list .entry)) cursor n ⌝ }
+    ensures { λ r. ⌜ r ≡ peekOf (room (now (list .entry))) (shownAt (now (list .entry))) cursor n ⌝ }
 {
     if !cursor.is_fit(rows::room(list)) {
         return Peeked::BadState;

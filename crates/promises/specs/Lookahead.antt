@@ -4,11 +4,11 @@ use Prim.Native.Nat.{ℕ, _+_, _-_, _<_, _≤_}
 use mathlib.Core.Path.{_≡_}
 use mathlib.Core.Bool.{true, false}
 use mathlib.Core.List.{List}
-use mathlib.Core.Option.{some}
+use mathlib.Core.Option.{Option, some}
 use mathlib.Core.Option as option
 use lib.ListN.{length, getD}
 use Rattle.base.specs.Refusal.{none, peekTooFar, queueFull, badState, badRecord}
-use Rattle.rows.specs.Row.{room, rowAt, rowFits}
+use Rattle.rows.specs.Row.{room, rowAt, rowFits, shownAt}
 use Rattle.rows.specs.declared.Row.{Row}
 use Rattle.reading.specs.declared.Scanned.{Scanned}
 use Rattle.reading.specs.declared.Scanned.the-variants as scanned
@@ -17,14 +17,14 @@ use Rattle.lookahead.specs.Next as ofNext
 use Rattle.lookahead.specs.Next.{nextOf}
 use Rattle.lookahead.specs.Peek as ofPeek
 use Rattle.lookahead.specs.Peek.{peekOf}
-use Rattle.lookahead.specs.Queue.{KotoLexer, newLexer, underflows}
-use Rattle.lookahead.specs.Calls.{Call, next, peek, call, afterCalls, tokensOf, Unrefused, nexts, rustAfter, rustTokens}
 use Rattle.lookahead.specs.declared.Status.the-variants.{End, Stuck}
 use Rattle.lookahead.specs.declared.Cursor.{Cursor}
 use Rattle.lookahead.specs.declared.Given.{Given}
 use Rattle.lookahead.specs.declared.Given.the-variants as given
 use Rattle.lookahead.specs.declared.Peeked.{Peeked}
 use Rattle.lookahead.specs.declared.Peeked.the-variants as peeked
+use Rattle.queue.specs.Queue.{KotoLexer, newLexer, underflows}
+use Rattle.queue.specs.Calls.{Call, next, peek, Outcome, call, afterCalls, tokensOf, Unrefused, nexts, rustAfter, rustTokens}
 use Rattle.promises.specs.Said.{Said, says}
 
 -- ---- the cursor
@@ -46,7 +46,7 @@ pub data More (c : Cursor) : Type 0 where
 
 -- what it ensures of its answer
 abbrev pub NextEnsures : List ℕ → Cursor → Given → Type 0
-NextEnsures list c r = r ≡ nextOf list c
+NextEnsures list c r = r ≡ nextOf (room list) (shownAt list) c
 
 abbrev pub givenSays : Given → Said
 givenSays r = says (ofNext.numberOf r) (ofNext.placeOf r)
@@ -76,7 +76,7 @@ pub record NextPromise (list : List ℕ) (c : Cursor) (r : Given) : Type 0 where
 
 -- what it ensures of its answer
 abbrev pub PeekEnsures : List ℕ → Cursor → ℕ → Peeked → Type 0
-PeekEnsures list c n r = r ≡ peekOf list c n
+PeekEnsures list c n r = r ≡ peekOf (room list) (shownAt list) c n
 
 abbrev pub peekedSays : Peeked → Said
 peekedSays r = says (ofPeek.numberOf r) (ofPeek.placeOf r)
@@ -106,6 +106,24 @@ pub record PeekPromise (list : List ℕ) (c : Cursor) (n : ℕ) (r : Peeked) : T
   pub place-at-stuck : c .status ≡ Stuck → c .taken + n < c .count → ahead c n ≡ c .taken + n
   pub place-past : c .status ≡ Stuck → c .count ≤ c .taken + n → ahead c n ≡ c .count - 1
 
+-- ---- calls over a list of records
+
+-- one call, from a cursor
+abbrev pub callOn : List ℕ → Cursor → Call → Outcome
+callOn list = call (room list) (shownAt list)
+
+-- the cursor after some calls
+abbrev pub afterOn : List ℕ → Cursor → List Call → Cursor
+afterOn list = afterCalls (room list) (shownAt list)
+
+-- their tokens, one for each call
+abbrev pub tokensOn : List ℕ → Cursor → List Call → List (Option Row)
+tokensOn list = tokensOf (room list) (shownAt list)
+
+-- none of them is refused
+abbrev pub UnrefusedOn : List ℕ → Cursor → List Call → Type 0
+UnrefusedOn list = Unrefused (room list) (shownAt list)
+
 -- ---- after a scan
 
 -- the cursor to begin with, where the scan was not refused
@@ -129,23 +147,23 @@ pub record HandsOut (list : List ℕ) (rows : List Row) (c : Cursor) : Type 0 wh
   -- whatever was called before, no call gets 8 or 9
   pub never-refused :
       (calls : List Call) (x : Call)
-      → (call list (afterCalls list c calls) x .number ≡ badState → ⊥) × (call list (afterCalls list c calls) x .number ≡ badRecord → ⊥)
+      → (callOn list (afterOn list c calls) x .number ≡ badState → ⊥) × (callOn list (afterOn list c calls) x .number ≡ badRecord → ⊥)
   -- `next` hands out the rows in order, whatever was looked at between
   pub in-order :
       (calls : List Call) (d : Row) → nexts calls < length rows
-      → call list (afterCalls list c calls) next .token ≡ some (getD rows (nexts calls) d)
+      → callOn list (afterOn list c calls) next .token ≡ some (getD rows (nexts calls) d)
   -- and then nothing at End, and the last for ever at Stuck
   pub ended :
-      c .status ≡ End → (calls : List Call) → length rows ≤ nexts calls → call list (afterCalls list c calls) next .token ≡ option.none
+      c .status ≡ End → (calls : List Call) → length rows ≤ nexts calls → callOn list (afterOn list c calls) next .token ≡ option.none
   pub endless :
       c .status ≡ Stuck → (calls : List Call) (d : Row) → length rows ≤ nexts calls
-      → call list (afterCalls list c calls) next .token ≡ some (getD rows (length rows - 1) d)
+      → callOn list (afterOn list c calls) next .token ≡ some (getD rows (length rows - 1) d)
   -- calls of which none is refused answer what the Rust's answer
-  pub as-in-rust : (calls : List Call) → Unrefused list c calls → rustTokens rows (c .status) newLexer calls ≡ tokensOf list c calls
+  pub as-in-rust : (calls : List Call) → UnrefusedOn list c calls → rustTokens rows (c .status) newLexer calls ≡ tokensOn list c calls
   -- after such calls 6 is given exactly where the Rust's subtraction underflows, and 7 only where its queue is full
   pub too-far :
-      (calls : List Call) → Unrefused list c calls → (n : ℕ)
-      → TooFarIs (call list (afterCalls list c calls) (peek n) .number) n (rustAfter rows (c .status) newLexer calls)
+      (calls : List Call) → UnrefusedOn list c calls → (n : ℕ)
+      → TooFarIs (callOn list (afterOn list c calls) (peek n) .number) n (rustAfter rows (c .status) newLexer calls)
   pub full :
-      (calls : List Call) → Unrefused list c calls → (n : ℕ) → call list (afterCalls list c calls) (peek n) .number ≡ queueFull
+      (calls : List Call) → UnrefusedOn list c calls → (n : ℕ) → callOn list (afterOn list c calls) (peek n) .number ≡ queueFull
       → length (rustAfter rows (c .status) newLexer calls .«token_queue») ≡ queueMost

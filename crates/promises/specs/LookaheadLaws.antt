@@ -3,7 +3,7 @@
 --     peek-promise, peek-has-one-answer
 --     after-a-scan    after an unrefused scan 8 and 9 are never given, the definition's tokens are handed out, and the Rust says the same
 -- Assumes nothing.
-use Prim.Native.Nat.{ℕ, _+_, _-_, _/_, _<_, _≤_}
+use Prim.Native.Nat.{ℕ, _+_, _-_, _<_, _≤_}
 use native.Mathlib.Nat.{add-zero}
 use native.Mathlib.Omega.{arith}
 use mathlib.Core.Path.{_≡_, refl, sym, ap, subst, _∙_}
@@ -18,8 +18,8 @@ use Rattle.utf8.specs.CharsLaws.{well-of-fine}
 use Rattle.property.specs.Table.{propertiesAt}
 use Rattle.fitness.specs.FitLaws as property
 use Rattle.input.specs.Input.{baseEdition}
-use Rattle.rows.specs.Row.{room, rowAt, rowsOf, putRows, rowFits}
-use Rattle.rows.specs.RowLaws.{rows-length, rows-at, rows-back, fits-packs}
+use Rattle.rows.specs.Row.{room, rowAt, putRows, rowFits, shownAt}
+use Rattle.rows.specs.RowLaws.{rows-room, rows-shown, shown-fit, shown-unfit}
 use Rattle.rows.specs.declared.Row.{Row}
 use Rattle.state.specs.State.{startState}
 use Rattle.stepping.specs.InvariantLaws.{start-ok}
@@ -36,12 +36,6 @@ use Rattle.lookahead.specs.Next.{movedOn, nextOf}
 use Rattle.lookahead.specs.Peek.{hasMore, mustQueue, queuedOne, queuedAt, peekOf}
 use Rattle.lookahead.specs.AnswerLaws.{next-row, next-bad, next-none, queued-row, queued-bad, queued-none}
 use Rattle.lookahead.specs.AnswerLaws.{peek-far, peek-as-is, peek-full, peek-more}
-use Rattle.lookahead.specs.Queue.{newLexer, tokenAt}
-use Rattle.lookahead.specs.Calls.{Call, next, call, afterCalls, Unrefused, nexts, Shows, Stands, rustAfter, Mirrors}
-use Rattle.lookahead.specs.StreamLaws.{get-in, get-past}
-use Rattle.lookahead.specs.QueueLaws.{start-mirrors, calls-agree, calls-mirror, far-underflows, full-queued}
-use Rattle.lookahead.specs.CallsLaws as laws
-use Rattle.lookahead.specs.CallsLaws.{start-stands, calls-stand}
 use Rattle.lookahead.specs.declared.Status.{Status}
 use Rattle.lookahead.specs.declared.Status.the-variants.{End, Stuck}
 use Rattle.lookahead.specs.declared.Cursor.{Cursor}
@@ -49,9 +43,16 @@ use Rattle.lookahead.specs.declared.Given.{Given}
 use Rattle.lookahead.specs.declared.Given.the-variants as given
 use Rattle.lookahead.specs.declared.Peeked.{Peeked}
 use Rattle.lookahead.specs.declared.Peeked.the-variants as peeked
+use Rattle.queue.specs.Queue.{newLexer, tokenAt}
+use Rattle.queue.specs.Calls.{Call, next, nexts, Shows, Stands, rustAfter, Mirrors}
+use Rattle.queue.specs.StreamLaws.{get-in, get-past, shows-by}
+use Rattle.queue.specs.QueueLaws.{start-mirrors, calls-agree, calls-mirror, far-underflows, full-queued}
+use Rattle.queue.specs.CallsLaws as laws
+use Rattle.queue.specs.CallsLaws.{start-stands, calls-stand}
 use Rattle.promises.specs.Lookahead.{Unfit, list-short, taken-over, queued-past-end, stuck-all-taken, queued-over}
 use Rattle.promises.specs.Lookahead.{More, left, again, NextEnsures, givenSays, handedOn, NextPromise}
-use Rattle.promises.specs.Lookahead.{PeekEnsures, peekedSays, Queues, one-more, no-more, next-one, PeekPromise, BeginsAt, HandsOut}
+use Rattle.promises.specs.Lookahead.{PeekEnsures, peekedSays, Queues, one-more, no-more, next-one, PeekPromise}
+use Rattle.promises.specs.Lookahead.{callOn, afterOn, UnrefusedOn, BeginsAt, HandsOut}
 
 -- ---- which cursors are fit
 
@@ -101,11 +102,11 @@ module _ (list : List ℕ) (c : Cursor) (n : Unfit list c → ⊥) where
   moved-to taken e = rw e
 
   given-to : (taken : ℕ) → c .taken < c .count → rowFits (rowAt list (c .taken)) ≡ true → ahead c 1 ≡ taken
-      → nextOf list c ≡ given.Token (rowAt list (c .taken)) (handedOn c taken)
+      → nextOf (room list) (shownAt list) c ≡ given.Token (rowAt list (c .taken)) (handedOn c taken)
   given-to taken h t e =
-      sym (next-row list c (fit-is list c n) first h t) ∙ ap (given.Token (rowAt list (c .taken))) (moved-to taken e)
+      sym (next-row (room list) (shownAt list) c (fit-is list c n) first h (shown-fit list (c .taken) t)) ∙ ap (given.Token (rowAt list (c .taken))) (moved-to taken e)
 
-unfit-next : (list : List ℕ) (c : Cursor) → isFit (room list) c ≡ false → nextOf list c ≡ given.BadState
+unfit-next : (list : List ℕ) (c : Cursor) → isFit (room list) c ≡ false → nextOf (room list) (shownAt list) c ≡ given.BadState
 unfolding nextOf
 unfit-next list c f = rw f
 
@@ -117,8 +118,9 @@ pub next-promise : (list : List ℕ) (c : Cursor) (r : Given) → NextEnsures li
 next-promise list c r e =
     record {
       unfit = λ u. ap givenSays (e ∙ unfit-next list c (unfit-is list c u));
-      nothing-left = λ n h. e ∙ sym (next-none list c (fit-is list c n) (first list c n) (omega arith));
-      bad-record = λ n h t. ap givenSays (e ∙ sym (next-bad list c (fit-is list c n) (first list c n) h t));
+      nothing-left = λ n h. e ∙ sym (next-none (room list) (shownAt list) c (fit-is list c n) (first list c n) (omega arith));
+      bad-record = λ n h t. ap givenSays
+          (e ∙ sym (next-bad (room list) (shownAt list) c (fit-is list c n) (first list c n) h (shown-unfit list (c .taken) t)));
       at-end = λ n s h t. e
           ∙ given-to list c n (c .taken + 1) h t (ahead-by c 1 End s ∙ omega (arith, record-at (c .count) End (c .taken + 1)));
       at-stuck = λ n s h t. e
@@ -133,7 +135,7 @@ next-has-one-answer list c r q e f = e ∙ sym f
 
 -- ---- `peek`
 
-unfit-peek : (list : List ℕ) (c : Cursor) (n : ℕ) → isFit (room list) c ≡ false → peekOf list c n ≡ peeked.BadState
+unfit-peek : (list : List ℕ) (c : Cursor) (n : ℕ) → isFit (room list) c ≡ false → peekOf (room list) (shownAt list) c n ≡ peeked.BadState
 unfolding peekOf
 unfit-peek list c n f = rw f
 
@@ -172,7 +174,7 @@ module _ (list : List ℕ) (c : Cursor) (f : isFit (room list) c ≡ true) where
 
   -- what is queued for a look at n
   pub record Looks (n : ℕ) (d : Cursor) : Type 0 where
-    pub answer : peekOf list c n ≡ queuedAt list d n
+    pub answer : peekOf (room list) (shownAt list) c n ≡ queuedAt (shownAt list) d n
     pub fit : isFit (room list) d ≡ true
     pub same : ahead d n ≡ ahead c n
 
@@ -181,34 +183,34 @@ module _ (list : List ℕ) (c : Cursor) (f : isFit (room list) c ≡ true) where
   looks n d (one-more h m q) =
       let no : c .queued ≡ queueMost → ⊥ = λ e. omega arith in
       record {
-        answer = sym (peek-more list c n f (omega arith) (must n h m) no);
+        answer = sym (peek-more (room list) (shownAt list) c n f (omega arith) (must n h m) no);
         fit = queued-fits (room list) c f (more-is m) no;
         same = refl;
       }
-  looks n d (no-more h m) = record { answer = sym (peek-as-is list c n f (omega arith) (must-not n h m)); fit = f; same = refl }
-  looks n d (next-one e) = record { answer = sym (peek-as-is list c n f (omega arith) (must-past n (omega arith))); fit = f; same = refl }
+  looks n d (no-more h m) = record { answer = sym (peek-as-is (room list) (shownAt list) c n f (omega arith) (must-not n h m)); fit = f; same = refl }
+  looks n d (next-one e) = record { answer = sym (peek-as-is (room list) (shownAt list) c n f (omega arith) (must-past n (omega arith))); fit = f; same = refl }
 
   -- the answer for such a look
   module _ (n : ℕ) (d : Cursor) (l : Looks n d) where
-    look-none : d .queued ≤ n → peekOf list c n ≡ peeked.Nothing d
-    look-none h = l .answer ∙ sym (queued-none list d n h)
+    look-none : d .queued ≤ n → peekOf (room list) (shownAt list) c n ≡ peeked.Nothing d
+    look-none h = l .answer ∙ sym (queued-none (shownAt list) d n h)
 
     module _ (h : n < d .queued) where
       there : ahead c n < d .count
       there = subst (λ (i : ℕ). i < d .count) (l .same) (queued-there (room list) d (l .fit) n h)
 
-      look-bad : rowFits (rowAt list (ahead c n)) ≡ false → peekOf list c n ≡ peeked.BadRecord (ahead c n)
-      look-bad t = l .answer ∙ sym (queued-bad list d n (l .same) there h t)
+      look-bad : rowFits (rowAt list (ahead c n)) ≡ false → peekOf (room list) (shownAt list) c n ≡ peeked.BadRecord (ahead c n)
+      look-bad t = l .answer ∙ sym (queued-bad (shownAt list) d n (l .same) there h (shown-unfit list (ahead c n) t))
 
-      look-row : rowFits (rowAt list (ahead c n)) ≡ true → peekOf list c n ≡ peeked.Token (rowAt list (ahead c n)) d
-      look-row t = l .answer ∙ sym (queued-row list d n (l .same) there h t)
+      look-row : rowFits (rowAt list (ahead c n)) ≡ true → peekOf (room list) (shownAt list) c n ≡ peeked.Token (rowAt list (ahead c n)) d
+      look-row t = l .answer ∙ sym (queued-row (shownAt list) d n (l .same) there h (shown-fit list (ahead c n) t))
 
 pub peek-promise : (list : List ℕ) (c : Cursor) (n : ℕ) (r : Peeked) → PeekEnsures list c n r → PeekPromise list c n r
 peek-promise list c n r e =
     record {
       unfit = λ u. ap peekedSays (e ∙ unfit-peek list c n (unfit-is list c u));
-      too-far = λ f h. ap peekedSays (e ∙ sym (peek-far list c n (fit-is list c f) h));
-      full = λ f h m q. let g = fit-is list c f in ap peekedSays (e ∙ sym (peek-full list c n g (omega arith) (must list c g n h m) q));
+      too-far = λ f h. ap peekedSays (e ∙ sym (peek-far (room list) (shownAt list) c n (fit-is list c f) h));
+      full = λ f h m q. let g = fit-is list c f in ap peekedSays (e ∙ sym (peek-full (room list) (shownAt list) c n g (omega arith) (must list c g n h m) q));
       nothing = λ f d l h. let g = fit-is list c f in e ∙ look-none list c g n d (looks list c g n d l) h;
       bad-record = λ f d l h t. let g = fit-is list c f in ap peekedSays (e ∙ look-bad list c g n d (looks list c g n d l) h t);
       shown = λ f d l h t. let g = fit-is list c f in e ∙ look-row list c g n d (looks list c g n d l) h t;
@@ -253,45 +255,38 @@ module _ (old : List ℕ) (rows : List Row) (status : Status) (h : length rows �
   begin = startCursor count status
 
   begins-fit : isFit (room list) begin ≡ true
-  begins-fit =
-      let same : room list ≡ room old = ap (λ (n : ℕ). n / 8) (rows-length old rows h) in
-      start-fits (room list) count status (omega arith) some-stuck
+  begins-fit = start-fits (room list) count status (omega (arith, rows-room old rows h)) some-stuck
 
-  rows-are : rowsOf count list ≡ rows
-  rows-are = rows-back old rows (rowAt old 0) (λ i k. fits-packs (getD rows i (rowAt old 0)) (shown i (rowAt old 0) k))
+  shows : Shows (shownAt list) rows
+  shows = shows-by (shownAt list) rows (λ i d k. rows-shown old rows i d k (shown i d k))
 
-  shows : Shows list count
-  shows i k =
-      let t : rowFits (getD rows i (rowAt old 0)) ≡ true = shown i (rowAt old 0) k in
-      rw (rows-at old rows i (rowAt old 0) k (fits-packs (getD rows i (rowAt old 0)) t)) t
+  stands : (calls : List Call) → Stands (room list) count status (0 + nexts calls) (afterOn list begin calls)
+  stands = calls-stand (room list) (shownAt list) rows status shows 0 begin (start-stands (room list) count status begins-fit)
 
-  stands : (calls : List Call) → Stands list count status (0 + nexts calls) (afterCalls list begin calls)
-  stands = calls-stand list count status shows 0 begin (start-stands list count status begins-fit)
-
-  next-is : (calls : List Call) → call list (afterCalls list begin calls) next .token ≡ tokenAt rows status (nexts calls)
+  next-is : (calls : List Call) → callOn list (afterOn list begin calls) next .token ≡ tokenAt rows status (nexts calls)
   next-is calls =
       let z : 0 + nexts calls ≡ nexts calls = omega arith in
-      laws.next-token list count status shows (0 + nexts calls) (afterCalls list begin calls) (stands calls) .1
-      ∙ ap (λ (l : List Row). tokenAt l status (0 + nexts calls)) rows-are
+      laws.next-token (room list) (shownAt list) rows status shows (0 + nexts calls) (afterOn list begin calls) (stands calls) .1
       ∙ ap (tokenAt rows status) z
 
-  begins : Mirrors list rows status begin newLexer
-  begins = subst (λ (l : List Row). Mirrors list l status begin newLexer) rows-are (start-mirrors list count status begins-fit)
+  begins : Mirrors (room list) rows status begin newLexer
+  begins = start-mirrors (room list) rows status begins-fit
 
-  mirrors : (calls : List Call) → Unrefused list begin calls
-      → Mirrors list rows status (afterCalls list begin calls) (rustAfter rows status newLexer calls)
-  mirrors = calls-mirror list rows status begin newLexer begins
+  mirrors : (calls : List Call) → UnrefusedOn list begin calls
+      → Mirrors (room list) rows status (afterOn list begin calls) (rustAfter rows status newLexer calls)
+  mirrors = calls-mirror (room list) (shownAt list) rows status shows begin newLexer begins
 
   hands-out : HandsOut list rows begin
   hands-out =
       record {
-        never-refused = λ calls. laws.never-refused list count status shows (0 + nexts calls) (afterCalls list begin calls) (stands calls);
+        never-refused = λ calls.
+            laws.never-refused (room list) (shownAt list) rows status shows (0 + nexts calls) (afterOn list begin calls) (stands calls);
         in-order = λ calls d k. next-is calls ∙ stream-row rows status (nexts calls) d k;
         ended = λ e calls k. next-is calls ∙ stream-ended rows status (nexts calls) (rowAt old 0) e k;
         endless = λ e calls d k. next-is calls ∙ stream-last rows status (nexts calls) d e (some-stuck e) k;
-        as-in-rust = calls-agree list rows status begin newLexer begins;
-        too-far = λ calls u. far-underflows list rows status (afterCalls list begin calls) _ (mirrors calls u);
-        full = λ calls u. full-queued list rows status (afterCalls list begin calls) _ (mirrors calls u);
+        as-in-rust = calls-agree (room list) (shownAt list) rows status shows begin newLexer begins;
+        too-far = λ calls u. far-underflows (room list) (shownAt list) rows status shows (afterOn list begin calls) _ (mirrors calls u);
+        full = λ calls u. full-queued (room list) (shownAt list) rows status shows (afterOn list begin calls) _ (mirrors calls u);
       }
 
 -- the rows of a source that is read whole

@@ -3,6 +3,7 @@ pub mod Scan
 pub mod Status
 pub mod Potential
 pub mod ReadingLaws
+pub mod AlikeLaws
 pub mod ShownLaws
 pub mod ScanLaws
 pub mod WholeLaws

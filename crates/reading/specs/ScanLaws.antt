@@ -5,7 +5,7 @@
 --     count-room                           a scan counts no more records than the list has room for
 --     one-answer                           no second answer and no second list fits a scan
 -- Assumes nothing.
-use Prim.Native.Nat.{ℕ, zero, suc, _+_, _-_, _/_, _≤_, _<_}
+use Prim.Native.Nat.{ℕ, zero, suc, _+_, _-_, _≤_, _<_}
 use native.Mathlib.Omega.{arith}
 use native.Mathlib.Nat.{add-zero}
 use mathlib.Core.Path.{_≡_, refl, sym, ap, subst, _∙_}
@@ -21,7 +21,7 @@ use Rattle.input.specs.InputLaws.{by-input}
 use Rattle.input.specs.declared.Refusal.{Refusal}
 use Rattle.input.specs.declared.Input.the-variants as input
 use Rattle.rows.specs.Row.{room, putRow, putRows, putRowsAt}
-use Rattle.rows.specs.RowLaws.{put-length, puts-none, puts-next, rows-none, rows-one-by-one}
+use Rattle.rows.specs.RowLaws.{put-room, puts-none, puts-next, rows-none, rows-one-by-one}
 use Rattle.rows.specs.declared.Row.{Row}
 use Rattle.state.specs.State.{startState}
 use Rattle.state.specs.declared.State.{State}
@@ -59,8 +59,7 @@ module _ (l : List ℕ) (k b : ℕ) where
       → Fills l k b (onto row r) x new
   unfolding endOf
   fills-row row r x new h f =
-      let long : length (putRow l k row) ≡ length l = put-length l k row h in
-      let same : room (putRow l k row) ≡ room l = ap (λ (n : ℕ). n / 8) long in
+      let same : room (putRow l k row) ≡ room l = put-room l k row h in
       let n : room l - k ≡ suc (room l - (k + 1)) = omega arith in
       let m : k + suc (length (r .rows)) ≡ k + 1 + length (r .rows) = omega arith in
       record {

@@ -1,2 +1,4 @@
+pub mod Store
 pub mod Row
+pub mod StoreLaws
 pub mod RowLaws

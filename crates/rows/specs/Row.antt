@@ -2,11 +2,12 @@
 -- the other from the start of a list. Nothing outside this crate knows a record's numbers: it knows `Row`, and these names.
 -- Assumes nothing.
 use mathlib.Core.Bool.{Bool}
-use mathlib.Core.List.{List, [], _∷_, _++_}
+use mathlib.Core.List.{List, [], _∷_}
 use Prim.Native.Nat.{ℕ, zero, suc, _+_, _*_, _/_, _%_, _<_}
-use lib.ListN.{length, getD, take, drop}
+use lib.ListN.{getD, drop}
 use Rattle.base.specs.Pick.{pick}
 use Rattle.token.specs.Detail.{fits}
+use Rattle.rows.specs.Store.{roomFor, putAt, wordsAll, putAll, putFrom}
 use Rattle.rows.specs.declared.Row.{Row}
 use Rattle.rows.specs.declared.RowAt.{RowAt}
 use Rattle.rows.specs.declared.RowAt.the-variants.{Fit, Unfit}
@@ -21,7 +22,7 @@ kindRoom = 128
 
 -- how many records a list has room for
 abbrev pub room : List ℕ → ℕ
-room list = length list / rowWords
+room = roomFor rowWords
 
 -- a record's numbers: kind + 128 × detail, byte start, byte end, start line, start column, end line, end column, indent
 abbrev pub wordsOf : Row → List ℕ
@@ -57,8 +58,8 @@ rowFrom list at =
     }
 
 -- the record that the first eight numbers of a list are
-unfoldable pub rowOf : List ℕ → Row
-rowOf words = rowFrom words 0
+unfoldable pub firstRow : List ℕ → Row
+firstRow list = rowFrom list 0
 
 -- record i of a list
 unfoldable pub rowAt : List ℕ → ℕ → Row
@@ -66,28 +67,26 @@ rowAt list i = rowFrom list (rowWords * i)
 
 -- a list in which record i is this one; every other number stays
 unfoldable pub putRow : List ℕ → ℕ → Row → List ℕ
-putRow list i row = take (rowWords * i) list ++ wordsOf row ++ drop (rowWords * i + rowWords) list
+putRow list i row = putAt rowWords list i (wordsOf row)
 
 -- ---- many records
 
 -- the numbers of some records, one after the other
 unfoldable pub wordsOfAll : List Row → List ℕ
-wordsOfAll [] = []
-wordsOfAll (r ∷ rows) = wordsOf r ++ wordsOfAll rows
+wordsOfAll = wordsAll wordsOf
 
 -- a list that starts with these records; every number after them stays
 unfoldable pub putRows : List ℕ → List Row → List ℕ
-putRows list rows = wordsOfAll rows ++ drop (rowWords * length rows) list
+putRows = putAll rowWords wordsOf
 
 -- records put from record k on, one after the other
 unfoldable pub putRowsAt : List ℕ → ℕ → List Row → List ℕ
-putRowsAt list k [] = list
-putRowsAt list k (r ∷ rows) = putRowsAt (putRow list k r) (k + 1) rows
+putRowsAt = putFrom rowWords wordsOf
 
 -- the first so many records of a list
 unfoldable pub rowsOf : ℕ → List ℕ → List Row
 rowsOf zero list = []
-rowsOf (suc n) list = rowOf list ∷ rowsOf n (drop rowWords list)
+rowsOf (suc n) list = firstRow list ∷ rowsOf n (drop rowWords list)
 
 -- ---- a record that may be shown
 

@@ -4,9 +4,12 @@
 // records have room are known here alone. It knows no source, no state and no scan.
 ghost use mathlib.Core.Path.{_≡_};
 ghost use Prim.Native.Nat.{_*_, _<_};
-ghost use Rattle.rows.specs.Row.{room, Packs, putRow, rowFrom, shownAt};
+ghost use Rattle.rows.specs.Row.{rowWords, room, Packs, putRow, rowFrom, shownAt};
 use token::detail_allowed;
 use token::kinds::KIND_MOST;
+
+// How many numbers a record has.
+pub const ROW_WORDS: usize = 8;
 
 // What a record tells of its token.
 pub struct Row {
@@ -27,7 +30,7 @@ pub struct Row {
 // What stands at an index of a list.
 pub enum RowAt {
     Fit(Row),
-    // The kind is over 80, or the detail is none that this kind may have: no scan wrote it.
+    // The kind is over 80, or the detail is none that this kind may have. Nothing else of the record is tested.
     Unfit,
 }
 
@@ -35,7 +38,7 @@ pub enum RowAt {
 pub fn room(list: &[u32]) -> usize
     ensures { λ r. ⌜ r ≡ room (now (list .entry)) ⌝ }
 {
-    list.len() / 8
+    list.len() / ROW_WORDS
 }
 
 // Writes record i. Every number of the other records stays.
@@ -43,7 +46,7 @@ pub fn put_row(list: &mut [u32], i: usize, row: Row)
     requires { ⌜ (i < room (now list)) × Packs row ⌝ }
     ensures { λ _. ⌜ now (list .exit) ≡ putRow (now (list .entry)) i row ⌝ }
 {
-    let at = 8 * i;
+    let at = ROW_WORDS * i;
     list[at] = row.kind + 128 * row.detail;
     list[at + 1] = row.start;
     list[at + 2] = row.end;
@@ -57,9 +60,9 @@ pub fn put_row(list: &mut [u32], i: usize, row: Row)
 // Record i as its numbers say, fit or not.
 fn read_row(list: &[u32], i: usize) -> Row
     requires { ⌜ i < room (now list) ⌝ }
-    ensures { λ r. ⌜ r ≡ rowFrom (now (list .entry)) (8 * i) ⌝ }
+    ensures { λ r. ⌜ r ≡ rowFrom (now (list .entry)) (rowWords * i) ⌝ }
 {
-    let at = 8 * i;
+    let at = ROW_WORDS * i;
     let first = list[at];
     Row {
         kind: first % 128,

@@ -1,4 +1,5 @@
 -- Both halves of a step together are the Rust's stack and step.
+--     length-codes     a stack has as many modes as its depth
 --     change-same      a change of the modes leaves place, indent and previous token
 --     step-mirrors
 -- Assumes nothing.
@@ -26,7 +27,7 @@ use Rattle.lexer.specs.ArmLaws.{change-fits}
 use Rattle.lexer.specs.declared.Half.{Half}
 use Rattle.stepping.specs.Mirrors.{Same, Follows, Mirrors}
 
-length-codes : (codes : List ℕ) (d : ℕ) → length (codesOf codes d) ≡ d
+pub length-codes : (codes : List ℕ) (d : ℕ) → length (codesOf codes d) ≡ d
 unfolding codesOf
 length-codes codes zero = refl
 length-codes codes (suc d) = ap suc (length-codes codes d)

@@ -4,6 +4,7 @@
 use Prim.Native.Nat.{ℕ}
 use mathlib.Core.List.{List}
 use Rattle.base.specs.Refusal.{peekTooFar, queueFull, badState, badRecord}
+use Rattle.rows.specs.Row.{room, shownAt}
 use Rattle.lookahead.specs.Next.{nextOf}
 use Rattle.lookahead.specs.Peek.{peekOf}
 use Rattle.lookahead.specs.declared.Cursor.{Cursor}
@@ -39,5 +40,5 @@ toldPeeked c (peeked.BadRecord i) = refusedAt badRecord i c
 
 -- a call, from a cursor
 abbrev pub toldOf : List ℕ → Cursor → Call → Told
-toldOf list c Next = toldGiven c (nextOf list c)
-toldOf list c (Peek n) = toldPeeked c (peekOf list c n)
+toldOf list c Next = toldGiven c (nextOf (room list) (shownAt list) c)
+toldOf list c (Peek n) = toldPeeked c (peekOf (room list) (shownAt list) c n)

@@ -46,17 +46,17 @@ enum-known-i c = search needs
 returns-2 : tie.Need-returns-2
 returns-2 c =
     let at-see = c .before .before .before .before in
-    next-is _ _ (fit (at-see .before)) (at-see .see .ensures) (give-token _ (c .before .before .row .given .1) (c .moved-on .ensures))
+    next-is _ _ _ (fit (at-see .before)) (at-see .see .ensures) (give-token _ (c .before .before .row .given .1) (c .moved-on .ensures))
 
 returns-3 : tie.Need-returns-3
 returns-3 c =
     let at-see = c .before .before in
-    next-is _ _ (fit (at-see .before)) (at-see .see .ensures) (give-none _ (c .enum-told .given .1))
+    next-is _ _ _ (fit (at-see .before)) (at-see .see .ensures) (give-none _ (c .enum-told .given .1))
 
 returns-4 : tie.Need-returns-4
 returns-4 c =
     let at-see = c .before .before .before in
-    next-is _ _ (fit (at-see .before)) (at-see .see .ensures) (give-bad _ (c .before .i .given .1))
+    next-is _ _ _ (fit (at-see .before)) (at-see .see .ensures) (give-bad _ (c .before .i .given .1))
 
 pub next-spec : {M : Type 1} → statement M
 next-spec =

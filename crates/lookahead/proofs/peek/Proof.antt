@@ -4,7 +4,7 @@ use mathlib.Core.Path.{_≡_, sym, ap, _∙_}
 use mathlib.Core.Bool.{true}
 use denote.Ref.{now}
 use borrow.Author.Tests.{not-true, not-false}
-use Rattle.rows.specs.Row.{room}
+use Rattle.rows.specs.Row.{room, shownAt}
 use Rattle.lookahead.specs.Cursor.{isFit}
 use Rattle.lookahead.specs.CursorLaws.{fits-of}
 use Rattle.lookahead.specs.Peek.{mustQueue, queuedOne, queuedAt, peekOf}
@@ -37,7 +37,7 @@ add-if2 : tie.Need-add-if2
 add-if2 c = omega (arith, fits-of _ _ (fit (c .before)) .queued)
 
 returns-2 : tie.Need-returns-2
-returns-2 c = peek-far _ _ _ (fit (c .before .before)) (c .if2 .taken)
+returns-2 c = peek-far _ _ _ _ (fit (c .before .before)) (c .if2 .taken)
 
 must-queue-requires : tie.Need-must-queue-requires
 must-queue-requires c κs = search needs
@@ -49,7 +49,7 @@ returns-3 : tie.Need-returns-3
 returns-3 c =
     let tested = c .before .before in
     c .queued-at .ensures
-    ∙ peek-as-is _ _ _ (fit (tested .before .before .before)) (tested .before .if2 .left)
+    ∙ peek-as-is _ _ _ _ (fit (tested .before .before .before)) (tested .before .if2 .left)
     (sym (tested .must-queue .ensures) ∙ not-true _ (c .before .if3 .taken))
 
 -- one more must be queued
@@ -59,7 +59,7 @@ must c = sym (c .before .must-queue .ensures) ∙ not-false _ (c .if3 .left)
 returns-4 : tie.Need-returns-4
 returns-4 c =
     let tested = c .before .before .before in
-    peek-full _ _ _ (fit (tested .before .before .before)) (tested .before .if2 .left) (must (c .before .before)) (c .if4 .taken)
+    peek-full _ _ _ _ (fit (tested .before .before .before)) (tested .before .if2 .left) (must (c .before .before)) (c .if4 .taken)
 
 queued-one-requires : tie.Need-queued-one-requires
 queued-one-requires c κs = fits-of _ _ (fit (c .before .before .before .before .before .before)) .queued
@@ -75,8 +75,8 @@ returns-5 c =
     let tested = not-full .before .before .before in
     let a = start (not-full .before .before) .args in
     c .queued-at2 .ensures
-    ∙ ap (λ (x : Cursor). queuedAt (now (a .list)) x (a .n)) (c .before .queued-one .ensures)
-    ∙ peek-more _ _ _ (fit (tested .before .before .before)) (tested .before .if2 .left)
+    ∙ ap (λ (x : Cursor). queuedAt (shownAt (now (a .list))) x (a .n)) (c .before .queued-one .ensures)
+    ∙ peek-more _ _ _ _ (fit (tested .before .before .before)) (tested .before .if2 .left)
     (must (not-full .before .before)) (not-full .if4 .left)
 
 pub peek-spec : {M : Type 1} → statement M

@@ -1,26 +1,29 @@
--- Sequences of `next` and `peek`, here and in the Rust, and when a cursor stands for the Rust's lexer.
+-- Sequences of `next` and `peek`, here and in the Rust, and when a cursor stands for the Rust's lexer. As a cursor does, they go over a list
+-- that has room for so many records and shows these (`room`, `shown`).
 -- Assumes nothing.
-use Prim.Native.Nat.{ℕ, zero, suc, _+_, _<_}
+use Prim.Native.Nat.{ℕ, _+_, _<_}
 use mathlib.Core.Path.{_≡_}
 use mathlib.Core.Bool.{true}
 use mathlib.Core.List.{List, [], _∷_}
 use mathlib.Core.Option.{Option, some}
 use mathlib.Core.Option as option
 use Rattle.base.specs.Refusal.{none}
-use Rattle.rows.specs.Row.{room, rowAt, rowsOf, rowFits}
+use lib.ListN.{length}
 use Rattle.rows.specs.declared.Row.{Row}
+use Rattle.rows.specs.declared.RowAt.{RowAt}
+use Rattle.rows.specs.declared.RowAt.the-variants.{Fit}
 use Rattle.lookahead.specs.Cursor.{isFit, recordAt, ahead}
 use Rattle.lookahead.specs.Next as ofNext
 use Rattle.lookahead.specs.Next.{nextOf}
 use Rattle.lookahead.specs.Peek as ofPeek
 use Rattle.lookahead.specs.Peek.{peekOf}
-use Rattle.lookahead.specs.Queue.{KotoLexer, Answered, rustNext, rustPeek}
+use Rattle.queue.specs.Queue.{KotoLexer, Answered, get, rustNext, rustPeek}
 use Rattle.lookahead.specs.declared.Status.{Status}
 use Rattle.lookahead.specs.declared.Cursor.{Cursor}
 use Rattle.lookahead.specs.declared.Given.{Given}
 use Rattle.lookahead.specs.declared.Given.the-variants as given
 use Rattle.lookahead.specs.declared.Peeked.{Peeked}
 use Rattle.lookahead.specs.declared.Peeked.the-variants as peeked
 
 -- one of the two calls
 pub data Call : Type 0 where
@@ -76,24 +79,24 @@ abbrev pub ofPeeked : Cursor → Peeked → Outcome
 ofPeeked c r = record { number = ofPeek.numberOf r; token = peekedToken r; cursor = peekedCursor c r }
 
 -- a call, from a cursor
-abbrev pub call : List ℕ → Cursor → Call → Outcome
-call list c next = ofGiven c (nextOf list c)
-call list c (peek n) = ofPeeked c (peekOf list c n)
+abbrev pub call : ℕ → (ℕ → RowAt) → Cursor → Call → Outcome
+call room shown c next = ofGiven c (nextOf room shown c)
+call room shown c (peek n) = ofPeeked c (peekOf room shown c n)
 
 -- the cursor after some calls
-unfoldable pub afterCalls : List ℕ → Cursor → List Call → Cursor
-afterCalls list c [] = c
-afterCalls list c (x ∷ calls) = afterCalls list (call list c x .cursor) calls
+unfoldable pub afterCalls : ℕ → (ℕ → RowAt) → Cursor → List Call → Cursor
+afterCalls room shown c [] = c
+afterCalls room shown c (x ∷ calls) = afterCalls room shown (call room shown c x .cursor) calls
 
 -- their tokens, one for each call
-unfoldable pub tokensOf : List ℕ → Cursor → List Call → List (Option Row)
-tokensOf list c [] = []
-tokensOf list c (x ∷ calls) = call list c x .token ∷ tokensOf list (call list c x .cursor) calls
+unfoldable pub tokensOf : ℕ → (ℕ → RowAt) → Cursor → List Call → List (Option Row)
+tokensOf room shown c [] = []
+tokensOf room shown c (x ∷ calls) = call room shown c x .token ∷ tokensOf room shown (call room shown c x .cursor) calls
 
 -- none of them is refused
-unfoldable pub Unrefused : List ℕ → Cursor → List Call → Type 0
-Unrefused list c [] = Unit {0}
-Unrefused list c (x ∷ calls) = (call list c x .number ≡ none) × Unrefused list (call list c x .cursor) calls
+unfoldable pub Unrefused : ℕ → (ℕ → RowAt) → Cursor → List Call → Type 0
+Unrefused room shown c [] = Unit {0}
+Unrefused room shown c (x ∷ calls) = (call room shown c x .number ≡ none) × Unrefused room shown (call room shown c x .cursor) calls
 
 -- how many places a call goes on
 abbrev pub isNext : Call → ℕ
@@ -105,13 +108,13 @@ unfoldable pub nexts : List Call → ℕ
 nexts [] = 0
 nexts (x ∷ calls) = isNext x + nexts calls
 
--- every one of the first so many records may be shown
-abbrev pub Shows : List ℕ → ℕ → Type 0
-Shows list count = (i : ℕ) → i < count → rowFits (rowAt list i) ≡ true
+-- each of these rows is shown at its index
+abbrev pub Shows : (ℕ → RowAt) → List Row → Type 0
+Shows shown rows = (i : ℕ) (row : Row) → get rows i ≡ some row → shown i ≡ Fit row
 
 -- where a cursor stands after `next` was called i times
-pub record Stands (list : List ℕ) (count : ℕ) (status : Status) (i : ℕ) (c : Cursor) : Type 0 where
-  pub fit : isFit (room list) c ≡ true
+pub record Stands (room count : ℕ) (status : Status) (i : ℕ) (c : Cursor) : Type 0 where
+  pub fit : isFit room c ≡ true
   pub counted : c .count ≡ count
   pub ends : c .status ≡ status
   pub place : c .taken ≡ recordAt count status i
@@ -135,20 +138,17 @@ rustTokens rows status k (x ∷ calls) = rustCall rows status k x .token ∷ rus
 
 -- ---- the cursor and the Rust's lexer
 
--- the records of n places, from a place on
-unfoldable pub upcoming : List ℕ → ℕ → Status → ℕ → ℕ → List Row
-upcoming list count status place zero = []
-upcoming list count status place (suc n) = rowAt list (recordAt count status place) ∷ upcoming list count status (place + 1) n
-
 -- the cursor stands for the lexer. At Stuck the lexer counts on where the cursor stays, so the two agree only on the record that comes next
-pub record Mirrors (list : List ℕ) (rows : List Row) (status : Status) (c : Cursor) (k : KotoLexer) : Type 0 where
-  pub records : rowsOf (c .count) list ≡ rows
+pub record Mirrors (room : ℕ) (rows : List Row) (status : Status) (c : Cursor) (k : KotoLexer) : Type 0 where
+  pub counted : c .count ≡ length rows
   pub ends : c .status ≡ status
-  pub fit : isFit (room list) c ≡ true
-  pub queue : k .«token_queue» ≡ upcoming list (c .count) (c .status) (c .taken) (c .queued)
+  pub fit : isFit room c ≡ true
+  -- so many are queued, and they are the rows of the places from the cursor on
+  pub long : length (k .«token_queue») ≡ c .queued
+  pub queue : (i : ℕ) → i < c .queued → get (k .«token_queue») i ≡ get rows (ahead c i)
   pub position : recordAt (c .count) (c .status) (k .lexer) ≡ ahead c (c .queued)
 
 -- a call says the same on both sides, and leads to a cursor that stands for the lexer after it
-pub record Agrees (list : List ℕ) (rows : List Row) (status : Status) (o : Outcome) (a : Answered) : Type 0 where
+pub record Agrees (room : ℕ) (rows : List Row) (status : Status) (o : Outcome) (a : Answered) : Type 0 where
   pub token : a .token ≡ o .token
-  pub mirrors : Mirrors list rows status (o .cursor) (a .after)
+  pub mirrors : Mirrors room rows status (o .cursor) (a .after)

@@ -1,0 +1,294 @@
+-- A cursor says what the Rust's lexer says, call by call, over a list that shows the lexer's rows.
+--     start-mirrors            the cursor of a scan's answer stands for a new lexer
+--     next-agrees, peek-agrees, call-agrees    a call that is not refused answers the same token, or none, and leads on
+--     calls-agree, calls-mirror    so does every sequence of such calls
+--     far-underflows           refusal 6 is given exactly where the Rust's subtraction underflows
+--     full-queued              refusal 7 only where 65,535 tokens are queued
+-- Assumes nothing.
+use Prim.Native.Nat.{ℕ, suc, _+_, _-_, _≤_, _<_}
+use native.Mathlib.Omega.{arith}
+use mathlib.Core.Path.{_≡_, refl, sym, ap, subst, _∙_}
+use mathlib.Core.Bool.{true, false}
+use mathlib.Core.List.{List, [], _∷_}
+use mathlib.Core.Option.{Option, some}
+use mathlib.Core.Option as option
+use lib.Dec.{ltb}
+use lib.ListN.{length, length-append}
+use borrow.Author.Tests.{ltb-true, ltb-false, lt-ltb, le-ltb, le-leb}
+use Rattle.base.specs.PickLaws.{by-lt, split-lt}
+use Rattle.base.specs.Refusal.{none, peekTooFar, queueFull}
+use Rattle.rows.specs.declared.Row.{Row}
+use Rattle.rows.specs.declared.RowAt.{RowAt}
+use Rattle.lookahead.specs.Cursor.{queueMost, isFit, startCursor, recordAt, ahead}
+use Rattle.lookahead.specs.CursorLaws.{held-plus, same-plus, moved-fits, queued-fits, queued-there, stuck-some}
+use Rattle.lookahead.specs.Next.{movedOn, nextOf}
+use Rattle.lookahead.specs.Peek as ofPeek
+use Rattle.lookahead.specs.Peek.{hasMore, mustQueue, queuedOne, queuedAt, peekOf}
+use Rattle.lookahead.specs.AnswerLaws.{must-both, peek-far}
+use Rattle.lookahead.specs.declared.Status.{Status}
+use Rattle.lookahead.specs.declared.Status.the-variants.{Stuck}
+use Rattle.lookahead.specs.declared.Cursor.{Cursor}
+use Rattle.lookahead.specs.declared.Given.{Given}
+use Rattle.lookahead.specs.declared.Given.the-variants as given
+use Rattle.lookahead.specs.declared.Peeked.{Peeked}
+use Rattle.queue.specs.Queue.{KotoLexer, newLexer, Answered, get, tokenAt, handedOut, rustNext}
+use Rattle.queue.specs.Queue.{maxOf, tokensToAdd, underflows, pushBack, addTokens, rustPeek}
+use Rattle.queue.specs.Calls.{Call, next, peek, ofGiven, ofPeeked, call, afterCalls, tokensOf, Unrefused, Shows}
+use Rattle.queue.specs.Calls.{rustCall, rustAfter, rustTokens, Mirrors, Agrees}
+use Rattle.queue.specs.StreamLaws.{get-past, get-some, get-front, get-last, token-at, by-next, by-queued, by-peek}
+
+pub start-mirrors : (room : ℕ) (rows : List Row) (status : Status) → isFit room (startCursor (length rows) status) ≡ true
+    → Mirrors room rows status (startCursor (length rows) status) newLexer
+start-mirrors room rows status f =
+    record { counted = refl; ends = refl; fit = f; long = refl; queue = λ i h. absurd (omega arith); position = refl }
+
+-- ---- `next` in the Rust
+
+module _ (rows : List Row) (status : Status) (k : KotoLexer) where
+  pop-empty : {o : Option Row} → k .«token_queue» ≡ [] → tokenAt rows status (k .lexer) ≡ o → rustNext rows status k ≡ handedOut k o
+  unfolding rustNext
+  pop-empty e f = rw (e, f)
+
+  pop-front : {t : Row} {queue : List Row} → k .«token_queue» ≡ t ∷ queue
+      → rustNext rows status k ≡ record { token = some t; after = record { lexer = k .lexer; «token_queue» = queue } }
+  unfolding rustNext
+  pop-front e = rw e
+
+-- how many tokens the loop is to add: one for a look at the queue or right after it, none for a look one further
+tokens-one : (n len : ℕ) → n ≤ len → tokensToAdd n len ≡ 1
+tokens-one n len h = let low : maxOf n len ≡ len = rw (le-ltb len n h) in omega arith
+
+tokens-none : (n len : ℕ) → n ≡ len + 1 → tokensToAdd n len ≡ 0
+tokens-none n len h = let high : maxOf n len ≡ n = rw (lt-ltb len n (omega arith)) in omega arith
+
+-- ---- what a cursor that stands for the lexer knows of it
+
+module _ (room : ℕ) (rows : List Row) (status : Status) (c : Cursor) (k : KotoLexer) (m : Mirrors room rows status c k) where
+  -- the row that a place means
+  abbrev here : ℕ → ℕ
+  here = recordAt (c .count) (c .status)
+
+  -- the lexer that has handed out one more token
+  abbrev handed : KotoLexer
+  handed = record { lexer = k .lexer + 1; «token_queue» = k .«token_queue» }
+
+  some-stuck : status ≡ Stuck → 0 < length rows
+  some-stuck e = omega (arith, m .counted, stuck-some room c (m .fit) (m .ends ∙ e))
+
+  -- the token that the lexer hands out next is the one after the queue
+  lexer-token : tokenAt rows status (k .lexer) ≡ get rows (ahead c (c .queued))
+  lexer-token =
+      token-at rows status (k .lexer) some-stuck
+      ∙ ap (λ (n : ℕ). get rows (recordAt n status (k .lexer))) (sym (m .counted))
+      ∙ ap (λ (s : Status). get rows (recordAt (c .count) s (k .lexer))) (sym (m .ends))
+      ∙ ap (get rows) (m .position)
+
+  -- ---- a token is handed out
+
+  -- with nothing queued the lexer hands it out
+  moved-lexer : c .queued ≡ 0 → Mirrors room rows status (movedOn c) handed
+  unfolding movedOn
+  moved-lexer e =
+      let p : c .taken + c .queued + 1 ≡ c .taken + 1 + (c .queued - 1) = omega arith in
+      record {
+        counted = m .counted;
+        ends = m .ends;
+        fit = moved-fits room c (m .fit);
+        long = omega (arith, m .long);
+        queue = λ i h. absurd (omega arith);
+        position = same-plus (c .count) (c .status) (k .lexer) (c .taken + c .queued) 1 (m .position)
+            ∙ ap here p
+            ∙ sym (held-plus (c .count) (c .status) (c .taken + 1) (c .queued - 1));
+      }
+
+  -- or else the queue does
+  moved-queue : (t : Row) (queue : List Row) → k .«token_queue» ≡ t ∷ queue
+      → Mirrors room rows status (movedOn c) (record { lexer = k .lexer; «token_queue» = queue })
+  unfolding movedOn get
+  moved-queue t queue e =
+      let n : suc (length queue) ≡ c .queued = sym (ap length e) ∙ m .long in
+      let p : c .taken + c .queued ≡ c .taken + 1 + (c .queued - 1) = omega arith in
+      record {
+        counted = m .counted;
+        ends = m .ends;
+        fit = moved-fits room c (m .fit);
+        long = omega arith;
+        queue = λ i h. let q : c .taken + suc i ≡ c .taken + 1 + i = omega arith in
+            ap (λ (l : List Row). get l (suc i)) (sym e)
+            ∙ m .queue (suc i) (omega arith)
+            ∙ ap (λ (j : ℕ). get rows (here j)) q
+            ∙ sym (ap (get rows) (held-plus (c .count) (c .status) (c .taken + 1) i));
+        position = m .position ∙ ap here p ∙ sym (held-plus (c .count) (c .status) (c .taken + 1) (c .queued - 1));
+      }
+
+  -- by what the queue is
+  give-agrees : (row : Row) → get rows (ahead c 0) ≡ some row → (queue : List Row) → k .«token_queue» ≡ queue
+      → Agrees room rows status (ofGiven c (given.Token row (movedOn c))) (rustNext rows status k)
+  unfolding get
+  give-agrees row s [] e =
+      let z : c .queued ≡ 0 = sym (m .long) ∙ ap length e in
+      let t : tokenAt rows status (k .lexer) ≡ some row = lexer-token ∙ ap (λ (i : ℕ). get rows (ahead c i)) z ∙ s in
+      subst (Agrees room rows status (ofGiven c (given.Token row (movedOn c)))) (sym (pop-empty rows status k e t))
+      (record { token = refl; mirrors = moved-lexer z })
+  give-agrees row s (t ∷ queue) e =
+      let n : suc (length queue) ≡ c .queued = sym (ap length e) ∙ m .long in
+      subst (Agrees room rows status (ofGiven c (given.Token row (movedOn c)))) (sym (pop-front rows status k e))
+      (record { token = ap (λ (l : List Row). get l 0) (sym e) ∙ m .queue 0 (omega arith) ∙ s; mirrors = moved-queue t queue e })
+
+  none-agrees : c .count ≤ ahead c 0 → (queue : List Row) → k .«token_queue» ≡ queue
+      → Agrees room rows status (ofGiven c given.Nothing) (rustNext rows status k)
+  none-agrees h [] e =
+      let z : c .queued ≡ 0 = sym (m .long) ∙ ap length e in
+      let t : tokenAt rows status (k .lexer) ≡ option.none =
+      lexer-token ∙ ap (λ (i : ℕ). get rows (ahead c i)) z ∙ get-past rows (ahead c 0) (omega (arith, m .counted)) in
+      subst (Agrees room rows status (ofGiven c given.Nothing)) (sym (pop-empty rows status k e t)) (record { token = refl; mirrors = m })
+  none-agrees h (t ∷ queue) e =
+      let n : suc (length queue) ≡ c .queued = sym (ap length e) ∙ m .long in
+      absurd (omega (arith, queued-there room c (m .fit) 0 (omega arith)))
+
+  -- ---- a token is queued
+
+  -- one more
+  pushed : hasMore c ≡ true → (c .queued ≡ queueMost → ⊥) → (t : Row) → get rows (ahead c (c .queued)) ≡ some t
+      → Mirrors room rows status (queuedOne c) (pushBack handed t)
+  unfolding queuedOne
+  pushed h n t e =
+      let p : c .taken + c .queued + 1 ≡ c .taken + (c .queued + 1) = omega arith in
+      record {
+        counted = m .counted;
+        ends = m .ends;
+        fit = queued-fits room c (m .fit) h n;
+        long = length-append (k .«token_queue») (t ∷ []) ∙ ap (λ (i : ℕ). i + 1) (m .long);
+        queue = λ i lt. split-lt i (c .queued)
+            (λ before. get-front (k .«token_queue») (t ∷ []) i (omega (arith, m .long)) ∙ m .queue i before)
+            (λ after. let last : i ≡ c .queued = omega arith in
+            get-last (k .«token_queue») t i (last ∙ sym (m .long)) ∙ sym e ∙ ap (λ (j : ℕ). get rows (ahead c j)) (sym last));
+        position = same-plus (c .count) (c .status) (k .lexer) (c .taken + c .queued) 1 (m .position) ∙ ap here p;
+      }
+
+  one-added : (n : ℕ) → n ≤ c .queued → (t : Row) → get rows (ahead c (c .queued)) ≡ some t
+      → addTokens rows status (tokensToAdd n (length (k .«token_queue»))) k ≡ pushBack handed t
+  unfolding addTokens
+  one-added n le t e =
+      let one : tokensToAdd n (length (k .«token_queue»)) ≡ 1 = tokens-one n (length (k .«token_queue»)) (omega (arith, m .long)) in
+      rw (one, lexer-token ∙ e)
+
+  none-added : (n : ℕ) → mustQueue c n ≡ false → n ≤ c .queued + 1 → addTokens rows status (tokensToAdd n (length (k .«token_queue»))) k ≡ k
+  unfolding addTokens mustQueue
+  none-added n f near =
+      split-lt (c .queued) n
+      (λ h. let no : tokensToAdd n (length (k .«token_queue»)) ≡ 0 =
+      tokens-none n (length (k .«token_queue»)) (omega (arith, m .long)) in rw no)
+      (λ h. let one : tokensToAdd n (length (k .«token_queue»)) ≡ 1 =
+      tokens-one n (length (k .«token_queue»)) (omega (arith, m .long)) in
+      let past : c .count ≤ ahead c (c .queued) = ltb-false (ahead c (c .queued)) (c .count) (rw (le-leb n (c .queued) h) at f) in
+      rw (one, lexer-token ∙ get-past rows (ahead c (c .queued)) (omega (arith, m .counted))))
+
+-- ---- `peek` in the Rust
+
+rust-peek-is : (rows : List Row) (status : Status) (k : KotoLexer) (n : ℕ) {after : KotoLexer}
+    → addTokens rows status (tokensToAdd n (length (k .«token_queue»))) k ≡ after
+    → rustPeek rows status k n ≡ record { token = get (after .«token_queue») n; after = after }
+unfolding rustPeek
+rust-peek-is rows status k n e = rw e
+
+-- the greater of the two
+max-most : (n len most : ℕ) → n ≤ most → len ≤ most → maxOf n len ≤ most
+max-most n len most h k = by-lt (λ (x : ℕ). x ≤ most) len n (λ _. h) (λ _. k)
+
+-- ---- over a list that shows the rows
+
+module _ (room : ℕ) (shown : ℕ → RowAt) (rows : List Row) (status : Status) (w : Shows shown rows) where
+  -- queued token n, of a cursor and a queue
+  queued-agrees : (c : Cursor) (k : KotoLexer) → Mirrors room rows status c k → (old : Cursor) (n : ℕ)
+      → Agrees room rows status (ofPeeked old (queuedAt shown c n)) (record { token = get (k .«token_queue») n; after = k })
+  queued-agrees c k m old n =
+      by-queued room shown rows w c (m .fit) (m .counted)
+      (λ (r : Peeked). Agrees room rows status (ofPeeked old r) (record { token = get (k .«token_queue») n; after = k })) n
+      (λ row h e. record { token = m .queue n h ∙ e; mirrors = m })
+      (λ h. record { token = get-past (k .«token_queue») n (omega (arith, m .long)); mirrors = m })
+
+  module _ (c : Cursor) (k : KotoLexer) (m : Mirrors room rows status c k) where
+    pub next-agrees : Agrees room rows status (ofGiven c (nextOf room shown c)) (rustNext rows status k)
+    next-agrees =
+        by-next room shown rows w c (m .fit) (m .counted) (λ (r : Given). Agrees room rows status (ofGiven c r) (rustNext rows status k))
+        (λ row e. give-agrees room rows status c k m row e (k .«token_queue») refl)
+        (λ h. none-agrees room rows status c k m h (k .«token_queue») refl)
+
+    -- what is to be shown of an answer of `peek`
+    abbrev PeekAgrees : ℕ → Peeked → Type 0
+    PeekAgrees n r = ofPeek.numberOf r ≡ none → Agrees room rows status (ofPeeked c r) (rustPeek rows status k n)
+
+    -- from a cursor that stands for the lexer after the loop
+    after-loop : (n : ℕ) (d : Cursor) (after : KotoLexer) → addTokens rows status (tokensToAdd n (length (k .«token_queue»))) k ≡ after
+        → Mirrors room rows status d after → PeekAgrees n (queuedAt shown d n)
+    after-loop n d after e x z =
+        subst (Agrees room rows status (ofPeeked c (queuedAt shown d n))) (sym (rust-peek-is rows status k n e)) (queued-agrees d after x c n)
+
+    -- the row that is queued next
+    next-row : hasMore c ≡ true → (row : Row) × (get rows (ahead c (c .queued)) ≡ some row)
+    next-row h = get-some rows (ahead c (c .queued)) (omega (arith, ltb-true (ahead c (c .queued)) (c .count) h, m .counted))
+
+    pub peek-agrees : (n : ℕ) → PeekAgrees n (peekOf room shown c n)
+    peek-agrees n =
+        by-peek room shown c (m .fit) (PeekAgrees n) n (λ far z. absurd (omega arith)) (λ e q z. absurd (omega arith))
+        (λ e q. let both = must-both c n e in let t = next-row (both .1) in
+        after-loop n (queuedOne c) _ (one-added room rows status c k m n (both .0) (t .0) (t .1))
+        (pushed room rows status c k m (both .1) q (t .0) (t .1)))
+        (λ e h. after-loop n c k (none-added room rows status c k m n e h) m)
+
+    pub call-agrees : (x : Call) → call room shown c x .number ≡ none → Agrees room rows status (call room shown c x) (rustCall rows status k x)
+    call-agrees next = λ _. next-agrees
+    call-agrees (peek n) = peek-agrees n
+
+    -- ---- the refusals that the Rust does not have
+
+    module _ (n : ℕ) where
+      -- 6 is given to a look that is too far, and 7 where the queue is full
+      abbrev Told : Peeked → Type 0
+      Told r = (ofPeek.numberOf r ≡ peekTooFar → c .queued + 1 < n) × (ofPeek.numberOf r ≡ queueFull → c .queued ≡ queueMost)
+
+      -- a look at the queue is neither
+      queued-told : (d : Cursor) → isFit room d ≡ true → d .count ≡ length rows → Told (queuedAt shown d n)
+      queued-told d f e =
+          by-queued room shown rows w d f e Told n (λ row h t. (λ z. absurd (omega arith), λ z. absurd (omega arith)))
+          (λ h. (λ z. absurd (omega arith), λ z. absurd (omega arith)))
+
+      told : Told (peekOf room shown c n)
+      unfolding queuedOne
+      told =
+          by-peek room shown c (m .fit) Told n (λ far. (λ z. far, λ z. absurd (omega arith))) (λ e q. (λ z. absurd (omega arith), λ z. q))
+          (λ e q. queued-told (queuedOne c) (queued-fits room c (m .fit) (must-both c n e .1) q) (m .counted))
+          (λ e h. queued-told c (m .fit) (m .counted))
+
+      abbrev len : ℕ
+      len = length (k .«token_queue»)
+
+      pub far-underflows :
+          (ofPeek.numberOf (peekOf room shown c n) ≡ peekTooFar → underflows n len ≡ true)
+          × (underflows n len ≡ true → ofPeek.numberOf (peekOf room shown c n) ≡ peekTooFar)
+      far-underflows = (
+        λ z. let far = told .0 z in
+            rw (m .long, lt-ltb (c .queued) n (omega arith)) (lt-ltb (c .queued + 1) n far),
+        λ z. split-lt (c .queued + 1) n (λ far. sym (ap ofPeek.numberOf (peek-far room shown c n (m .fit) far)))
+            (λ near. absurd (omega (arith, ltb-true (len + 1) (maxOf n len) z, max-most n len (len + 1) (omega (arith, m .long)) (omega arith)))),
+      )
+
+      pub full-queued : ofPeek.numberOf (peekOf room shown c n) ≡ queueFull → length (k .«token_queue») ≡ queueMost
+      full-queued z = m .long ∙ told .1 z
+
+  -- every sequence of calls of which none is refused
+  pub calls-agree : (c : Cursor) (k : KotoLexer) → Mirrors room rows status c k → (calls : List Call) → Unrefused room shown c calls
+      → rustTokens rows status k calls ≡ tokensOf room shown c calls
+  unfolding Unrefused rustTokens tokensOf
+  calls-agree c k m [] u = refl
+  calls-agree c k m (x ∷ calls) u =
+      let a = call-agrees c k m x (u .0) in
+      rw (a .token, calls-agree (call room shown c x .cursor) (rustCall rows status k x .after) (a .mirrors) calls (u .1))
+
+  pub calls-mirror : (c : Cursor) (k : KotoLexer) → Mirrors room rows status c k → (calls : List Call) → Unrefused room shown c calls
+      → Mirrors room rows status (afterCalls room shown c calls) (rustAfter rows status k calls)
+  unfolding Unrefused afterCalls rustAfter
+  calls-mirror c k m [] u = m
+  calls-mirror c k m (x ∷ calls) u =
+      calls-mirror (call room shown c x .cursor) (rustCall rows status k x .after) (call-agrees c k m x (u .0) .mirrors) calls (u .1)
