@@ -1,4 +1,4 @@
-//! Links libkoto_lexer.a. KOTO_LEXER_LIB is its folder; without it, the one where `rt staticlib koto_lexer` writes.
+//! Links libkoto_lexer.a. KOTO_LEXER_LIB is its folder; without it, the one where `tools/archive` writes.
 
 use std::path::PathBuf;
 
@@ -6,7 +6,7 @@ fn main() {
     let beside = PathBuf::from(env!("CARGO_MANIFEST_DIR")).join("../../target/staticlib");
     let folder = std::env::var_os("KOTO_LEXER_LIB").map_or(beside, PathBuf::from);
     let archive = folder.join("libkoto_lexer.a");
-    assert!(archive.is_file(), "{} is missing: `rt staticlib koto_lexer` makes it", archive.display());
+    assert!(archive.is_file(), "{} is missing: `tools/archive` makes it", archive.display());
     println!("cargo:rustc-link-search=native={}", folder.display());
     println!("cargo:rustc-link-lib=static=koto_lexer");
     println!("cargo:rerun-if-changed={}", archive.display());
