@@ -72,6 +72,23 @@ pub fn same(text: &[u8], at: usize, value: usize) -> usize
     past(text, at, b' ')
 }
 
+fn wide(value: u32) -> usize {
+    value as usize
+}
+
+// The same of so many fields, one after the other.
+pub fn same_all(text: &[u8], at: usize, values: &[u32]) -> usize
+    ensures { λ r. ⌜ (at ≡ 0 → r ≡ 0) ⌝ }
+{
+    let mut next = at;
+    let mut i = 0;
+    while i < values.len() {
+        next = same(text, next, wide(values[i]));
+        i += 1;
+    }
+    next
+}
+
 // The byte that the two hex digits at a place say; 256 where there are no two.
 fn pair_at(text: &[u8], at: usize) -> u16
     ensures { λ r. ⌜ (r < 256 → at + 1 < length (now (text .entry))) ⌝ }

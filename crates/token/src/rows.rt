@@ -7,6 +7,9 @@ ghost use Rattle.token.specs.Row.{room, Packs, putRow, rowFrom, shownAt}
 use crate::detail_allowed;
 use crate::kinds::KIND_MOST;
 
+// How many numbers of a list a record has.
+pub const ROW_WORDS: usize = 8;
+
 // What a record tells of its token.
 pub struct Row {
     pub kind: u32,
@@ -34,7 +37,7 @@ pub enum RowAt {
 pub fn room(list: &[u32]) -> usize
     ensures { λ r. ⌜ r ≡ room (now (list .entry)) ⌝ }
 {
-    list.len() / 8
+    list.len() / ROW_WORDS
 }
 
 // Writes record i. Every number of the other records stays.
@@ -42,7 +45,7 @@ pub fn put_row(list: &mut [u32], i: usize, row: Row)
     requires { ⌜ (i < room (now list)) × Packs row ⌝ }
     ensures { λ _. ⌜ now (list .exit) ≡ putRow (now (list .entry)) i row ⌝ }
 {
-    let at = 8 * i;
+    let at = ROW_WORDS * i;
     list[at] = row.kind + 128 * row.detail;
     list[at + 1] = row.start;
     list[at + 2] = row.end;
@@ -58,7 +61,7 @@ fn read_row(list: &[u32], i: usize) -> Row
     requires { ⌜ i < room (now list) ⌝ }
     ensures { λ r. ⌜ r ≡ rowFrom (now (list .entry)) (8 * i) ⌝ }
 {
-    let at = 8 * i;
+    let at = ROW_WORDS * i;
     let first = list[at];
     Row {
         kind: first % 128,
