@@ -6,7 +6,7 @@ use state::State;
 use utf8::Utf8Check;
 ghost use Prim.Native.Nat.{_≤_};
 ghost use Rattle.property.specs.FitLaws.{FitTable};
-ghost use Rattle.state.specs.Stack.{startState};
+ghost use Rattle.state.specs.State.{startState};
 ghost use Rattle.lexer.specs.Invariant.{Ok};
 
 // The nine numbers of a record; answers the place after them, or 0 where one differs.
@@ -29,7 +29,14 @@ fn same_record(text: &[u8], at: usize, token: token::Token, state: State) -> usi
 }
 
 // How a reading ended: the line's status after so many records at this byte. A record that differed, at place 0, stays a difference.
-fn same_end(text: &[u8], at: usize, record_at: usize, status: u32, count: u32, state: State) -> bool {
+fn same_end(
+    text: &[u8],
+    at: usize,
+    record_at: usize,
+    status: u32,
+    count: u32,
+    state: State,
+) -> bool {
     if record_at == 0 {
         return false;
     }
