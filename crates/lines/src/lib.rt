@@ -9,6 +9,7 @@ pub use fields::hex;
 pub use fields::number;
 pub use fields::past;
 pub use fields::same;
+pub use fields::same_all;
 pub use files::read_file;
 pub use files::read_input;
 pub use files::text_buffer;

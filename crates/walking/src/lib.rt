@@ -15,7 +15,7 @@ use lookahead::answer;
 use reading::Scanned;
 use rows::Row;
 ghost use mathlib.Core.Path.{_≡_};
-ghost use lib.ListN.{length, replicate};
+ghost use lib.ListN.{length};
 ghost use Rattle.lookahead.specs.Cursor.{startCursor};
 ghost use Rattle.walking.specs.Told.{refusedAt, toldGiven, toldPeeked, toldOf};
 
@@ -119,9 +119,7 @@ fn print_what(what: What) {
 }
 
 // Makes a call, prints what is said of it, and answers the cursor after it.
-fn print_call(list: &[u32], cursor: Cursor, call: Call) -> Cursor
-    ensures { λ r. ⌜ r ≡ toldOf (now (list .entry)) cursor call .cursor ⌝ }
-{
+fn print_call(list: &[u32], cursor: Cursor, call: Call) -> Cursor {
     let told = ask(list, cursor, call);
     let what = told.what;
     print_what(what);
@@ -153,10 +151,8 @@ fn print_scan(line: &[u8], list: &[u32], scanned: Scanned) {
     }
 }
 
-// Zeros, one more than a line may have bytes, so that one too many is seen. The length, which follows, is what lending them as a slice
-// asks.
+// Zeros, one more than a line may have bytes, so that one too many is seen. Their length is what lending them as a slice asks.
 pub fn line_buffer() -> [u8; 200001]
-    ensures { λ r. ⌜ r ≡ replicate 200001 0 ⌝ }
     ensures { λ r. ⌜ 200001 ≡ length r ⌝ }
 {
     [0; 200001]

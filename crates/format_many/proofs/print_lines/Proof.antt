@@ -2,7 +2,7 @@
 -- Assumes nothing.
 use Prim.Native.Nat.{_-_}
 use lib.ListN.{length}
-use Rattle.lines.specs.FieldsLaws.{past-less}
+use native.Mathlib.Omega.{arith}
 use Rattle.format_many.proofs.print_lines.Statement.{statement}
 use Rattle.format_many.proofs.print_lines.Tie as tie
 
@@ -13,7 +13,7 @@ abbrev μ-loop : tie.MeasureT-loop
 μ-loop text at₀ at = length text - at
 
 loop-less : tie.Need-loop-less Inv-loop μ-loop
-loop-less c = past-less _ _ _ _ (c .past .ensures) (c .before .before .loop-test .taken)
+loop-less c = omega (arith, c .past .ensures (c .before .before .loop-test .taken))
 
 pub print-lines-spec : {M : Type 1} → statement M
 print-lines-spec =

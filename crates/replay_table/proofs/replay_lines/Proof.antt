@@ -1,7 +1,8 @@
 -- `replay_table::replay_lines` ends: each case leaves less of the text. Nothing has to hold from case to case, and no call asks anything.
 -- Assumes nothing.
-use Rattle.lines.specs.Tallies.{left}
-use Rattle.lines.specs.TalliesLaws.{count-less}
+use Prim.Native.Nat.{_-_}
+use native.Mathlib.Omega.{arith}
+use lib.ListN.{length}
 use Rattle.replay_table.proofs.replay_lines.Statement.{statement}
 use Rattle.replay_table.proofs.replay_lines.Tie as tie
 
@@ -9,10 +10,10 @@ abbrev Inv-loop : tie.InvT-loop
 Inv-loop name text tally₀ tally = Unit {0}
 
 abbrev μ-loop : tie.MeasureT-loop
-μ-loop name text tally₀ tally = left text tally
+μ-loop name text tally₀ tally = length text - tally .at
 
 loop-less : tie.Need-loop-less Inv-loop μ-loop
-loop-less c = count-less _ _ _ _ (c .count .ensures) (c .before .before .if1 .taken)
+loop-less c = omega (arith, c .count .ensures (c .before .before .if1 .taken))
 
 pub replay-lines-spec : {M : Type 1} → statement M
 replay-lines-spec =
