@@ -7,11 +7,12 @@ use lib.Dec.{ltb}
 use lib.ListN.{length}
 use Rattle.base.specs.Pick.{pick}
 use Rattle.fitness.specs.Small.{smallTable}
+use Rattle.input.specs.declared.Refusal.the-variants.{TooLong}
 use Rattle.rows.specs.Row.{room, putRows}
 use Rattle.rows.specs.declared.Row.{Row}
 use Rattle.reading.specs.Scan.{scanned, written}
 use Rattle.reading.specs.declared.Scanned.{Scanned}
-use Rattle.reading.specs.declared.Scanned.the-variants.{TooLong}
+use Rattle.reading.specs.declared.Scanned.the-variants.{Refused}
 
 -- the most bytes that the list program takes
 abbrev pub listMost : ℕ
@@ -19,7 +20,7 @@ listMost = 1024
 
 -- the answer for the bytes of a source and a list's room
 unfoldable pub listed : List ℕ → ℕ → Scanned
-listed source n = pick (ltb listMost (length source)) TooLong (scanned source smallTable n)
+listed source n = pick (ltb listMost (length source)) (Refused TooLong) (scanned source smallTable n)
 
 -- the records that are written: none of a source that is too long
 unfoldable pub listedRows : List ℕ → ℕ → List Row

@@ -12,16 +12,17 @@ use lib.ListN.{length}
 use borrow.Author.Tests.{lt-ltb, le-ltb}
 use Rattle.base.specs.PickLaws.{by-test}
 use Rattle.fitness.specs.Small.{smallTable}
+use Rattle.input.specs.declared.Refusal.the-variants.{TooLong}
 use Rattle.rows.specs.Row.{room, putRows}
 use Rattle.rows.specs.RowLaws.{same-room, rows-none}
 use Rattle.reading.specs.Scan.{Scans, countOf}
 use Rattle.reading.specs.ScanLaws.{count-room}
 use Rattle.reading.specs.declared.Scanned.{Scanned}
-use Rattle.reading.specs.declared.Scanned.the-variants.{TooLong}
+use Rattle.reading.specs.declared.Scanned.the-variants.{Refused}
 use Rattle.listing.specs.Listing.{listMost, listed, listedRows, Lists}
 
 module _ {source old : List ℕ} where
-  pub lists-long : listMost < length source → Lists source old TooLong old
+  pub lists-long : listMost < length source → Lists source old (Refused TooLong) old
   unfolding listed listedRows
   lists-long h =
       record { answer = rw (lt-ltb listMost (length source) h); words = rw (lt-ltb listMost (length source) h) (sym (rows-none old)) }

@@ -1,5 +1,6 @@
 // What the list program does with the bytes that it has read (document 01, "The list program"). It is a library, so that the program which
 // lists many sources lists each as the list program does.
+use input::Refusal;
 use reading::Scanned;
 ghost use mathlib.Core.Path.{_≡_};
 ghost use Prim.Native.Nat.{_≤_};
@@ -18,7 +19,7 @@ pub fn scan_small(source: &[u8], list: &mut [u32]) -> Scanned
     ensures { λ r. ⌜ countOf r ≤ room (now (list .exit)) ⌝ }
 {
     if LIST_MOST < source.len() {
-        return Scanned::TooLong;
+        return Scanned::Refused(Refusal::TooLong);
     }
     let table = fitness::small_table();
     scan::scan(source, &table, list)

@@ -11,6 +11,7 @@ use Rattle.fitness.specs.Fit.{startOk, propertiesOk, runOk, tableCheck}
 use Rattle.fitness.specs.Small.{smallTable}
 use Rattle.property.specs.Table.{lastFrom}
 use Rattle.cluster.specs.First.{goOn}
+use Rattle.input.specs.Input.{inputCheck}
 use Rattle.uax29.specs.Uax29.{isControl, gb3, gb6, gb7, gb8, gb9, gb9c, gb11, gb12}
 use Rattle.uax29.specs.Uax29.{pairRule, endsPict, endsPictZwj, endsOdd, endsConsonant, endsLinked}
 use Rattle.words.specs.Words.{isWord, startsWith, firstIn}
@@ -41,7 +42,7 @@ use Rattle.parse.specs.Call.{addTo, parsed, call}
 use Rattle.promises.specs.Cases.{ran, want, cases}
 
 unfoldable pub reads-computed : Unit {0}
-unfolding computes firstBad startOk propertiesOk runOk tableCheck smallTable lastFrom goOn isControl gb3 gb6 gb7 gb8 gb9 pairRule endsPict
+unfolding computes firstBad startOk propertiesOk runOk tableCheck smallTable lastFrom inputCheck goOn isControl gb3 gb6 gb7 gb8 gb9 pairRule endsPict
     endsPictZwj endsOdd endsConsonant endsLinked gb9c gb11 gb12 isWord startsWith firstIn keywordOf symbolIn symbolOf
     asciiProperties bytesOf countWhile runUtf8 nextIs dropBytes followIn turnAt inside isWhitespace isBinaryDigit isOctalDigit
     isDecimalDigit isHexDigit isLineEnd testOf testUtf8 top rest codesOf commentTurn consumeCommentMulti consumeComment lineFeed

@@ -130,9 +130,7 @@ UnrefusedOn list = Unrefused (room list) (shownAt list)
 abbrev pub BeginsAt : Scanned → Cursor → Type 0
 BeginsAt (scanned.End n b) c = c ≡ startCursor n End
 BeginsAt (scanned.Stuck n b) c = c ≡ startCursor n Stuck
-BeginsAt scanned.TooLong c = ⊥
-BeginsAt (scanned.BadTable i) c = ⊥
-BeginsAt (scanned.BadUtf8 i) c = ⊥
+BeginsAt (scanned.Refused x) c = ⊥
 BeginsAt (scanned.ListFull n b) c = ⊥
 BeginsAt (scanned.ModesFull n b) c = ⊥
 

@@ -317,8 +317,6 @@ module _ (source table old new : List ℕ) where
       from-whole n ended End c (w .0) (w .1) e (λ s. absurd (let z : _≡_ {A = ℕ} 0 1 = cc in omega arith))
   after-a-scan (scanned.Stuck n b) p c e =
       let w = stuck-whole source table old new n b p in from-whole n stuck Stuck c (w .0) (w .1) e (λ s. refl)
-  after-a-scan scanned.TooLong p c e = absurd e
-  after-a-scan (scanned.BadTable i) p c e = absurd e
-  after-a-scan (scanned.BadUtf8 i) p c e = absurd e
+  after-a-scan (scanned.Refused x) p c e = absurd e
   after-a-scan (scanned.ListFull n b) p c e = absurd e
   after-a-scan (scanned.ModesFull n b) p c e = absurd e

@@ -9,9 +9,7 @@ fn agrees(text: &[u8], at: usize, table: &[u32]) -> bool {
     let length_at = lines::past(text, at, b' ');
     match cluster::first_cluster(&bytes[..n], table) {
         Cluster::Length(length) => length == lines::number(text, length_at),
-        Cluster::TooLong => false,
-        Cluster::BadTable(_) => false,
-        Cluster::BadUtf8(_) => false,
+        Cluster::Refused(_) => false,
     }
 }
 

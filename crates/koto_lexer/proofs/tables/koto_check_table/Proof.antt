@@ -8,21 +8,21 @@ use Rattle.koto_lexer.proofs.tables.koto_check_table.Tie as tie
 check-table-requires : tie.Need-check-table-requires
 check-table-requires c κs = search needs
 
-check-place-requires : tie.Need-check-place-requires
-check-place-requires c κs = search needs
+place-of-requires : tie.Need-place-of-requires
+place-of-requires c κs = search needs
 
-check-number-requires : tie.Need-check-number-requires
-check-number-requires c κs = search needs
+number-of-requires : tie.Need-number-of-requires
+number-of-requires c κs = search needs
 
 returns : tie.Need-returns
 returns c =
     let at-place = c .before in
     let e = at-place .before .check-table .ensures in
     record {
-      number = c .check-number .ensures ∙ ap numberOf e;
-      place-is = at-place .check-place .ensures ∙ ap placeOf e;
+      number = c .number-of .ensures ∙ ap numberOf e;
+      place-is = at-place .place-of .ensures ∙ ap placeOf e;
     }
 
 pub koto-check-table-spec : {M : Type 1} → statement M
 koto-check-table-spec =
-    tie.close (tie.spec check-table-requires check-place-requires check-number-requires returns)
+    tie.close (tie.spec check-table-requires place-of-requires number-of-requires returns)

@@ -8,14 +8,14 @@ use Rattle.koto_lexer.proofs.tables.koto_read_table.Tie as tie
 read-table-requires : tie.Need-read-table-requires
 read-table-requires c κs = search needs
 
-read-count-requires : tie.Need-read-count-requires
-read-count-requires c κs = search needs
+count-of-requires : tie.Need-count-of-requires
+count-of-requires c κs = search needs
 
-read-place-requires : tie.Need-read-place-requires
-read-place-requires c κs = search needs
+place-of-requires : tie.Need-place-of-requires
+place-of-requires c κs = search needs
 
-read-number-requires : tie.Need-read-number-requires
-read-number-requires c κs = search needs
+number-of-requires : tie.Need-number-of-requires
+number-of-requires c κs = search needs
 
 same-length : tie.Need-same-length
 same-length c = search needs
@@ -26,9 +26,9 @@ returns c =
     let at-count = at-place .before in
     let read = at-count .before .before .before .read-table .ensures in
     record {
-      number = c .read-number .ensures ∙ ap numberOf (read .answer);
-      count-is = at-count .read-count .ensures ∙ ap readCount (read .answer);
-      place-is = at-place .read-place .ensures ∙ ap placeOf (read .answer);
+      number = c .number-of .ensures ∙ ap numberOf (read .answer);
+      count-is = at-count .count-of .ensures ∙ ap readCount (read .answer);
+      place-is = at-place .place-of .ensures ∙ ap placeOf (read .answer);
       row = read .row;
     }
 
@@ -37,8 +37,8 @@ koto-read-table-spec =
     tie.close
     (tie.spec
     read-table-requires
-    read-count-requires
-    read-place-requires
-    read-number-requires
+    count-of-requires
+    place-of-requires
+    number-of-requires
     same-length
     returns)
