@@ -1,9 +1,9 @@
 pub mod Pick
-pub mod PickLaws
 pub mod Range
-pub mod RangeLaws
 pub mod All
+pub mod Refusal
+pub mod PickLaws
+pub mod RangeLaws
 pub mod AllLaws
 pub mod ListLaws
 pub mod Cases
-pub mod Refusal

@@ -12,7 +12,6 @@ use mathlib.Core.Bool.{true, false}
 use mathlib.Core.List.{List, [], _∷_}
 use mathlib.Core.Option.{Option, some}
 use mathlib.Core.Option as option
-use lib.Dec.{ltb}
 use lib.ListN.{length, length-append}
 use borrow.Author.Tests.{ltb-true, ltb-false, lt-ltb, le-ltb, le-leb}
 use Rattle.base.specs.PickLaws.{by-lt, split-lt}
@@ -31,7 +30,7 @@ use Rattle.lookahead.specs.declared.Cursor.{Cursor}
 use Rattle.lookahead.specs.declared.Given.{Given}
 use Rattle.lookahead.specs.declared.Given.the-variants as given
 use Rattle.lookahead.specs.declared.Peeked.{Peeked}
-use Rattle.queue.specs.Queue.{KotoLexer, newLexer, Answered, get, tokenAt, handedOut, rustNext}
+use Rattle.queue.specs.Queue.{KotoLexer, newLexer, get, tokenAt, handedOut, rustNext}
 use Rattle.queue.specs.Queue.{maxOf, tokensToAdd, underflows, pushBack, addTokens, rustPeek}
 use Rattle.queue.specs.Calls.{Call, next, peek, ofGiven, ofPeeked, call, afterCalls, tokensOf, Unrefused, Shows}
 use Rattle.queue.specs.Calls.{rustCall, rustAfter, rustTokens, Mirrors, Agrees}
