@@ -6,8 +6,8 @@
 use Prim.Native.Nat.{ℕ}
 use mathlib.Core.Path.{_≡_, refl}
 use mathlib.Core.List.{List}
-use Rattle.lookahead.specs.declared.Status.{Status}
-use Rattle.lookahead.specs.declared.Status.the-variants.{End, Stuck}
+use Rattle.cursor.specs.declared.Status.{Status}
+use Rattle.cursor.specs.declared.Status.the-variants.{End, Stuck}
 use Rattle.lookahead.specs.declared.Given.the-variants as given
 use Rattle.lookahead.specs.declared.Peeked.the-variants as peeked
 use Rattle.koto_lexer.specs.Scans.{endNumber, stuckNumber, refusedNumber}

@@ -4,10 +4,10 @@ ghost use Rattle.koto_lexer.specs.Cursors.{cursorOf, noRow, wordsOf, nex
 ghost use Rattle.koto_lexer.specs.Cursors.{peekBy, peekedShown, peekedRow, peekedQueued, PeekIs};
 use crate::scans::END;
 use crate::scans::STUCK;
-use lookahead::Cursor;
+use cursor::Cursor;
+use cursor::Status;
 use lookahead::Given;
 use lookahead::Peeked;
-use lookahead::Status;
 use lookahead::answer;
 use rows::Row;
 

@@ -1,5 +1,4 @@
-pub mod Cursor
+pub mod Seen
 pub mod Next
 pub mod Peek
-pub mod CursorLaws
 pub mod AnswerLaws

@@ -10,7 +10,7 @@ use lib.Dec.{eqb}
 use lib.ListN.{drop}
 use Rattle.lines.specs.Fields.{numberFrom, sameAt, sameAll}
 use Rattle.lines.specs.Turns.{turned}
-use Rattle.lookahead.specs.declared.Cursor.{Cursor}
+use Rattle.cursor.specs.declared.Cursor.{Cursor}
 use Rattle.walking.specs.Line.{callAt}
 use Rattle.walking.specs.Told.{toldOf}
 use Rattle.walking.specs.declared.Told.{Told}

@@ -9,7 +9,7 @@ use lib.ListN.{drop}
 use Rattle.base.specs.Pick.{pick}
 use Rattle.lines.specs.Fields.{pastFrom, numberFrom, sameAt, sameAll}
 use Rattle.lines.specs.Turns.{turned}
-use Rattle.lookahead.specs.declared.Cursor.{Cursor}
+use Rattle.cursor.specs.declared.Cursor.{Cursor}
 use Rattle.replay_rows.specs.Rows.{nineOf}
 use Rattle.walking.specs.Line.{callAt}
 use Rattle.walking.specs.Told.{toldOf}

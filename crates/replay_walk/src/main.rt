@@ -5,8 +5,8 @@ ghost use mathlib.Core.Path.{_≡_};
 ghost use Rattle.lines.specs.Fields.{sameAll};
 ghost use Rattle.lines.specs.Turns.{turned};
 ghost use Rattle.replay_walk.specs.Walks.{whatOf, nextField, walkedOne, agreesFrom};
-use lookahead::Cursor;
-use lookahead::Status;
+use cursor::Cursor;
+use cursor::Status;
 use reading::Scanned;
 use walking::What;
 
