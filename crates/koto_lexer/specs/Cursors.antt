@@ -13,9 +13,9 @@ use Rattle.lookahead.specs.Next as next
 use Rattle.lookahead.specs.Next.{nextOf}
 use Rattle.lookahead.specs.Peek as peek
 use Rattle.lookahead.specs.Peek.{peekOf}
-use Rattle.lookahead.specs.declared.Status.{Status}
-use Rattle.lookahead.specs.declared.Status.the-variants.{End, Stuck}
-use Rattle.lookahead.specs.declared.Cursor.{Cursor}
+use Rattle.cursor.specs.declared.Status.{Status}
+use Rattle.cursor.specs.declared.Status.the-variants.{End, Stuck}
+use Rattle.cursor.specs.declared.Cursor.{Cursor}
 use Rattle.lookahead.specs.declared.Given.{Given}
 use Rattle.lookahead.specs.declared.Given.the-variants as given
 use Rattle.lookahead.specs.declared.Peeked.{Peeked}

@@ -10,8 +10,8 @@ use mathlib.Core.List.{List}
 use Rattle.lookahead.specs.Next as next
 use Rattle.lookahead.specs.Peek as peek
 use Rattle.lookahead.specs.Told.{recordNumbers, givenShown, givenRow, givenTaken, givenQueued, peekedShown, peekedRow, peekedQueued}
-use Rattle.lookahead.specs.declared.Status.{Status}
-use Rattle.lookahead.specs.declared.Status.the-variants.{End, Stuck}
+use Rattle.cursor.specs.declared.Status.{Status}
+use Rattle.cursor.specs.declared.Status.the-variants.{End, Stuck}
 use Rattle.lookahead.specs.declared.Given.{Given}
 use Rattle.lookahead.specs.declared.Given.the-variants as given
 use Rattle.lookahead.specs.declared.Peeked.{Peeked}

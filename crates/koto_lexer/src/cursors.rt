@@ -1,10 +1,10 @@
 // `next` and `peek` for C. A cursor is its numbers: taken, queued, the count, and the status as a scan writes it.
 ghost use mathlib.Core.Path.{_≡_};
 ghost use Rattle.koto_lexer.specs.Cursors.{cursorOf, nextBy, NextIs, peekBy, PeekIs};
-use lookahead::Cursor;
+use cursor::Cursor;
+use cursor::Status;
 use lookahead::Given;
 use lookahead::Peeked;
-use lookahead::Status;
 use lookahead::answer;
 use reading::answer::END;
 use reading::answer::STUCK;

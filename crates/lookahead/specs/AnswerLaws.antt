@@ -1,49 +1,29 @@
 -- What the definitions answer, on plain values: one law for each way to get there, for the code's returns and for other laws.
---     fit-last                          the last test of a fit cursor, by its status
---     ahead-own, ahead-last             the record that is ahead is the place's own, or the last
 --     see-token, see-bad, see-nothing   what is seen
 --     next-is, give-token, give-none, give-bad       `next`, by what is seen
---     must-both                                      when a token must be queued
 --     show-is, show-token, show-none, show-bad       queued token n, by what is seen
 --     queued-row, queued-bad, queued-none            queued token n, by what is shown there
 --     next-row, next-bad, next-none                  `next`, by what is shown there
 --     peek-far, peek-as-is, peek-full, peek-more     `peek`, by its tests
 -- Assumes nothing.
-use Prim.Native.Nat.{ℕ, _+_, _-_, _≤_, _<_}
-use native.Mathlib.Omega.{arith}
+use Prim.Native.Nat.{ℕ, _+_, _≤_, _<_}
 use mathlib.Core.Path.{_≡_, refl, sym}
-use mathlib.Core.Bool.{true, false, and-eq-true-iff}
-use lib.Dec.{leb}
-use borrow.Author.Tests.{leb-true, lt-ltb, le-ltb, eq-eqb, ne-eqb}
+use mathlib.Core.Bool.{true, false}
+use borrow.Author.Tests.{lt-ltb, le-ltb, eq-eqb, ne-eqb}
 use Rattle.rows.specs.declared.Row.{Row}
 use Rattle.rows.specs.declared.RowAt.{RowAt}
 use Rattle.rows.specs.declared.RowAt.the-variants.{Fit, Unfit}
-use Rattle.lookahead.specs.Cursor.{queueMost, fitBy, isFit, lastPlace, ahead, seenAt}
-use Rattle.lookahead.specs.CursorLaws.{record-at}
-use Rattle.lookahead.specs.Next.{movedOn, givenBy, nextOf}
-use Rattle.lookahead.specs.Peek.{hasMore, mustQueue, queuedOne, shownBy, queuedAt, peekOf}
-use Rattle.lookahead.specs.declared.Status.{Status}
-use Rattle.lookahead.specs.declared.Cursor.{Cursor}
+use Rattle.cursor.specs.Cursor.{queueMost, isFit, ahead, movedOn, mustQueue, queuedOne}
+use Rattle.cursor.specs.declared.Cursor.{Cursor}
+use Rattle.lookahead.specs.Seen.{seenAt}
+use Rattle.lookahead.specs.Next.{givenBy, nextOf}
+use Rattle.lookahead.specs.Peek.{shownBy, queuedAt, peekOf}
 use Rattle.lookahead.specs.declared.Seen.{Seen}
 use Rattle.lookahead.specs.declared.Seen.the-variants as seen
 use Rattle.lookahead.specs.declared.Given.{Given}
 use Rattle.lookahead.specs.declared.Given.the-variants as given
 use Rattle.lookahead.specs.declared.Peeked.{Peeked}
 use Rattle.lookahead.specs.declared.Peeked.the-variants as peeked
-
--- ---- the cursor
-
-pub fit-last : (room : ℕ) (c : Cursor) (s : Status) → c .count ≤ room → c .taken ≤ c .count → c .queued ≤ queueMost → c .status ≡ s
-    → fitBy c s ≡ isFit room c
-unfolding isFit
-fit-last room c s a b d e = simp (le-ltb _ _ a, le-ltb _ _ b, le-ltb _ _ d, e)
-
-module _ (c : Cursor) (n : ℕ) {last : ℕ} (e : last ≡ lastPlace (c .count) (c .status)) where
-  pub ahead-own : c .taken + n < last → c .taken + n ≡ ahead c n
-  ahead-own h = omega (arith, record-at (c .count) (c .status) (c .taken + n))
-
-  pub ahead-last : last ≤ c .taken + n → last ≡ ahead c n
-  ahead-last h = omega (arith, record-at (c .count) (c .status) (c .taken + n))
 
 -- ---- what is seen
 
@@ -79,11 +59,6 @@ unfolding nextOf
 next-is room shown c f e g = rw (f, ← e) g
 
 -- ---- `peek`
-
--- a token must be queued
-pub must-both : (c : Cursor) (n : ℕ) → mustQueue c n ≡ true → (n ≤ c .queued) × (hasMore c ≡ true)
-unfolding mustQueue
-must-both c n e = let tests = and-eq-true-iff (leb n (c .queued)) (hasMore c) .0 e in (leb-true n (c .queued) (tests .0), tests .1)
 
 module _ (c : Cursor) {s : Seen} where
   pub show-token : {row : Row} → s ≡ seen.Token row → peeked.Token row c ≡ shownBy c s

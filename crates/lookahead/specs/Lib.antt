@@ -1,6 +1,5 @@
-pub mod Cursor
+pub mod Seen
 pub mod Next
 pub mod Peek
 pub mod Told
-pub mod CursorLaws
 pub mod AnswerLaws

@@ -1,19 +1,16 @@
 -- Document 01, "Look-ahead": `next`. It checks 8, 9; a refusal leaves the cursor.
 -- Assumes nothing.
-use Prim.Native.Nat.{ℕ, _-_}
+use Prim.Native.Nat.{ℕ}
 use Rattle.base.specs.Pick.{pick}
 use Rattle.base.specs.Refusal.{none, badState, badRecord}
 use Rattle.rows.specs.declared.RowAt.{RowAt}
-use Rattle.lookahead.specs.Cursor.{isFit, ahead, seenAt}
-use Rattle.lookahead.specs.declared.Cursor.{Cursor}
+use Rattle.cursor.specs.Cursor.{isFit, movedOn}
+use Rattle.cursor.specs.declared.Cursor.{Cursor}
+use Rattle.lookahead.specs.Seen.{seenAt}
 use Rattle.lookahead.specs.declared.Seen.{Seen}
 use Rattle.lookahead.specs.declared.Seen.the-variants as seen
 use Rattle.lookahead.specs.declared.Given.{Given}
 use Rattle.lookahead.specs.declared.Given.the-variants.{Token, Nothing, BadState, BadRecord}
-
--- the cursor after a token was handed out: one more is taken, but never past the last place, and one less is queued, if one was
-unfoldable pub movedOn : Cursor → Cursor
-movedOn c = record { taken = ahead c 1; queued = c .queued - 1; count = c .count; status = c .status }
 
 -- what is seen there is handed out
 abbrev pub givenBy : Cursor → Seen → Given

@@ -1,29 +1,17 @@
 -- Document 01, "Look-ahead": `peek`. It checks 8, 6, 7, 9; a refusal leaves the cursor.
 -- Assumes nothing.
 use Prim.Native.Nat.{ℕ, _+_}
-use mathlib.Core.Bool.{Bool, _&&_}
-use lib.Dec.{eqb, leb, ltb}
+use lib.Dec.{eqb, ltb}
 use Rattle.base.specs.Pick.{pick}
 use Rattle.base.specs.Refusal.{none, peekTooFar, queueFull, badState, badRecord}
 use Rattle.rows.specs.declared.RowAt.{RowAt}
-use Rattle.lookahead.specs.Cursor.{queueMost, isFit, ahead, seenAt}
-use Rattle.lookahead.specs.declared.Cursor.{Cursor}
+use Rattle.cursor.specs.Cursor.{queueMost, isFit, mustQueue, queuedOne}
+use Rattle.cursor.specs.declared.Cursor.{Cursor}
+use Rattle.lookahead.specs.Seen.{seenAt}
 use Rattle.lookahead.specs.declared.Seen.{Seen}
 use Rattle.lookahead.specs.declared.Seen.the-variants as seen
 use Rattle.lookahead.specs.declared.Peeked.{Peeked}
 use Rattle.lookahead.specs.declared.Peeked.the-variants.{Token, Nothing, BadState, PeekTooFar, QueueFull, BadRecord}
-
--- there is a token past the queued ones
-abbrev pub hasMore : Cursor → Bool
-hasMore c = ltb (ahead c (c .queued)) (c .count)
-
--- a token must be queued: n is at most what is queued, and there is one more
-unfoldable pub mustQueue : Cursor → ℕ → Bool
-mustQueue c n = leb n (c .queued) && hasMore c
-
--- the cursor that has queued one more token
-unfoldable pub queuedOne : Cursor → Cursor
-queuedOne c = record { taken = c .taken; queued = c .queued + 1; count = c .count; status = c .status }
 
 -- what is seen there is shown
 abbrev pub shownBy : Cursor → Seen → Peeked

@@ -6,34 +6,15 @@
 pub mod answer;
 
 ghost use mathlib.Core.Path.{_≡_};
-ghost use Prim.Native.Nat.{_-_, _≤_};
+ghost use Prim.Native.Nat.{_≤_};
 ghost use Rattle.rows.specs.Row.{room, shownAt};
-ghost use Rattle.lookahead.specs.Cursor.{queueMost, isFit, lastPlace, ahead, seenAt};
-ghost use Rattle.lookahead.specs.Next.{movedOn, nextOf};
-ghost use Rattle.lookahead.specs.Peek.{mustQueue, queuedOne, queuedAt, peekOf};
+ghost use Rattle.lookahead.specs.Seen.{seenAt};
+ghost use Rattle.lookahead.specs.Next.{nextOf};
+ghost use Rattle.lookahead.specs.Peek.{queuedAt, peekOf};
+use cursor::Cursor;
+use cursor::QUEUE_MOST;
 use rows::Row;
 use rows::RowAt;
-
-// The most tokens that may be queued.
-const QUEUE_MOST: usize = 65_535;
-
-// How the scan ended that wrote the list.
-pub enum Status {
-    // After the last record nothing comes.
-    End,
-    // The last record comes for ever.
-    Stuck,
-}
-
-// Where a user of the list stands. After a scan it is 0, 0, the count and the status.
-pub struct Cursor {
-    // How many tokens `next` has handed out; at Stuck the last is never counted.
-    pub taken: usize,
-    // How many tokens after those are queued.
-    pub queued: usize,
-    pub count: usize,
-    pub status: Status,
-}
 
 // A token that is looked at.
 enum Seen {
@@ -66,101 +47,6 @@ pub enum Peeked {
     QueueFull,
     // Refusal 9: the record at this index has a kind over 80, or a detail that its kind may not have.
     BadRecord(usize),
-}
-
-// One less, and none of none.
-fn lower(n: usize) -> usize
-    ensures { λ r. ⌜ r ≡ n - 1 ⌝ }
-{
-    if n == 0 {
-        return 0;
-    }
-    n - 1
-}
-
-impl Cursor {
-    // Is the cursor fit for a list with room for so many records?
-    fn is_fit(self, room: usize) -> bool
-        ensures { λ r. ⌜ r ≡ isFit room self ⌝ }
-    {
-        if room < self.count {
-            return false;
-        }
-        if self.count < self.taken {
-            return false;
-        }
-        if QUEUE_MOST < self.queued {
-            return false;
-        }
-        let status = self.status;
-        match status {
-            Status::End => self.queued <= self.count - self.taken,
-            Status::Stuck => self.taken < self.count,
-        }
-    }
-
-    // Where the places stop.
-    fn last_place(self) -> usize
-        ensures { λ r. ⌜ r ≡ lastPlace (self .count) (self .status) ⌝ }
-    {
-        let status = self.status;
-        match status {
-            Status::End => self.count,
-            Status::Stuck => lower(self.count),
-        }
-    }
-
-    // The index of the record that comes after n others; the count where none does.
-    fn ahead(self, n: usize) -> usize
-        ensures { λ r. ⌜ r ≡ ahead self n ⌝ }
-    {
-        let last = self.last_place();
-        if self.taken < last {
-            if n < last - self.taken {
-                return self.taken + n;
-            }
-        }
-        last
-    }
-
-    // The cursor after a token was handed out.
-    fn moved_on(self) -> Cursor
-        ensures { λ r. ⌜ r ≡ movedOn self ⌝ }
-    {
-        let taken = self.ahead(1);
-        let queued = lower(self.queued);
-        let status = self.status;
-        Cursor {
-            taken,
-            queued,
-            count: self.count,
-            status,
-        }
-    }
-
-    // Must a token be queued before queued token n is looked for?
-    fn must_queue(self, n: usize) -> bool
-        ensures { λ r. ⌜ r ≡ mustQueue self n ⌝ }
-    {
-        if self.queued < n {
-            return false;
-        }
-        self.ahead(self.queued) < self.count
-    }
-
-    // The cursor that has queued one more token.
-    fn queued_one(self) -> Cursor
-        requires { ⌜ self .queued ≤ queueMost ⌝ }
-        ensures { λ r. ⌜ r ≡ queuedOne self ⌝ }
-    {
-        let status = self.status;
-        Cursor {
-            taken: self.taken,
-            queued: self.queued + 1,
-            count: self.count,
-            status,
-        }
-    }
 }
 
 // The token that comes after n others.

@@ -12,13 +12,13 @@ use Rattle.rows.specs.Row.{room, rowAt, rowFits, shownAt}
 use Rattle.rows.specs.declared.Row.{Row}
 use Rattle.reading.specs.declared.Scanned.{Scanned}
 use Rattle.reading.specs.declared.Scanned.the-variants as scanned
-use Rattle.lookahead.specs.Cursor.{queueMost, startCursor, ahead}
+use Rattle.cursor.specs.Cursor.{queueMost, startCursor, ahead}
 use Rattle.lookahead.specs.Next as ofNext
 use Rattle.lookahead.specs.Next.{nextOf}
 use Rattle.lookahead.specs.Peek as ofPeek
 use Rattle.lookahead.specs.Peek.{peekOf}
-use Rattle.lookahead.specs.declared.Status.the-variants.{End, Stuck}
-use Rattle.lookahead.specs.declared.Cursor.{Cursor}
+use Rattle.cursor.specs.declared.Status.the-variants.{End, Stuck}
+use Rattle.cursor.specs.declared.Cursor.{Cursor}
 use Rattle.lookahead.specs.declared.Given.{Given}
 use Rattle.lookahead.specs.declared.Given.the-variants as given
 use Rattle.lookahead.specs.declared.Peeked.{Peeked}

@@ -29,16 +29,16 @@ use Rattle.reading.specs.ShownLaws.{reading-shown, stuck-some}
 use Rattle.reading.specs.WholeLaws.{ReadWhole, end-whole, stuck-whole}
 use Rattle.reading.specs.declared.Scanned.{Scanned}
 use Rattle.reading.specs.declared.Scanned.the-variants as scanned
-use Rattle.lookahead.specs.Cursor.{queueMost, fitBy, isFit, startCursor, recordAt, ahead}
-use Rattle.lookahead.specs.CursorLaws as cursor
-use Rattle.lookahead.specs.CursorLaws.{fits-of, fit-of, record-at, record-in, start-fits, queued-fits, taken-held, queued-there}
-use Rattle.lookahead.specs.Next.{movedOn, nextOf}
-use Rattle.lookahead.specs.Peek.{hasMore, mustQueue, queuedOne, queuedAt, peekOf}
+use Rattle.cursor.specs.Cursor.{queueMost, fitBy, isFit, startCursor, recordAt, ahead, movedOn, hasMore, mustQueue, queuedOne}
+use Rattle.cursor.specs.CursorLaws as cursor
+use Rattle.cursor.specs.CursorLaws.{fits-of, fit-of, record-at, record-in, start-fits, queued-fits, taken-held, queued-there}
+use Rattle.lookahead.specs.Next.{nextOf}
+use Rattle.lookahead.specs.Peek.{queuedAt, peekOf}
 use Rattle.lookahead.specs.AnswerLaws.{next-row, next-bad, next-none, queued-row, queued-bad, queued-none}
 use Rattle.lookahead.specs.AnswerLaws.{peek-far, peek-as-is, peek-full, peek-more}
-use Rattle.lookahead.specs.declared.Status.{Status}
-use Rattle.lookahead.specs.declared.Status.the-variants.{End, Stuck}
-use Rattle.lookahead.specs.declared.Cursor.{Cursor}
+use Rattle.cursor.specs.declared.Status.{Status}
+use Rattle.cursor.specs.declared.Status.the-variants.{End, Stuck}
+use Rattle.cursor.specs.declared.Cursor.{Cursor}
 use Rattle.lookahead.specs.declared.Given.{Given}
 use Rattle.lookahead.specs.declared.Given.the-variants as given
 use Rattle.lookahead.specs.declared.Peeked.{Peeked}

@@ -12,14 +12,14 @@ use lib.ListN.{length}
 use Rattle.rows.specs.declared.Row.{Row}
 use Rattle.rows.specs.declared.RowAt.{RowAt}
 use Rattle.rows.specs.declared.RowAt.the-variants.{Fit}
-use Rattle.lookahead.specs.Cursor.{isFit, recordAt, ahead}
+use Rattle.cursor.specs.Cursor.{isFit, recordAt, ahead}
 use Rattle.lookahead.specs.Next as ofNext
 use Rattle.lookahead.specs.Next.{nextOf}
 use Rattle.lookahead.specs.Peek as ofPeek
 use Rattle.lookahead.specs.Peek.{peekOf}
 use Rattle.queue.specs.Queue.{KotoLexer, Answered, get, rustNext, rustPeek}
-use Rattle.lookahead.specs.declared.Status.{Status}
-use Rattle.lookahead.specs.declared.Cursor.{Cursor}
+use Rattle.cursor.specs.declared.Status.{Status}
+use Rattle.cursor.specs.declared.Cursor.{Cursor}
 use Rattle.lookahead.specs.declared.Given.{Given}
 use Rattle.lookahead.specs.declared.Given.the-variants as given
 use Rattle.lookahead.specs.declared.Peeked.{Peeked}

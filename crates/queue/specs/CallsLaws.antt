@@ -17,14 +17,13 @@ use lib.ListN.{length}
 use Rattle.base.specs.Refusal.{none, peekTooFar, queueFull, badState, badRecord}
 use Rattle.rows.specs.declared.Row.{Row}
 use Rattle.rows.specs.declared.RowAt.{RowAt}
-use Rattle.lookahead.specs.Cursor.{isFit, startCursor, recordAt, ahead}
-use Rattle.lookahead.specs.CursorLaws.{record-at, held-plus, last-most, taken-held, stuck-some, moved-fits, queued-fits}
-use Rattle.lookahead.specs.Next.{movedOn, nextOf}
-use Rattle.lookahead.specs.Peek.{queuedOne, queuedAt, peekOf}
-use Rattle.lookahead.specs.AnswerLaws.{must-both}
-use Rattle.lookahead.specs.declared.Status.{Status}
-use Rattle.lookahead.specs.declared.Status.the-variants.{Stuck}
-use Rattle.lookahead.specs.declared.Cursor.{Cursor}
+use Rattle.cursor.specs.Cursor.{isFit, startCursor, recordAt, ahead, movedOn, queuedOne}
+use Rattle.cursor.specs.CursorLaws.{record-at, held-plus, last-most, taken-held, stuck-some, moved-fits, queued-fits, must-both}
+use Rattle.lookahead.specs.Next.{nextOf}
+use Rattle.lookahead.specs.Peek.{queuedAt, peekOf}
+use Rattle.cursor.specs.declared.Status.{Status}
+use Rattle.cursor.specs.declared.Status.the-variants.{Stuck}
+use Rattle.cursor.specs.declared.Cursor.{Cursor}
 use Rattle.lookahead.specs.declared.Given.{Given}
 use Rattle.lookahead.specs.declared.Peeked.{Peeked}
 use Rattle.queue.specs.Queue.{get, tokenAt}

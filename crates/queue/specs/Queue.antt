@@ -9,8 +9,8 @@ use lib.Dec.{ltb}
 use lib.ListN.{length}
 use Rattle.base.specs.Pick.{pick}
 use Rattle.rows.specs.declared.Row.{Row}
-use Rattle.lookahead.specs.declared.Status.{Status}
-use Rattle.lookahead.specs.declared.Status.the-variants.{End, Stuck}
+use Rattle.cursor.specs.declared.Status.{Status}
+use Rattle.cursor.specs.declared.Status.the-variants.{End, Stuck}
 
 -- the lexer: how many tokens the `TokenLexer` has handed out, and the queue
 pub record KotoLexer : Type 0 where

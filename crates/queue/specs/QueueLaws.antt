@@ -18,15 +18,15 @@ use Rattle.base.specs.PickLaws.{by-lt, split-lt}
 use Rattle.base.specs.Refusal.{none, peekTooFar, queueFull}
 use Rattle.rows.specs.declared.Row.{Row}
 use Rattle.rows.specs.declared.RowAt.{RowAt}
-use Rattle.lookahead.specs.Cursor.{queueMost, isFit, startCursor, recordAt, ahead}
-use Rattle.lookahead.specs.CursorLaws.{held-plus, same-plus, moved-fits, queued-fits, queued-there, stuck-some}
-use Rattle.lookahead.specs.Next.{movedOn, nextOf}
+use Rattle.cursor.specs.Cursor.{queueMost, isFit, startCursor, recordAt, ahead, movedOn, hasMore, mustQueue, queuedOne}
+use Rattle.cursor.specs.CursorLaws.{held-plus, same-plus, moved-fits, queued-fits, queued-there, stuck-some, must-both}
+use Rattle.lookahead.specs.Next.{nextOf}
 use Rattle.lookahead.specs.Peek as ofPeek
-use Rattle.lookahead.specs.Peek.{hasMore, mustQueue, queuedOne, queuedAt, peekOf}
-use Rattle.lookahead.specs.AnswerLaws.{must-both, peek-far}
-use Rattle.lookahead.specs.declared.Status.{Status}
-use Rattle.lookahead.specs.declared.Status.the-variants.{Stuck}
-use Rattle.lookahead.specs.declared.Cursor.{Cursor}
+use Rattle.lookahead.specs.Peek.{queuedAt, peekOf}
+use Rattle.lookahead.specs.AnswerLaws.{peek-far}
+use Rattle.cursor.specs.declared.Status.{Status}
+use Rattle.cursor.specs.declared.Status.the-variants.{Stuck}
+use Rattle.cursor.specs.declared.Cursor.{Cursor}
 use Rattle.lookahead.specs.declared.Given.{Given}
 use Rattle.lookahead.specs.declared.Given.the-variants as given
 use Rattle.lookahead.specs.declared.Peeked.{Peeked}

@@ -17,14 +17,14 @@ use Rattle.base.specs.PickLaws.{by-lt, split-lt, split-eq}
 use Rattle.rows.specs.declared.Row.{Row}
 use Rattle.rows.specs.declared.RowAt.{RowAt}
 use Rattle.rows.specs.declared.RowAt.the-variants.{Fit}
-use Rattle.lookahead.specs.Cursor.{queueMost, isFit, recordAt, ahead}
-use Rattle.lookahead.specs.CursorLaws.{record-at, queued-there}
-use Rattle.lookahead.specs.Next.{movedOn, nextOf}
-use Rattle.lookahead.specs.Peek.{mustQueue, queuedOne, queuedAt, peekOf}
+use Rattle.cursor.specs.Cursor.{queueMost, isFit, recordAt, ahead, movedOn, mustQueue, queuedOne}
+use Rattle.cursor.specs.CursorLaws.{record-at, queued-there}
+use Rattle.lookahead.specs.Next.{nextOf}
+use Rattle.lookahead.specs.Peek.{queuedAt, peekOf}
 use Rattle.lookahead.specs.AnswerLaws.{next-row, next-none, queued-row, queued-none, peek-far, peek-as-is, peek-full, peek-more}
-use Rattle.lookahead.specs.declared.Status.{Status}
-use Rattle.lookahead.specs.declared.Status.the-variants.{End, Stuck}
-use Rattle.lookahead.specs.declared.Cursor.{Cursor}
+use Rattle.cursor.specs.declared.Status.{Status}
+use Rattle.cursor.specs.declared.Status.the-variants.{End, Stuck}
+use Rattle.cursor.specs.declared.Cursor.{Cursor}
 use Rattle.lookahead.specs.declared.Given.{Given}
 use Rattle.lookahead.specs.declared.Given.the-variants as given
 use Rattle.lookahead.specs.declared.Peeked.{Peeked}

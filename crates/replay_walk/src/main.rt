@@ -1,8 +1,8 @@
 // Replays recorded answers of the Rust with its real Unicode crates to `next` and `peek` (data/walks.txt; tools/README.md says how it was made),
 // after a scan with the full table: the record of each call, nothing or its refusal, and how many tokens are queued at the end. Then a file with
 // one wrong line, so that a difference is seen to be reported.
-use lookahead::Cursor;
-use lookahead::Status;
+use cursor::Cursor;
+use cursor::Status;
 use reading::Scanned;
 use walking::What;
 

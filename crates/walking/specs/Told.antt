@@ -7,7 +7,7 @@ use Rattle.base.specs.Refusal.{peekTooFar, queueFull, badState, badRecord}
 use Rattle.rows.specs.Row.{room, shownAt}
 use Rattle.lookahead.specs.Next.{nextOf}
 use Rattle.lookahead.specs.Peek.{peekOf}
-use Rattle.lookahead.specs.declared.Cursor.{Cursor}
+use Rattle.cursor.specs.declared.Cursor.{Cursor}
 use Rattle.lookahead.specs.declared.Given.{Given}
 use Rattle.lookahead.specs.declared.Given.the-variants as given
 use Rattle.lookahead.specs.declared.Peeked.{Peeked}

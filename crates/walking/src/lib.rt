@@ -6,17 +6,17 @@ mod calls;
 pub use calls::Call;
 pub use calls::are_calls;
 pub use calls::call_at;
+use cursor::Cursor;
+use cursor::Status;
 use libc::STDOUT_FILENO;
-use lookahead::Cursor;
 use lookahead::Given;
 use lookahead::Peeked;
-use lookahead::Status;
 use lookahead::answer;
 use reading::Scanned;
 use rows::Row;
 ghost use mathlib.Core.Path.{_≡_};
 ghost use lib.ListN.{length};
-ghost use Rattle.lookahead.specs.Cursor.{startCursor};
+ghost use Rattle.cursor.specs.Cursor.{startCursor};
 ghost use Rattle.walking.specs.Told.{refusedAt, toldGiven, toldPeeked, toldOf};
 
 // What is said of a call.

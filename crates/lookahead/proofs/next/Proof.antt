@@ -4,8 +4,8 @@ use mathlib.Core.Bool.{true}
 use denote.Ref.{now}
 use borrow.Author.Tests.{not-true, not-false}
 use Rattle.rows.specs.Row.{room}
-use Rattle.lookahead.specs.Cursor.{isFit}
-use Rattle.lookahead.specs.CursorLaws.{fits-of}
+use Rattle.cursor.specs.Cursor.{isFit}
+use Rattle.cursor.specs.CursorLaws.{fits-of}
 use Rattle.lookahead.specs.Next.{nextOf}
 use Rattle.lookahead.specs.AnswerLaws.{next-is, give-token, give-none, give-bad}
 use borrow.Author.Needs.{needs}

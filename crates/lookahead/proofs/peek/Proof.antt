@@ -5,10 +5,10 @@ use mathlib.Core.Bool.{true}
 use denote.Ref.{now}
 use borrow.Author.Tests.{not-true, not-false}
 use Rattle.rows.specs.Row.{room, shownAt}
-use Rattle.lookahead.specs.Cursor.{isFit}
-use Rattle.lookahead.specs.CursorLaws.{fits-of}
-use Rattle.lookahead.specs.Peek.{mustQueue, queuedOne, queuedAt, peekOf}
-use Rattle.lookahead.specs.declared.Cursor.{Cursor}
+use Rattle.cursor.specs.Cursor.{isFit, mustQueue, queuedOne}
+use Rattle.cursor.specs.CursorLaws.{fits-of}
+use Rattle.lookahead.specs.Peek.{queuedAt, peekOf}
+use Rattle.cursor.specs.declared.Cursor.{Cursor}
 use Rattle.lookahead.specs.AnswerLaws.{peek-far, peek-as-is, peek-full, peek-more}
 use borrow.Author.Needs.{needs}
 use Rattle.lookahead.proofs.peek.Statement.{statement}

@@ -1,8 +1,8 @@
 -- `Cursor::queued_one` meets its contract: each field is that of `queuedOne`. Assumes nothing.
-use Rattle.lookahead.specs.Peek.{queuedOne}
+use Rattle.cursor.specs.Cursor.{queuedOne}
 use borrow.Author.Needs.{needs}
-use Rattle.lookahead.proofs.Cursor.queued_one.Statement.{statement}
-use Rattle.lookahead.proofs.Cursor.queued_one.Tie as tie
+use Rattle.cursor.proofs.Cursor.queued_one.Statement.{statement}
+use Rattle.cursor.proofs.Cursor.queued_one.Tie as tie
 
 add-t3 : tie.Need-add-t3
 add-t3 c = search needs

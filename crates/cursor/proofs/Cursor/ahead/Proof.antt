@@ -1,9 +1,9 @@
 -- `Cursor::ahead` meets its contract: the place is below the last one, or it is not. Assumes nothing.
 use native.Mathlib.Omega.{arith}
-use Rattle.lookahead.specs.AnswerLaws.{ahead-own, ahead-last}
+use Rattle.cursor.specs.CursorLaws.{ahead-own, ahead-last}
 use borrow.Author.Needs.{needs}
-use Rattle.lookahead.proofs.Cursor.ahead.Statement.{statement}
-use Rattle.lookahead.proofs.Cursor.ahead.Tie as tie
+use Rattle.cursor.proofs.Cursor.ahead.Statement.{statement}
+use Rattle.cursor.proofs.Cursor.ahead.Tie as tie
 
 last-place-requires : tie.Need-last-place-requires
 last-place-requires c κs = search needs

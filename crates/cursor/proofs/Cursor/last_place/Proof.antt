@@ -1,8 +1,8 @@
 -- `Cursor::last_place` meets its contract, by the status. Assumes nothing.
 use mathlib.Core.Path.{_∙_}
 use borrow.Author.Needs.{needs}
-use Rattle.lookahead.proofs.Cursor.last_place.Statement.{statement}
-use Rattle.lookahead.proofs.Cursor.last_place.Tie as tie
+use Rattle.cursor.proofs.Cursor.last_place.Statement.{statement}
+use Rattle.cursor.proofs.Cursor.last_place.Tie as tie
 
 enum-told : tie.Need-enum-told
 enum-told c = search needs

@@ -1,19 +1,14 @@
 -- Document 01, "Look-ahead": a cursor over a scan's records. lexer.rs's `KotoLexer` has a queue of tokens beside its lexer; here both are
 -- numbers over the list. The tokens have places 0, 1, 2 and so on, without end at Stuck: those below `taken` are handed out, and so many as
--- `queued` says are queued from there on. A record is known here by its index alone: of a list it is asked for how many records it has room,
--- and what it shows at an index (`shown`). The layout of its records is known in the crate `rows`.
+-- `queued` says are queued from there on. A record is known here by its index alone.
 -- Assumes nothing.
 use Prim.Native.Nat.{ℕ, _+_, _-_}
-use mathlib.Core.Bool.{Bool, false}
+use mathlib.Core.Bool.{Bool, false, _&&_}
 use lib.Dec.{leb, ltb}
 use Rattle.base.specs.Pick.{pick}
-use Rattle.rows.specs.declared.RowAt.{RowAt}
-use Rattle.rows.specs.declared.RowAt.the-variants.{Fit, Unfit}
-use Rattle.lookahead.specs.declared.Status.{Status}
-use Rattle.lookahead.specs.declared.Status.the-variants.{End, Stuck}
-use Rattle.lookahead.specs.declared.Cursor.{Cursor}
-use Rattle.lookahead.specs.declared.Seen.{Seen}
-use Rattle.lookahead.specs.declared.Seen.the-variants.{Token, Nothing, BadRecord}
+use Rattle.cursor.specs.declared.Status.{Status}
+use Rattle.cursor.specs.declared.Status.the-variants.{End, Stuck}
+use Rattle.cursor.specs.declared.Cursor.{Cursor}
 
 -- the most tokens that may be queued
 abbrev pub queueMost : ℕ
@@ -53,11 +48,20 @@ recordAt count status place = pick (ltb place (lastPlace count status)) place (l
 abbrev pub ahead : Cursor → ℕ → ℕ
 ahead c n = recordAt (c .count) (c .status) (c .taken + n)
 
--- what is seen of a record that is there
-abbrev pub seenBy : ℕ → RowAt → Seen
-seenBy i (Fit row) = Token row
-seenBy i Unfit = BadRecord i
+-- ---- how a cursor moves
 
--- the token that comes after n others: its record, nothing, or that the record may not be shown (refusal 9)
-unfoldable pub seenAt : (ℕ → RowAt) → Cursor → ℕ → Seen
-seenAt shown c n = pick (ltb (ahead c n) (c .count)) (seenBy (ahead c n) (shown (ahead c n))) Nothing
+-- the cursor after a token was handed out: one more is taken, but never past the last place, and one less is queued, if one was
+unfoldable pub movedOn : Cursor → Cursor
+movedOn c = record { taken = ahead c 1; queued = c .queued - 1; count = c .count; status = c .status }
+
+-- there is a token past the queued ones
+abbrev pub hasMore : Cursor → Bool
+hasMore c = ltb (ahead c (c .queued)) (c .count)
+
+-- a token must be queued: n is at most what is queued, and there is one more
+unfoldable pub mustQueue : Cursor → ℕ → Bool
+mustQueue c n = leb n (c .queued) && hasMore c
+
+-- the cursor that has queued one more token
+unfoldable pub queuedOne : Cursor → Cursor
+queuedOne c = record { taken = c .taken; queued = c .queued + 1; count = c .count; status = c .status }

@@ -1,8 +1,8 @@
 -- `Cursor::moved_on` meets its contract: each field is that of `movedOn`. Assumes nothing.
-use Rattle.lookahead.specs.Next.{movedOn}
+use Rattle.cursor.specs.Cursor.{movedOn}
 use borrow.Author.Needs.{needs}
-use Rattle.lookahead.proofs.Cursor.moved_on.Statement.{statement}
-use Rattle.lookahead.proofs.Cursor.moved_on.Tie as tie
+use Rattle.cursor.proofs.Cursor.moved_on.Statement.{statement}
+use Rattle.cursor.proofs.Cursor.moved_on.Tie as tie
 
 ahead-requires : tie.Need-ahead-requires
 ahead-requires c κs = search needs

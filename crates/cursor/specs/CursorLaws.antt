@@ -5,21 +5,22 @@
 --     last-most, record-most, record-in    it is none past the count, and at Stuck always one below
 --     same-plus, held-plus, held-once    places that mean one record do so after n more, and a place may be held before n more
 --     taken-held                a fit cursor does not stand past the last place
+--     fit-last                  the last test of a fit cursor, by its status
+--     ahead-own, ahead-last     the record that is ahead is the place's own, or the last
+--     must-both                 when a token must be queued
 --     stuck-some, queued-there  at Stuck there is a record, and a token that is queued is there
 -- Assumes nothing.
 use Prim.Native.Nat.{ℕ, _+_, _-_, _≤_, _<_}
 use native.Mathlib.Omega.{arith}
 use mathlib.Core.Path.{_≡_, refl, sym, ap, _∙_}
-use mathlib.Core.Bool.{true, false, false≢true}
-use lib.Dec.{ltb}
+use mathlib.Core.Bool.{true, false, false≢true, and-eq-true-iff}
+use lib.Dec.{leb, ltb}
 use borrow.Author.Tests.{ltb-true, ltb-false, leb-true, lt-ltb, le-ltb, le-leb}
 use Rattle.base.specs.PickLaws.{by-lt, is-second}
-use Rattle.lookahead.specs.Cursor.{queueMost, fitBy, isFit, startCursor, lastPlace, recordAt, ahead}
-use Rattle.lookahead.specs.Next.{movedOn}
-use Rattle.lookahead.specs.Peek.{hasMore, queuedOne}
-use Rattle.lookahead.specs.declared.Status.{Status}
-use Rattle.lookahead.specs.declared.Status.the-variants.{End, Stuck}
-use Rattle.lookahead.specs.declared.Cursor.{Cursor}
+use Rattle.cursor.specs.Cursor.{queueMost, fitBy, isFit, startCursor, lastPlace, recordAt, ahead, movedOn, hasMore, mustQueue, queuedOne}
+use Rattle.cursor.specs.declared.Status.{Status}
+use Rattle.cursor.specs.declared.Status.the-variants.{End, Stuck}
+use Rattle.cursor.specs.declared.Cursor.{Cursor}
 
 -- what a fit cursor passes
 pub record Fits (room : ℕ) (c : Cursor) : Type 0 where
@@ -156,3 +157,22 @@ module _ (room : ℕ) (c : Cursor) (f : isFit room c ≡ true) where
           → fitBy (record { taken = c .taken; queued = c .queued + 1; count = c .count; status = s }) s ≡ true
       go End e h = le-leb (c .queued + 1) (c .count - c .taken) (omega (arith, record-at (c .count) End (c .taken + c .queued)))
       go Stuck e h = e
+
+-- ---- for the code
+
+pub fit-last : (room : ℕ) (c : Cursor) (s : Status) → c .count ≤ room → c .taken ≤ c .count → c .queued ≤ queueMost → c .status ≡ s
+    → fitBy c s ≡ isFit room c
+unfolding isFit
+fit-last room c s a b d e = simp (le-ltb _ _ a, le-ltb _ _ b, le-ltb _ _ d, e)
+
+module _ (c : Cursor) (n : ℕ) {last : ℕ} (e : last ≡ lastPlace (c .count) (c .status)) where
+  pub ahead-own : c .taken + n < last → c .taken + n ≡ ahead c n
+  ahead-own h = omega (arith, record-at (c .count) (c .status) (c .taken + n))
+
+  pub ahead-last : last ≤ c .taken + n → last ≡ ahead c n
+  ahead-last h = omega (arith, record-at (c .count) (c .status) (c .taken + n))
+
+-- a token must be queued
+pub must-both : (c : Cursor) (n : ℕ) → mustQueue c n ≡ true → (n ≤ c .queued) × (hasMore c ≡ true)
+unfolding mustQueue
+must-both c n e = let tests = and-eq-true-iff (leb n (c .queued)) (hasMore c) .0 e in (leb-true n (c .queued) (tests .0), tests .1)

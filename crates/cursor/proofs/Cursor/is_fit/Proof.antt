@@ -1,13 +1,13 @@
 -- `Cursor::is_fit` meets its contract: the code takes the tests of `isFit` in its order. Assumes nothing.
 use mathlib.Core.Path.{_≡_, sym}
 use Rattle.base.specs.Cases.{cases}
-use Rattle.lookahead.specs.Cursor.{fitBy, isFit}
-use Rattle.lookahead.specs.AnswerLaws.{fit-last}
-use Rattle.lookahead.specs.declared.Status.{Status}
-use Rattle.lookahead.specs.declared.Status.the-variants.{End, Stuck}
+use Rattle.cursor.specs.Cursor.{fitBy, isFit}
+use Rattle.cursor.specs.CursorLaws.{fit-last}
+use Rattle.cursor.specs.declared.Status.{Status}
+use Rattle.cursor.specs.declared.Status.the-variants.{End, Stuck}
 use borrow.Author.Needs.{needs}
-use Rattle.lookahead.proofs.Cursor.is_fit.Statement.{statement}
-use Rattle.lookahead.proofs.Cursor.is_fit.Tie as tie
+use Rattle.cursor.proofs.Cursor.is_fit.Statement.{statement}
+use Rattle.cursor.proofs.Cursor.is_fit.Tie as tie
 
 abbrev start : tie.Else3 → tie.Start
 start c = c .before .before .before .before .before .before

@@ -2,10 +2,10 @@
 use mathlib.Core.Path.{sym}
 use borrow.Author.Tests.{le-leb}
 use Rattle.base.specs.Cases.{cases}
-use Rattle.lookahead.specs.Peek.{mustQueue}
+use Rattle.cursor.specs.Cursor.{mustQueue}
 use borrow.Author.Needs.{needs}
-use Rattle.lookahead.proofs.Cursor.must_queue.Statement.{statement}
-use Rattle.lookahead.proofs.Cursor.must_queue.Tie as tie
+use Rattle.cursor.proofs.Cursor.must_queue.Statement.{statement}
+use Rattle.cursor.proofs.Cursor.must_queue.Tie as tie
 
 returns : tie.Need-returns
 unfolding mustQueue
