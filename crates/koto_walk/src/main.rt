@@ -39,11 +39,18 @@ fn read_line(line: &mut [u8]) -> usize
     n
 }
 
+// Scans the source as the list program does, and prints the walk over its records.
+fn print_walk(calls: &[u8], source: &[u8]) {
+    let mut list = listing::list_buffer();
+    let scanned = listing::scan_small(source, &mut list);
+    walking::print_walk(calls, &list, scanned);
+}
+
 fn main() {
     let mut line = walking::line_buffer();
     let n = read_line(&mut line);
     // One byte more than a script may have, so that one too many is seen.
     let mut text = [0u8; 1025];
     let length = io::read_full(STDIN_FILENO, &mut text);
-    walking::print_walk(&line[..n], &text[..length]);
+    print_walk(&line[..n], &text[..length]);
 }

@@ -2,6 +2,7 @@
 --     lists-long, lists-scan    a source that is too long; one that is not, and is scanned with the small table
 --     lists-within              no more records are counted than the list has room for
 --     one-listing               no second answer and no second list fits
+--     long-stays                a source that is too long is told so, and leaves every word of the list
 -- Assumes nothing.
 use Prim.Native.Nat.{ℕ, _≤_, _<_}
 use native.Mathlib.Omega.{arith}
@@ -50,3 +51,7 @@ lists-within {source} {old} {new} {r} f long =
 pub one-listing : (source old : List ℕ) (r q : Scanned) (new other : List ℕ) → Lists source old r new → Lists source old q other
     → (r ≡ q) × (new ≡ other)
 one-listing source old r q new other a b = (a .answer ∙ sym (b .answer), a .words ∙ sym (b .words))
+
+pub long-stays : (source old : List ℕ) (r : Scanned) (new : List ℕ) → listMost < length source → Lists source old r new
+    → (r ≡ TooLong) × (new ≡ old)
+long-stays source old r new h f = one-listing source old r TooLong new old f (lists-long h)

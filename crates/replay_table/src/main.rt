@@ -125,19 +125,28 @@ fn table_agrees(case: Case, said: TableFile, file: &[u8]) -> bool {
     }
 }
 
-fn agrees(text: &[u8], at: usize) -> bool {
-    let mut bytes = io::large_buffer();
-    let n = lines::hex(text, at, &mut bytes);
-    let case = case_at(text, at);
+// Whether the row has what the line says: as many numbers of the file, and the pattern after them.
+fn row_agrees(case: Case, file: &[u8], row: &[u32]) -> bool {
+    let wanted = row_of(file, case.count);
+    lines::same_numbers(row, &wanted)
+}
+
+fn case_agrees(case: Case, file: &[u8]) -> bool {
     let mut row = fresh_row();
-    let said = read_into(case, &bytes[..n], &mut row);
+    let said = read_into(case, file, &mut row);
     if !file_agrees(case, said) {
         return false;
     }
-    if !lines::same_numbers(&row, &row_of(&bytes[..n], case.count)) {
+    if !row_agrees(case, file, &row) {
         return false;
     }
-    table_agrees(case, said, &bytes[..n])
+    table_agrees(case, said, file)
+}
+
+fn agrees(text: &[u8], at: usize) -> bool {
+    let mut bytes = io::large_buffer();
+    let n = lines::hex(text, at, &mut bytes);
+    case_agrees(case_at(text, at), &bytes[..n])
 }
 
 fn replay_lines(name: &[u8], text: &[u8]) {

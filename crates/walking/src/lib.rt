@@ -1,6 +1,6 @@
-// What the walk program does with its two parts, a line of calls and a source: it scans the source as the list program does, and then calls
-// `next` and `peek` over the records, one call after the other. It is a library, so that the program which walks over many sources walks
-// over each as the walk program does. It knows no standard input.
+// What the walk program does with a line of calls and what a scan left: it calls `next` and `peek` over the records, one call after the other. It is
+// a library, so that the program which walks over many sources walks over each as the walk program does. It knows no standard input, no source
+// and no scan.
 mod calls;
 
 pub use calls::Call;
@@ -158,16 +158,14 @@ pub fn line_buffer() -> [u8; 200001]
     [0; 200001]
 }
 
-// Prints a walk over a source: a line for each call and how many tokens are queued at the end, the refusal of the scan, or that the line
-// is malformed.
-pub fn print_walk(line: &[u8], source: &[u8])
+// Prints a walk over the records of a scan: a line for each call and how many tokens are queued at the end, the refusal of the scan, or that
+// the line is malformed, which is told first.
+pub fn print_walk(line: &[u8], list: &[u32], scanned: Scanned)
     ensures { λ r. ⌜ r ≡ tt ⌝ }
 {
     if !are_calls(line) {
         io::write_all(STDOUT_FILENO, b"bad calls\n");
         return;
     }
-    let mut list = listing::list_buffer();
-    let scanned = listing::scan_small(source, &mut list);
-    print_scan(line, &list, scanned);
+    print_scan(line, list, scanned);
 }
