@@ -7,12 +7,13 @@ use mathlib.Core.List.{List}
 use lib.Dec.{eqb}
 use Rattle.base.specs.Pick.{pick}
 use Rattle.reading.specs.Status.{endNumber, stuckNumber}
-use Rattle.lookahead.specs.Told.{recordNumbers, givenShown, givenRow, givenTaken, givenQueued, peekedShown, peekedRow, peekedQueued}
+use Rattle.lookahead.specs.Told.{recordNumbers, givenTold, peekedTold}
 use Rattle.rows.specs.Row.{room, shownAt}
 use Rattle.lookahead.specs.Next as next
 use Rattle.lookahead.specs.Next.{nextOf}
 use Rattle.lookahead.specs.Peek as peek
 use Rattle.lookahead.specs.Peek.{peekOf}
+use Rattle.lookahead.specs.declared.answer.Told.{Told}
 use Rattle.cursor.specs.declared.Status.{Status}
 use Rattle.cursor.specs.declared.Status.the-variants.{End, Stuck}
 use Rattle.cursor.specs.declared.Cursor.{Cursor}
@@ -36,13 +37,17 @@ cursorOf taken queued count status = record { taken = taken; queued = queued; co
 abbrev pub nextBy : List ℕ → ℕ → ℕ → ℕ → ℕ → Given
 nextBy list taken queued count status = byStatus (λ (x : Status). nextOf (room list) (shownAt list) (cursorOf taken queued count x)) given.BadState status
 
+-- what it tells
+abbrev pub nextTold : List ℕ → ℕ → ℕ → ℕ → ℕ → Told
+nextTold list taken queued count status = givenTold (nextBy list taken queued count status) taken queued
+
 -- what `koto_next` ensures
 pub record NextIs (list : List ℕ) (taken queued count status newTaken newQueued shown : ℕ) (words : List ℕ) (place r : ℕ) : Type 0 where
   pub number : r ≡ next.numberOf (nextBy list taken queued count status)
-  pub taken-is : newTaken ≡ givenTaken (nextBy list taken queued count status) taken
-  pub queued-is : newQueued ≡ givenQueued (nextBy list taken queued count status) queued
-  pub shown-is : shown ≡ givenShown (nextBy list taken queued count status)
-  pub words-are : words ≡ recordNumbers (givenRow (nextBy list taken queued count status))
+  pub taken-is : newTaken ≡ nextTold list taken queued count status .taken
+  pub queued-is : newQueued ≡ nextTold list taken queued count status .queued
+  pub shown-is : shown ≡ nextTold list taken queued count status .shown
+  pub words-are : words ≡ recordNumbers (nextTold list taken queued count status .row)
   pub place-is : place ≡ next.placeOf (nextBy list taken queued count status)
 
 -- ---- `peek`
@@ -51,10 +56,14 @@ pub record NextIs (list : List ℕ) (taken queued count status newTaken newQueue
 abbrev pub peekBy : List ℕ → ℕ → ℕ → ℕ → ℕ → ℕ → Peeked
 peekBy list taken queued count status n = byStatus (λ (x : Status). peekOf (room list) (shownAt list) (cursorOf taken queued count x) n) peeked.BadState status
 
+-- what it tells
+abbrev pub peekTold : List ℕ → ℕ → ℕ → ℕ → ℕ → ℕ → Told
+peekTold list taken queued count status n = peekedTold (peekBy list taken queued count status n) taken queued
+
 -- what `koto_peek` ensures
 pub record PeekIs (list : List ℕ) (taken queued count status n newQueued shown : ℕ) (words : List ℕ) (place r : ℕ) : Type 0 where
   pub number : r ≡ peek.numberOf (peekBy list taken queued count status n)
-  pub queued-is : newQueued ≡ peekedQueued (peekBy list taken queued count status n) queued
-  pub shown-is : shown ≡ peekedShown (peekBy list taken queued count status n)
-  pub words-are : words ≡ recordNumbers (peekedRow (peekBy list taken queued count status n))
+  pub queued-is : newQueued ≡ peekTold list taken queued count status n .queued
+  pub shown-is : shown ≡ peekTold list taken queued count status n .shown
+  pub words-are : words ≡ recordNumbers (peekTold list taken queued count status n .row)
   pub place-is : place ≡ peek.placeOf (peekBy list taken queued count status n)

@@ -9,16 +9,16 @@ use mathlib.Core.Path.{_≡_, refl, ap, _∙_}
 use mathlib.Core.List.{List}
 use Rattle.lookahead.specs.Next as next
 use Rattle.lookahead.specs.Peek as peek
-use Rattle.lookahead.specs.Told.{recordNumbers, givenShown, givenRow, givenTaken, givenQueued, peekedShown, peekedRow, peekedQueued}
+use Rattle.lookahead.specs.Told.{recordNumbers, givenTold, peekedTold}
+use Rattle.lookahead.specs.declared.answer.Told.{Told}
 use Rattle.cursor.specs.declared.Status.{Status}
 use Rattle.cursor.specs.declared.Status.the-variants.{End, Stuck}
 use Rattle.lookahead.specs.declared.Given.{Given}
 use Rattle.lookahead.specs.declared.Given.the-variants as given
 use Rattle.lookahead.specs.declared.Peeked.{Peeked}
 use Rattle.lookahead.specs.declared.Peeked.the-variants as peeked
-use Rattle.rows.specs.declared.Row.{Row}
 use Rattle.reading.specs.Status.{endNumber, stuckNumber, refusedNumber}
-use Rattle.koto_lexer.specs.Cursors.{byStatus, nextBy, NextIs, peekBy, PeekIs}
+use Rattle.koto_lexer.specs.Cursors.{byStatus, nextBy, nextTold, NextIs, peekBy, peekTold, PeekIs}
 
 module _ {A : Type 0} (f : Status → A) (y : A) where
   pub by-end : byStatus f y endNumber ≡ f End
@@ -36,29 +36,31 @@ next-refused list taken queued count = refl
 pub peek-refused : (list : List ℕ) (taken queued count n : ℕ) → peekBy list taken queued count refusedNumber n ≡ peeked.BadState
 peek-refused list taken queued count n = refl
 
-pub next-told : {list words : List ℕ} {taken queued count status newTaken newQueued shown place r : ℕ} {given : Given} {row : Row}
-    → given ≡ nextBy list taken queued count status → newTaken ≡ givenTaken given taken → newQueued ≡ givenQueued given queued
-    → shown ≡ givenShown given → row ≡ givenRow given → words ≡ recordNumbers row → place ≡ next.placeOf given → r ≡ next.numberOf given
-    → NextIs list taken queued count status newTaken newQueued shown words place r
-next-told {taken} {queued} e t q s w n p r =
+pub next-told : {list words : List ℕ} {taken queued count status place r : ℕ} {given : Given} {told : Told}
+    → given ≡ nextBy list taken queued count status → told ≡ givenTold given taken queued → words ≡ recordNumbers (told .row)
+    → place ≡ next.placeOf given → r ≡ next.numberOf given
+    → NextIs list taken queued count status (told .taken) (told .queued) (told .shown) words place r
+next-told {list} {taken} {queued} {count} {status} {told} e t w p r =
+    let is : told ≡ nextTold list taken queued count status = t ∙ ap (λ (x : Given). givenTold x taken queued) e in
     record {
       number = r ∙ ap next.numberOf e;
-      taken-is = t ∙ ap (λ (x : Given). givenTaken x taken) e;
-      queued-is = q ∙ ap (λ (x : Given). givenQueued x queued) e;
-      shown-is = s ∙ ap givenShown e;
-      words-are = n ∙ ap recordNumbers (w ∙ ap givenRow e);
+      taken-is = ap (λ (x : Told). x .taken) is;
+      queued-is = ap (λ (x : Told). x .queued) is;
+      shown-is = ap (λ (x : Told). x .shown) is;
+      words-are = w ∙ ap (λ (x : Told). recordNumbers (x .row)) is;
       place-is = p ∙ ap next.placeOf e;
     }
 
-pub peek-told : {list words : List ℕ} {taken queued count status n newQueued shown place r : ℕ} {peeked : Peeked} {row : Row}
-    → peeked ≡ peekBy list taken queued count status n → newQueued ≡ peekedQueued peeked queued
-    → shown ≡ peekedShown peeked → row ≡ peekedRow peeked → words ≡ recordNumbers row → place ≡ peek.placeOf peeked → r ≡ peek.numberOf peeked
-    → PeekIs list taken queued count status n newQueued shown words place r
-peek-told {queued} e q s w n p r =
+pub peek-told : {list words : List ℕ} {taken queued count status n place r : ℕ} {peeked : Peeked} {told : Told}
+    → peeked ≡ peekBy list taken queued count status n → told ≡ peekedTold peeked taken queued → words ≡ recordNumbers (told .row)
+    → place ≡ peek.placeOf peeked → r ≡ peek.numberOf peeked
+    → PeekIs list taken queued count status n (told .queued) (told .shown) words place r
+peek-told {list} {taken} {queued} {count} {status} {n} {told} e t w p r =
+    let is : told ≡ peekTold list taken queued count status n = t ∙ ap (λ (x : Peeked). peekedTold x taken queued) e in
     record {
       number = r ∙ ap peek.numberOf e;
-      queued-is = q ∙ ap (λ (x : Peeked). peekedQueued x queued) e;
-      shown-is = s ∙ ap peekedShown e;
-      words-are = n ∙ ap recordNumbers (w ∙ ap peekedRow e);
+      queued-is = ap (λ (x : Told). x .queued) is;
+      shown-is = ap (λ (x : Told). x .shown) is;
+      words-are = w ∙ ap (λ (x : Told). recordNumbers (x .row)) is;
       place-is = p ∙ ap peek.placeOf e;
     }

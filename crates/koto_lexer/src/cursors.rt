@@ -50,10 +50,11 @@ pub extern "C" fn koto_next(
         (now (taken .exit)) (now (queued .exit)) (now (shown .exit)) (now («record» .exit)) (now (place .exit)) r ⌝ }
 {
     let given = next_by(list, *taken, *queued, count, status);
-    *taken = answer::given_taken(given, *taken);
-    *queued = answer::given_queued(given, *queued);
-    *shown = answer::given_shown(given);
-    answer::put_record(record, answer::given_row(given));
+    let told = answer::given_told(given, *taken, *queued);
+    *taken = told.taken;
+    *queued = told.queued;
+    *shown = told.shown;
+    answer::put_record(record, told.row);
     *place = answer::given_place(given);
     answer::given_number(given)
 }
@@ -89,9 +90,10 @@ pub extern "C" fn koto_peek(
         (now (queued .exit)) (now (shown .exit)) (now («record» .exit)) (now (place .exit)) r ⌝ }
 {
     let peeked = peek_by(list, taken, *queued, count, status, n);
-    *queued = answer::peeked_queued(peeked, *queued);
-    *shown = answer::peeked_shown(peeked);
-    answer::put_record(record, answer::peeked_row(peeked));
+    let told = answer::peeked_told(peeked, taken, *queued);
+    *queued = told.queued;
+    *shown = told.shown;
+    answer::put_record(record, told.row);
     *place = answer::peeked_place(peeked);
     answer::peeked_number(peeked)
 }

@@ -4,10 +4,12 @@
 use Prim.Native.Nat.{ℕ}
 use mathlib.Core.List.{List, [], _∷_}
 use Rattle.rows.specs.declared.Row.{Row}
+use Rattle.cursor.specs.declared.Cursor.{Cursor}
 use Rattle.lookahead.specs.declared.Given.{Given}
 use Rattle.lookahead.specs.declared.Given.the-variants as given
 use Rattle.lookahead.specs.declared.Peeked.{Peeked}
 use Rattle.lookahead.specs.declared.Peeked.the-variants as peeked
+use Rattle.lookahead.specs.declared.answer.Told.{Told}
 
 -- ---- a record
 
@@ -32,61 +34,28 @@ recordNumbers row =
     row .kind ∷ row .detail ∷ row .start ∷ row .end ∷ row .«start_line» ∷ row .«start_column» ∷ row .«end_line» ∷ row .«end_column»
     ∷ row .indent ∷ []
 
--- ---- `next`
+-- ---- what is told
 
--- 1 where a token is handed out
-abbrev pub givenShown : Given → ℕ
-givenShown (given.Token row after) = 1
-givenShown given.Nothing = 0
-givenShown given.BadState = 0
-givenShown (given.BadRecord i) = 0
+-- a token is shown, and the cursor is the one after it
+abbrev pub shownWith : Row → Cursor → Told
+shownWith row after = record { shown = 1; row = row; taken = after .taken; queued = after .queued }
 
--- its record
-abbrev pub givenRow : Given → Row
-givenRow (given.Token row after) = row
-givenRow given.Nothing = noRow
-givenRow given.BadState = noRow
-givenRow (given.BadRecord i) = noRow
+-- none is
+abbrev pub notShown : ℕ → ℕ → Told
+notShown taken queued = record { shown = 0; row = noRow; taken = taken; queued = queued }
 
--- how many are taken after it, of so many before
-abbrev pub givenTaken : Given → ℕ → ℕ
-givenTaken (given.Token row after) taken = after .taken
-givenTaken given.Nothing taken = taken
-givenTaken given.BadState taken = taken
-givenTaken (given.BadRecord i) taken = taken
+-- of an answer of `next`, where so many were taken and queued before
+abbrev pub givenTold : Given → ℕ → ℕ → Told
+givenTold (given.Token row after) taken queued = shownWith row after
+givenTold given.Nothing taken queued = notShown taken queued
+givenTold given.BadState taken queued = notShown taken queued
+givenTold (given.BadRecord i) taken queued = notShown taken queued
 
--- how many are queued after it, of so many before
-abbrev pub givenQueued : Given → ℕ → ℕ
-givenQueued (given.Token row after) queued = after .queued
-givenQueued given.Nothing queued = queued
-givenQueued given.BadState queued = queued
-givenQueued (given.BadRecord i) queued = queued
-
--- ---- `peek`
-
--- 1 where a token is shown
-abbrev pub peekedShown : Peeked → ℕ
-peekedShown (peeked.Token row after) = 1
-peekedShown (peeked.Nothing after) = 0
-peekedShown peeked.BadState = 0
-peekedShown peeked.PeekTooFar = 0
-peekedShown peeked.QueueFull = 0
-peekedShown (peeked.BadRecord i) = 0
-
--- its record
-abbrev pub peekedRow : Peeked → Row
-peekedRow (peeked.Token row after) = row
-peekedRow (peeked.Nothing after) = noRow
-peekedRow peeked.BadState = noRow
-peekedRow peeked.PeekTooFar = noRow
-peekedRow peeked.QueueFull = noRow
-peekedRow (peeked.BadRecord i) = noRow
-
--- how many are queued after it, of so many before
-abbrev pub peekedQueued : Peeked → ℕ → ℕ
-peekedQueued (peeked.Token row after) queued = after .queued
-peekedQueued (peeked.Nothing after) queued = after .queued
-peekedQueued peeked.BadState queued = queued
-peekedQueued peeked.PeekTooFar queued = queued
-peekedQueued peeked.QueueFull queued = queued
-peekedQueued (peeked.BadRecord i) queued = queued
+-- of an answer of `peek`
+abbrev pub peekedTold : Peeked → ℕ → ℕ → Told
+peekedTold (peeked.Token row after) taken queued = shownWith row after
+peekedTold (peeked.Nothing after) taken queued = notShown (after .taken) (after .queued)
+peekedTold peeked.BadState taken queued = notShown taken queued
+peekedTold peeked.PeekTooFar taken queued = notShown taken queued
+peekedTold peeked.QueueFull taken queued = notShown taken queued
+peekedTold (peeked.BadRecord i) taken queued = notShown taken queued

@@ -2,8 +2,8 @@
 ghost use mathlib.Core.Path.{_≡_};
 ghost use Rattle.lookahead.specs.Next as next;
 ghost use Rattle.lookahead.specs.Peek as peek;
-ghost use Rattle.lookahead.specs.Told.{noRow, recordNumbers, givenShown, givenRow, givenTaken, givenQueued};
-ghost use Rattle.lookahead.specs.Told.{peekedShown, peekedRow, peekedQueued};
+ghost use Rattle.lookahead.specs.Told.{recordNumbers, shownWith, notShown, givenTold, peekedTold};
+use crate::Cursor;
 use crate::Given;
 use crate::Peeked;
 use base::refusals::BAD_RECORD;
@@ -14,23 +14,6 @@ use base::refusals::QUEUE_FULL;
 use rows::Row;
 
 // ---- a record
-
-// What stands for a record where none is shown.
-fn no_row() -> Row
-    ensures { λ r. ⌜ r ≡ noRow ⌝ }
-{
-    Row {
-        kind: 0,
-        detail: 0,
-        start: 0,
-        end: 0,
-        start_line: 0,
-        start_column: 0,
-        end_line: 0,
-        end_column: 0,
-        indent: 0,
-    }
-}
 
 // Writes a record's nine numbers.
 pub fn put_record(words: &mut [u32; 9], row: Row)
@@ -47,6 +30,51 @@ pub fn put_record(words: &mut [u32; 9], row: Row)
         row.end_column,
         row.indent,
     ];
+}
+
+// ---- what is told
+
+// What an answer tells beside its refusal.
+pub struct Told {
+    // 1 where a token is shown.
+    pub shown: u32,
+    // Its record; zeros where none is.
+    pub row: Row,
+    // How many tokens are taken and queued after it.
+    pub taken: usize,
+    pub queued: usize,
+}
+
+fn shown_with(row: Row, after: Cursor) -> Told
+    ensures { λ r. ⌜ r ≡ shownWith row after ⌝ }
+{
+    Told {
+        shown: 1,
+        row,
+        taken: after.taken,
+        queued: after.queued,
+    }
+}
+
+fn not_shown(taken: usize, queued: usize) -> Told
+    ensures { λ r. ⌜ r ≡ notShown taken queued ⌝ }
+{
+    Told {
+        shown: 0,
+        row: Row {
+            kind: 0,
+            detail: 0,
+            start: 0,
+            end: 0,
+            start_line: 0,
+            start_column: 0,
+            end_line: 0,
+            end_column: 0,
+            indent: 0,
+        },
+        taken,
+        queued,
+    }
 }
 
 // ---- `next`
@@ -75,51 +103,15 @@ pub fn given_place(given: Given) -> usize
     }
 }
 
-// 1 where a token is handed out.
-pub fn given_shown(given: Given) -> u32
-    ensures { λ r. ⌜ r ≡ givenShown given ⌝ }
+// What it tells, where so many tokens were taken and queued before it.
+pub fn given_told(given: Given, taken: usize, queued: usize) -> Told
+    ensures { λ r. ⌜ r ≡ givenTold given taken queued ⌝ }
 {
     match given {
-        Given::Token { row: _, cursor: _ } => 1,
-        Given::Nothing => 0,
-        Given::BadState => 0,
-        Given::BadRecord(_) => 0,
-    }
-}
-
-// Its record.
-pub fn given_row(given: Given) -> Row
-    ensures { λ r. ⌜ r ≡ givenRow given ⌝ }
-{
-    match given {
-        Given::Token { row, cursor: _ } => row,
-        Given::Nothing => no_row(),
-        Given::BadState => no_row(),
-        Given::BadRecord(_) => no_row(),
-    }
-}
-
-// How many tokens are taken after it, of so many before.
-pub fn given_taken(given: Given, taken: usize) -> usize
-    ensures { λ r. ⌜ r ≡ givenTaken given taken ⌝ }
-{
-    match given {
-        Given::Token { row: _, cursor } => cursor.taken,
-        Given::Nothing => taken,
-        Given::BadState => taken,
-        Given::BadRecord(_) => taken,
-    }
-}
-
-// How many are queued after it, of so many before.
-pub fn given_queued(given: Given, queued: usize) -> usize
-    ensures { λ r. ⌜ r ≡ givenQueued given queued ⌝ }
-{
-    match given {
-        Given::Token { row: _, cursor } => cursor.queued,
-        Given::Nothing => queued,
-        Given::BadState => queued,
-        Given::BadRecord(_) => queued,
+        Given::Token { row, cursor } => shown_with(row, cursor),
+        Given::Nothing => not_shown(taken, queued),
+        Given::BadState => not_shown(taken, queued),
+        Given::BadRecord(_) => not_shown(taken, queued),
     }
 }
 
@@ -153,44 +145,16 @@ pub fn peeked_place(peeked: Peeked) -> usize
     }
 }
 
-// 1 where a token is shown.
-pub fn peeked_shown(peeked: Peeked) -> u32
-    ensures { λ r. ⌜ r ≡ peekedShown peeked ⌝ }
+// What it tells, where so many tokens were taken and queued before it.
+pub fn peeked_told(peeked: Peeked, taken: usize, queued: usize) -> Told
+    ensures { λ r. ⌜ r ≡ peekedTold peeked taken queued ⌝ }
 {
     match peeked {
-        Peeked::Token { row: _, cursor: _ } => 1,
-        Peeked::Nothing { cursor: _ } => 0,
-        Peeked::BadState => 0,
-        Peeked::PeekTooFar => 0,
-        Peeked::QueueFull => 0,
-        Peeked::BadRecord(_) => 0,
-    }
-}
-
-// Its record.
-pub fn peeked_row(peeked: Peeked) -> Row
-    ensures { λ r. ⌜ r ≡ peekedRow peeked ⌝ }
-{
-    match peeked {
-        Peeked::Token { row, cursor: _ } => row,
-        Peeked::Nothing { cursor: _ } => no_row(),
-        Peeked::BadState => no_row(),
-        Peeked::PeekTooFar => no_row(),
-        Peeked::QueueFull => no_row(),
-        Peeked::BadRecord(_) => no_row(),
-    }
-}
-
-// How many are queued after it, of so many before.
-pub fn peeked_queued(peeked: Peeked, queued: usize) -> usize
-    ensures { λ r. ⌜ r ≡ peekedQueued peeked queued ⌝ }
-{
-    match peeked {
-        Peeked::Token { row: _, cursor } => cursor.queued,
-        Peeked::Nothing { cursor } => cursor.queued,
-        Peeked::BadState => queued,
-        Peeked::PeekTooFar => queued,
-        Peeked::QueueFull => queued,
-        Peeked::BadRecord(_) => queued,
+        Peeked::Token { row, cursor } => shown_with(row, cursor),
+        Peeked::Nothing { cursor } => not_shown(cursor.taken, cursor.queued),
+        Peeked::BadState => not_shown(taken, queued),
+        Peeked::PeekTooFar => not_shown(taken, queued),
+        Peeked::QueueFull => not_shown(taken, queued),
+        Peeked::BadRecord(_) => not_shown(taken, queued),
     }
 }

@@ -7,17 +7,8 @@ use Rattle.koto_lexer.proofs.cursors.koto_next.Tie as tie
 next-by-requires : tie.Need-next-by-requires
 next-by-requires c κs = search needs
 
-given-taken-requires : tie.Need-given-taken-requires
-given-taken-requires c κs = search needs
-
-given-queued-requires : tie.Need-given-queued-requires
-given-queued-requires c κs = search needs
-
-given-shown-requires : tie.Need-given-shown-requires
-given-shown-requires c κs = search needs
-
-given-row-requires : tie.Need-given-row-requires
-given-row-requires c κs = search needs
+given-told-requires : tie.Need-given-told-requires
+given-told-requires c κs = search needs
 
 put-record-requires : tie.Need-put-record-requires
 put-record-requires c κs = search needs
@@ -32,16 +23,10 @@ returns : tie.Need-returns
 returns c =
     let at-place = c .before in
     let at-record = at-place .before in
-    let at-row = at-record .before in
-    let at-shown = at-row .before .before in
-    let at-queued = at-shown .before in
-    let at-taken = at-queued .before in
+    let at-told = at-record .before .before in
     next-told
-    (at-taken .before .next-by .ensures)
-    (at-taken .given-taken .ensures)
-    (at-queued .given-queued .ensures)
-    (at-shown .given-shown .ensures)
-    (at-row .given-row .ensures)
+    (at-told .before .next-by .ensures)
+    (at-told .given-told .ensures)
     (at-record .put-record .ensures)
     (at-place .given-place .ensures)
     (c .given-number .ensures)
@@ -51,10 +36,7 @@ koto-next-spec =
     tie.close
     (tie.spec
     next-by-requires
-    given-taken-requires
-    given-queued-requires
-    given-shown-requires
-    given-row-requires
+    given-told-requires
     put-record-requires
     given-place-requires
     given-number-requires

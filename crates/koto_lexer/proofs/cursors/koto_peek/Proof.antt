@@ -7,14 +7,8 @@ use Rattle.koto_lexer.proofs.cursors.koto_peek.Tie as tie
 peek-by-requires : tie.Need-peek-by-requires
 peek-by-requires c κs = search needs
 
-peeked-queued-requires : tie.Need-peeked-queued-requires
-peeked-queued-requires c κs = search needs
-
-peeked-shown-requires : tie.Need-peeked-shown-requires
-peeked-shown-requires c κs = search needs
-
-peeked-row-requires : tie.Need-peeked-row-requires
-peeked-row-requires c κs = search needs
+peeked-told-requires : tie.Need-peeked-told-requires
+peeked-told-requires c κs = search needs
 
 put-record-requires : tie.Need-put-record-requires
 put-record-requires c κs = search needs
@@ -29,14 +23,10 @@ returns : tie.Need-returns
 returns c =
     let at-place = c .before in
     let at-record = at-place .before in
-    let at-row = at-record .before in
-    let at-shown = at-row .before .before in
-    let at-queued = at-shown .before in
+    let at-told = at-record .before .before in
     peek-told
-    (at-queued .before .peek-by .ensures)
-    (at-queued .peeked-queued .ensures)
-    (at-shown .peeked-shown .ensures)
-    (at-row .peeked-row .ensures)
+    (at-told .before .peek-by .ensures)
+    (at-told .peeked-told .ensures)
     (at-record .put-record .ensures)
     (at-place .peeked-place .ensures)
     (c .peeked-number .ensures)
@@ -46,9 +36,7 @@ koto-peek-spec =
     tie.close
     (tie.spec
     peek-by-requires
-    peeked-queued-requires
-    peeked-shown-requires
-    peeked-row-requires
+    peeked-told-requires
     put-record-requires
     peeked-place-requires
     peeked-number-requires
