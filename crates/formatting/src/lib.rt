@@ -7,6 +7,7 @@ use format::Given;
 use format::Options;
 use format::Shown;
 use libc::STDOUT_FILENO;
+use parse::After;
 use parse::Parsed;
 use parse::answer;
 use pool::Counts;
@@ -117,23 +118,30 @@ fn print_strings(bytes: &[u8], entries: &[u32], n: usize) {
     }
 }
 
-// Prints what a format string is parsed as: its options or its refusal, and then the strings of the pool.
-pub fn print_format(text: &[u8])
-    ensures { λ r. ⌜ r ≡ tt ⌝ }
-{
-    if TEXT_MOST < text.len() {
-        print_answer(Parsed::TooLong);
-        io::write_all(STDOUT_FILENO, b"pool\n");
-        return;
-    }
-    let table = fitness::small_table();
-    let mut bytes = [0u8; 1024];
-    let mut entries = [0u32; 128];
+// Parses a format string with the small table and an empty pool in these rows. One that is too long is refused first, and then they stay as
+// they are.
+fn parse_small(text: &[u8], bytes: &mut [u8], entries: &mut [u32]) -> After {
     let none = Counts {
         entries: 0,
         bytes: 0,
     };
-    let after = parse::parse(text, &table, &mut bytes, &mut entries, none);
+    if TEXT_MOST < text.len() {
+        return After {
+            answer: Parsed::TooLong,
+            counts: none,
+        };
+    }
+    let table = fitness::small_table();
+    parse::parse(text, &table, bytes, entries, none)
+}
+
+// Prints what a format string is parsed as: its options or its refusal, and then the strings of the pool.
+pub fn print_format(text: &[u8])
+    ensures { λ r. ⌜ r ≡ tt ⌝ }
+{
+    let mut bytes = [0u8; 1024];
+    let mut entries = [0u32; 128];
+    let after = parse_small(text, &mut bytes, &mut entries);
     let answer = after.answer;
     let counts = after.counts;
     print_answer(answer);
