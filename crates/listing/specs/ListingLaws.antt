@@ -53,5 +53,5 @@ pub one-listing : (source old : List ℕ) (r q : Scanned) (new other : List ℕ)
 one-listing source old r q new other a b = (a .answer ∙ sym (b .answer), a .words ∙ sym (b .words))
 
 pub long-stays : (source old : List ℕ) (r : Scanned) (new : List ℕ) → listMost < length source → Lists source old r new
-    → (r ≡ TooLong) × (new ≡ old)
-long-stays source old r new h f = one-listing source old r TooLong new old f (lists-long h)
+    → (r ≡ Refused TooLong) × (new ≡ old)
+long-stays source old r new h f = one-listing source old r (Refused TooLong) new old f (lists-long h)
