@@ -43,7 +43,7 @@ extern "C" {
  *    6 PEEK_TOO_FAR                n is over queued + 1
  *    7 QUEUE_FULL                  a token must be queued, and KOTO_QUEUE_MOST are
  *    8 BAD_STATE                   a cursor or a pool that is unfit
- *    9 BAD_RECORD                  a record that no scan wrote: its kind is over 80, or it may not have its detail. Place: its index
+ *    9 BAD_RECORD                  a record that may not be shown: its kind is over 80, or it may not have its detail. Place: its index
  *   10 EXPECTED_NUMBER             a precision has no digit. Value: the code point that stands there
  *   11 FORMAT_NUMBER_IS_TOO_LARGE  Value: the first value over 4,294,967,295
  *   12 UNEXPECTED_TOKEN            Value: the code point

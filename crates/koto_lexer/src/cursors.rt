@@ -33,7 +33,7 @@ fn next_by(list: &[u32], taken: usize, queued: usize, count: usize, status: u32)
     }
 }
 
-// Hands out the next token, and moves the cursor on. Refused are a cursor that is unfit with 8, then a record that no scan wrote with 9;
+// Hands out the next token, and moves the cursor on. Refused are a cursor that is unfit with 8, then a record whose kind or detail may not be shown with 9;
 // both leave the cursor.
 #[no_mangle]
 pub extern "C" fn koto_next(
@@ -73,7 +73,7 @@ fn peek_by(list: &[u32], taken: usize, queued: usize, count: usize, status: u32,
 }
 
 // Queues one more token, if there is one and n is at most what is queued, and shows queued token n. Refused are a cursor that is unfit with
-// 8, then an n that is too far with 6, then a full queue with 7, then a record that no scan wrote with 9; all leave the cursor.
+// 8, then an n that is too far with 6, then a full queue with 7, then a record whose kind or detail may not be shown with 9; all leave the cursor.
 #[no_mangle]
 pub extern "C" fn koto_peek(
     list: &[u32],

@@ -54,7 +54,7 @@ pub fn same_fields(text: &[u8], at: usize, row: Row) -> usize
     lines::same_all(text, at, &nine)
 }
 
-// The same of record i of a list. One that no scan wrote differs from every line.
+// The same of record i of a list. One that may not be shown differs from every line.
 fn same_row(text: &[u8], at: usize, list: &[u32], i: usize) -> usize
     requires { ⌜ i < room (now list) ⌝ }
 {
