@@ -2,7 +2,7 @@
 --     next-is, beside-is    beside a state of the code the machine takes the same token, and then stands beside the state after the step
 --     reads-hands           from a state that is ok, the reading is what the machine hands out
 --     reading-hands         from the start
---     token-at-end, token-at-stuck, next-token-end, next-token-stuck   so the tokens that `Queue` takes for the Rust's are the machine's
+--     stream-end, stream-stuck   so the rows and the status of a scan stand for the machine's stream
 -- Assumes nothing.
 use Prim.Native.Nat.{ℕ, zero, suc, _-_, _≤_, _<_}
 use native.Mathlib.Omega.{arith}
@@ -13,8 +13,7 @@ use mathlib.Core.Option.{Option, none, some}
 use lib.Dec.{eqb}
 use lib.ListN.{length}
 use borrow.Author.Tests.{eqb-true, eq-eqb}
-use Rattle.base.specs.Pick.{pick}
-use Rattle.base.specs.PickLaws.{split-lt, by-lt}
+use Rattle.base.specs.PickLaws.{split-lt}
 use Rattle.base.specs.Refusal.{sourceMost}
 use Rattle.position.specs.declared.Place.{Place}
 use Rattle.utf8.specs.Encode.{WellFormed}
@@ -43,10 +42,13 @@ use Rattle.lexer.specs.declared.What.the-variants as what
 use Rattle.reading.specs.Reading.{Reading, rowOf, onto, stuckReading, stopped, afterStep, readFrom, reading}
 use Rattle.reading.specs.Reading as stop
 use Rattle.reading.specs.ReadingLaws.{reading-step}
-use Rattle.queue.specs.Queue.{KotoLexer, get, tokenAt, handedOut, nextToken}
-use Rattle.queue.specs.StreamLaws.{get-past}
+use Rattle.cursor.specs.Cursor.{recordAt}
+use Rattle.cursor.specs.CursorLaws.{record-at}
 use Rattle.cursor.specs.declared.Status.the-variants.{End, Stuck}
-use Rattle.rust.specs.TokenLexer.{TokenLexer, newTokenLexer, viewOf, withFields, Given, given, givenAt, getNextToken, lexedOf, lexed, stateAt, handed, StandsStill}
+use Rattle.queue.specs.Queue.{get}
+use Rattle.queue.specs.Calls.{Streams}
+use Rattle.queue.specs.StreamLaws.{get-past}
+use Rattle.rust.specs.TokenLexer.{TokenLexer, newTokenLexer, viewOf, withFields, Given, given, givenAt, getNextToken, lexedOf, lexed, stateAt, handed, streamOf, StandsStill}
 use Rattle.rust.specs.StillLaws.{some-is, still-again, still-token, for-ever, none-for-ever}
 use Rattle.rust.specs.Hands.{Sticks, Overflows, Hands}
 
@@ -348,28 +350,22 @@ module _ (s table : List ℕ) (edition : ℕ) (fit : FitTable table) where
     pub reading-hands : Hands look edition s (reading look edition s) newTokenLexer
     reading-hands = reads-hands newTokenLexer startState start-beside (start-ok s h w)
 
-    -- the tokens that `Queue` takes for the `TokenLexer`'s
-    pub token-at-end : reading look edition s .stop ≡ stop.ended → (i : ℕ)
-        → handed look edition s i newTokenLexer ≡ tokenAt (reading look edition s .rows) End i
-    unfolding tokenAt
-    token-at-end e i =
-        split-lt i (length (reading look edition s .rows)) (λ k. reading-hands .each i k)
-        (λ k. reading-hands .ended e i k ∙ sym (get-past (reading look edition s .rows) i k))
+    -- the rows and how they end stand for the stream
+    pub stream-end : reading look edition s .stop ≡ stop.ended → Streams (streamOf look edition s) (reading look edition s .rows) End
+    stream-end e i =
+        let rows = reading look edition s .rows in
+        split-lt i (length rows)
+        (λ k. reading-hands .each i k
+        ∙ ap (get rows) (let q : i ≡ recordAt (length rows) End i = omega (arith, record-at (length rows) End i) in q))
+        (λ k. reading-hands .ended e i k
+        ∙ sym (get-past rows (recordAt (length rows) End i) (omega (arith, record-at (length rows) End i))))
 
-    pub token-at-stuck : reading look edition s .stop ≡ stop.stuck → (i : ℕ)
-        → handed look edition s i newTokenLexer ≡ tokenAt (reading look edition s .rows) Stuck i
-    unfolding tokenAt
-    token-at-stuck e i =
+    pub stream-stuck : reading look edition s .stop ≡ stop.stuck → Streams (streamOf look edition s) (reading look edition s .rows) Stuck
+    stream-stuck e i =
+        let rows = reading look edition s .rows in
         let k = reading-hands .stuck e in
-        by-lt (λ (o : Option Row). handed look edition s i newTokenLexer ≡ o) i (length (reading look edition s .rows)) (λ j. reading-hands .each i j)
+        split-lt i (length rows)
+        (λ j. reading-hands .each i j
+        ∙ ap (get rows) (let q : i ≡ recordAt (length rows) Stuck i = omega (arith, k .size, record-at (length rows) Stuck i) in q))
         (λ j. k .for-ever i (omega (arith, k .size))
-        ∙ ap (get (reading look edition s .rows)) (let q : k .last ≡ length (reading look edition s .rows) - 1 = omega (arith, k .size) in q))
-
-    -- so its `next_token` hands out the machine's
-    pub next-token-end : reading look edition s .stop ≡ stop.ended → (k : KotoLexer)
-        → nextToken (reading look edition s .rows) End k ≡ handedOut k (handed look edition s (k .lexer) newTokenLexer)
-    next-token-end e k = ap (handedOut k) (sym (token-at-end e (k .lexer)))
-
-    pub next-token-stuck : reading look edition s .stop ≡ stop.stuck → (k : KotoLexer)
-        → nextToken (reading look edition s .rows) Stuck k ≡ handedOut k (handed look edition s (k .lexer) newTokenLexer)
-    next-token-stuck e k = ap (handedOut k) (sym (token-at-stuck e (k .lexer)))
+        ∙ ap (get rows) (let q : k .last ≡ recordAt (length rows) Stuck i = omega (arith, k .size, record-at (length rows) Stuck i) in q))

@@ -19,6 +19,7 @@ use Rattle.state.specs.declared.Lexer.{Lexer}
 use Rattle.state.specs.declared.Taken.{Taken}
 use Rattle.lexer.specs.GetNextToken.{takeToken, remainingAt}
 use Rattle.reading.specs.Reading.{rowOf}
+use Rattle.queue.specs.Queue.{Stream}
 
 -- `struct TokenLexer`, less the source; the stack's top is first
 pub record TokenLexer : Type 0 where
@@ -107,6 +108,10 @@ stateAt look edition s (suc n) x = stateAt look edition s n (getNextToken look e
 -- what the next call answers then
 unfoldable pub handed : (ℕ → ℕ) → ℕ → List ℕ → ℕ → TokenLexer → Option Row
 handed look edition s n x = lexed look edition s (stateAt look edition s n x)
+
+-- the stream of a source: what the calls answer from the start. It never ends where the Rust's never does
+abbrev pub streamOf : (ℕ → ℕ) → ℕ → List ℕ → Stream
+streamOf look edition s n = handed look edition s n newTokenLexer
 
 -- the next token is an Error, and no byte is passed
 pub record StandsStill (look : ℕ → ℕ) (edition : ℕ) (s : List ℕ) (x : TokenLexer) : Type 0 where
