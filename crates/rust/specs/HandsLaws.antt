@@ -97,12 +97,13 @@ change-grows (Push m) ms = omega arith
 change-grows Pop ms = omega (arith, length-rest ms)
 change-grows (Replace m) ms = omega (arith, length-rest ms)
 
-at-grows : (look : ℕ → ℕ) (edition : ℕ) (cs : List ℕ) (x : TokenLexer)
-    → length (givenAt look edition cs x .after .«string_mode_stack») ≤ suc (length (x .«string_mode_stack»))
-at-grows look edition [] x = omega arith
-at-grows look edition (c ∷ cs) x = change-grows (takeToken look edition (c ∷ cs) (settled (viewOf x)) .change) (x .«string_mode_stack»)
-
 -- ---- the four ways of a reading
+
+-- the reasons to stop are three
+abbrev whyOf : stop.Stop → ℕ
+whyOf stop.ended = 0
+whyOf stop.stuck = 1
+whyOf stop.deep = 2
 
 module _ (look : ℕ → ℕ) (edition : ℕ) (s : List ℕ) where
   abbrev next : TokenLexer → Given
@@ -124,26 +125,25 @@ module _ (look : ℕ → ℕ) (edition : ℕ) (s : List ℕ) where
           goes = λ i k _. absurd (omega arith);
           room = room-none;
           ended = λ _ i k. none-for-ever look edition s x e i;
-          stuck = λ q. absurd (let z : _≡_ {A = ℕ} 0 1 = cc in omega arith);
-          deep = λ q. absurd (let z : _≡_ {A = ℕ} 0 1 = cc in omega arith);
+          stuck = λ q. absurd (omega (arith, ap whyOf q));
+          deep = λ q. absurd (omega (arith, ap whyOf q));
         }
 
-    overflows : (row : Row) → lexed look edition s x ≡ some row → modesMost < height (next x .after) → Overflows look edition s 0 x
-    unfolding stateAt handed
-    overflows row e k =
-        let g = at-grows look edition (remainingAt s (x .«current_byte» .0)) x in
-        record { row = row; some-token = e; full = omega arith; over = omega arith }
+    module _ (row : Row) (e : lexed look edition s x ≡ some row) (full : height x ≡ modesMost) (over : height (next x .after) ≡ suc modesMost) where
+      overflows : Overflows look edition s 0 x
+      unfolding stateAt handed
+      overflows = record { row = row; some-token = e; full = full; over = over }
 
-    deep-hands : (row : Row) → lexed look edition s x ≡ some row → modesMost < height (next x .after) → Hands look edition s (stopped stop.deep) x
-    deep-hands row e k =
-        record {
-          each = λ i j. absurd (omega arith);
-          goes = λ i j _. absurd (omega arith);
-          room = room-none;
-          ended = λ q. absurd (let z : _≡_ {A = ℕ} 0 1 = cc in omega arith);
-          stuck = λ q. absurd (let z : _≡_ {A = ℕ} 0 1 = cc in omega arith);
-          deep = λ _. overflows row e k;
-        }
+      deep-hands : Hands look edition s (stopped stop.deep) x
+      deep-hands =
+          record {
+            each = λ i j. absurd (omega arith);
+            goes = λ i j _. absurd (omega arith);
+            room = room-none;
+            ended = λ q. absurd (omega (arith, ap whyOf q));
+            stuck = λ q. absurd (omega (arith, ap whyOf q));
+            deep = λ _. overflows;
+          }
 
     module _ (t : StandsStill look edition s x) (k : height (next x .after) ≤ modesMost) (b l : Lexer)
         (e : lexed look edition s x ≡ some (rowOf (plainToken error) b l)) where
@@ -171,9 +171,9 @@ module _ (look : ℕ → ℕ) (edition : ℕ) (s : List ℕ) where
             each = each-one;
             goes = λ i j _. (refl, omega arith);
             room = room-one;
-            ended = λ q. absurd (let z : _≡_ {A = ℕ} 0 1 = cc in omega arith);
+            ended = λ q. absurd (omega (arith, ap whyOf q));
             stuck = λ _. sticks;
-            deep = λ q. absurd (let z : _≡_ {A = ℕ} 0 1 = cc in omega arith);
+            deep = λ q. absurd (omega (arith, ap whyOf q));
           }
 
     -- a token, and what is handed out after it
@@ -317,7 +317,10 @@ module _ (s table : List ℕ) (edition : ℕ) (fit : FitTable table) where
       taken-hands : Goal (step look edition s st .what)
       taken-hands =
           split-lt modesMost (length (modesAfter st t))
-          (λ h. subst Goal (sym (f .full h .0)) (deep-hands look edition s x low (rowOf (t .token) (st .lexer) (t .lexer)) answered (omega (arith, taller))))
+          (λ h. let most : length (modesAfter st t) ≤ suc (length (x .«string_mode_stack»)) =
+          omega (arith, change-grows (t .change) (stackOf (st .modes)), ap length (b .stack)) in
+          subst Goal (sym (f .full h .0))
+          (deep-hands look edition s x low (rowOf (t .token) (st .lexer) (t .lexer)) answered (omega (arith, low)) (omega (arith, taller, low))))
           (λ h. subst Goal (sym (f .found h)) (found h (stoodStill (st .lexer) t) refl))
 
     -- by the characters that are left
