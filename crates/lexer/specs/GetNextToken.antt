@@ -1,11 +1,13 @@
--- lexer.rs `get_next_token`, its match arm by arm. The state has the Rust's fields; the modes are a stack, the top first.
+-- lexer.rs `get_next_token`, its match arm by arm: the token that is taken from a lexer, which has the Rust's fields, and of the modes the
+-- depth and the one on top. What becomes of the stack stands beside the token (`change`). The Rust's own state, whose stack has no bound, and
+-- the whole call over it stand in the crate `rust`.
 -- `look` gives the properties of a code point, and `edition` chooses the rules of clusters (1 without GB9c, 2 with it).
 -- Assumes nothing.
 use Prim.Native.Nat.{ℕ}
 use mathlib.Core.Bool.{Bool, _||_}
 use mathlib.Core.List.{List, [], _∷_}
 use lib.Dec.{eqb}
-use lib.ListN.{length, getD, drop}
+use lib.ListN.{getD, drop}
 use Rattle.base.specs.Pick.{pick}
 use Rattle.utf8.specs.Read.{isTail}
 use Rattle.utf8.specs.Chars.{chars}
@@ -15,8 +17,7 @@ use Rattle.token.specs.declared.Token.{Token}
 use Rattle.text.specs.Tests as char
 use Rattle.text.specs.Tests.{isWhitespace, isDigit, isLineEnd}
 use Rattle.state.specs.Modes.{literal, templateExpr, templateExprFormat, rawStart, rawEnd, modeCode, tagOf, delimiterOf, quoteOf}
-use Rattle.state.specs.Lexer.{advancedLine, plainToken, settled, remembered}
-use Rattle.state.specs.Stack.{top, changed}
+use Rattle.state.specs.Lexer.{advancedLine, plainToken}
 use Rattle.state.specs.declared.Change.{Change}
 use Rattle.state.specs.declared.Change.the-variants.{Push, Pop}
 use Rattle.state.specs.declared.Lexer.{Lexer}
@@ -79,26 +80,8 @@ takeToken look edition cs l =
     (pick (eqb tag templateExprFormat) (consumeFormatOptions edition look cs l)
     (inCode look (nextChar cs) cs l))))
 
--- ---- the step
+-- ---- what is left
 
 -- `self.source.get(self.current_byte..)`: the characters from a byte on; none at the end, nor inside a longer character
 unfoldable pub remainingAt : List ℕ → ℕ → List ℕ
 remainingAt s i = pick (isTail (getD s i 0)) [] (chars (drop i s))
-
--- what a call of `get_next_token` answers: nothing, or a token, with the lexer and the modes after it
-pub data Next : Type 0 where
-  None : Next
-  Some : Token → Lexer → List ℕ → Next
-
--- the token that was taken is remembered, and the modes change as it asks
-abbrev pub taken : Taken → List ℕ → Next
-taken t modes = Some (t .token) (remembered (t .token .kind) (t .lexer)) (changed (t .change) modes)
-
--- `Some(remaining) if !remaining.is_empty()`
-abbrev pub nextOf : (ℕ → ℕ) → ℕ → List ℕ → Lexer → List ℕ → Next
-nextOf look edition [] l modes = None
-nextOf look edition (c ∷ cs) l modes = taken (takeToken look edition (c ∷ cs) (settled l)) modes
-
--- The lexer's own copies of depth and top stand in for `string_mode_stack.last()`; `StepLaws` proves that they agree with the stack
-abbrev pub getNextToken : (ℕ → ℕ) → ℕ → List ℕ → Lexer → List ℕ → Next
-getNextToken look edition s l modes = nextOf look edition (remainingAt s (l .place .«current_byte» .0)) l modes

@@ -11,6 +11,8 @@ pub mod Cases
 pub mod CasesLaws
 pub mod Scan
 pub mod ScanLaws
+pub mod Stream
+pub mod StreamLaws
 pub mod WrongScans
 pub mod WrongScansLaws
 pub mod Pool

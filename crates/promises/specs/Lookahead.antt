@@ -23,7 +23,7 @@ use Rattle.lookahead.specs.declared.Given.{Given}
 use Rattle.lookahead.specs.declared.Given.the-variants as given
 use Rattle.lookahead.specs.declared.Peeked.{Peeked}
 use Rattle.lookahead.specs.declared.Peeked.the-variants as peeked
-use Rattle.queue.specs.Queue.{KotoLexer, newLexer, underflows}
+use Rattle.queue.specs.Queue.{KotoLexer, Stream, newLexer, underflows}
 use Rattle.queue.specs.Calls.{Call, next, peek, Outcome, call, afterCalls, tokensOf, Unrefused, nexts, rustAfter, rustTokens}
 use Rattle.promises.specs.Said.{Said, says}
 
@@ -140,8 +140,8 @@ TooFarIs number n k =
     (number ≡ peekTooFar → underflows n (length (k .«token_queue»)) ≡ true)
     × (underflows n (length (k .«token_queue»)) ≡ true → number ≡ peekTooFar)
 
--- what every sequence of calls meets that begins at this cursor, over a list that holds these rows
-pub record HandsOut (list : List ℕ) (rows : List Row) (c : Cursor) : Type 0 where
+-- what every sequence of calls meets that begins at this cursor, over a list that holds these rows; the Rust's `KotoLexer` goes over this stream
+pub record HandsOut (list : List ℕ) (rows : List Row) (stream : Stream) (c : Cursor) : Type 0 where
   -- whatever was called before, no call gets 8 or 9
   pub never-refused :
       (calls : List Call) (x : Call)
@@ -157,11 +157,11 @@ pub record HandsOut (list : List ℕ) (rows : List Row) (c : Cursor) : Type 0 wh
       c .status ≡ Stuck → (calls : List Call) (d : Row) → length rows ≤ nexts calls
       → callOn list (afterOn list c calls) next .token ≡ some (getD rows (length rows - 1) d)
   -- calls of which none is refused answer what the Rust's answer
-  pub as-in-rust : (calls : List Call) → UnrefusedOn list c calls → rustTokens rows (c .status) newLexer calls ≡ tokensOn list c calls
+  pub as-in-rust : (calls : List Call) → UnrefusedOn list c calls → rustTokens stream newLexer calls ≡ tokensOn list c calls
   -- after such calls 6 is given exactly where the Rust's subtraction underflows, and 7 only where its queue is full
   pub too-far :
       (calls : List Call) → UnrefusedOn list c calls → (n : ℕ)
-      → TooFarIs (callOn list (afterOn list c calls) (peek n) .number) n (rustAfter rows (c .status) newLexer calls)
+      → TooFarIs (callOn list (afterOn list c calls) (peek n) .number) n (rustAfter stream newLexer calls)
   pub full :
       (calls : List Call) → UnrefusedOn list c calls → (n : ℕ) → callOn list (afterOn list c calls) (peek n) .number ≡ queueFull
-      → length (rustAfter rows (c .status) newLexer calls .«token_queue») ≡ queueMost
+      → length (rustAfter stream newLexer calls .«token_queue») ≡ queueMost

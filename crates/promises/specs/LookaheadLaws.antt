@@ -1,7 +1,8 @@
 -- The promises of `Lookahead`, proved, and that no second answer fits.
 --     next-promise, next-has-one-answer
 --     peek-promise, peek-has-one-answer
---     after-a-scan    after an unrefused scan 8 and 9 are never given, the definition's tokens are handed out, and the Rust says the same
+--     after-a-scan    after an unrefused scan 8 and 9 are never given, the definition's tokens are handed out, and the Rust says the same:
+--                     its `KotoLexer` over its own stream of the source
 -- Assumes nothing.
 use Prim.Native.Nat.{ℕ, _+_, _-_, _<_, _≤_}
 use native.Mathlib.Nat.{add-zero}
@@ -43,12 +44,14 @@ use Rattle.lookahead.specs.declared.Given.{Given}
 use Rattle.lookahead.specs.declared.Given.the-variants as given
 use Rattle.lookahead.specs.declared.Peeked.{Peeked}
 use Rattle.lookahead.specs.declared.Peeked.the-variants as peeked
-use Rattle.queue.specs.Queue.{newLexer, tokenAt}
-use Rattle.queue.specs.Calls.{Call, next, nexts, Shows, Stands, rustAfter, Mirrors}
+use Rattle.queue.specs.Queue.{Stream, newLexer, get}
+use Rattle.queue.specs.Calls.{Call, next, nexts, Shows, Stands, rustAfter, Streams, Mirrors}
 use Rattle.queue.specs.StreamLaws.{get-in, get-past, shows-by}
 use Rattle.queue.specs.QueueLaws.{start-mirrors, calls-agree, calls-mirror, far-underflows, full-queued}
 use Rattle.queue.specs.CallsLaws as laws
 use Rattle.queue.specs.CallsLaws.{start-stands, calls-stand}
+use Rattle.promises.specs.Stream.{rustStream}
+use Rattle.promises.specs.StreamLaws.{stream-promise}
 use Rattle.promises.specs.Lookahead.{Unfit, list-short, taken-over, queued-past-end, stuck-all-taken, queued-over}
 use Rattle.promises.specs.Lookahead.{More, left, again, NextEnsures, givenSays, handedOn, NextPromise}
 use Rattle.promises.specs.Lookahead.{PeekEnsures, peekedSays, Queues, one-more, no-more, next-one, PeekPromise}
@@ -224,27 +227,28 @@ peek-has-one-answer list c n r q e f = e ∙ sym f
 
 -- ---- after a scan
 
--- a token of the Rust's stream, by its rows
-module _ (rows : List Row) (status : Status) (i : ℕ) (d : Row) where
-  stream-row : i < length rows → tokenAt rows status i ≡ some (getD rows i d)
-  unfolding tokenAt
-  stream-row h = go status
+-- the record of a place
+module _ (rows : List Row) (status : Status) (i : ℕ) where
+  -- its own
+  place-in : i < length rows → recordAt (length rows) status i ≡ i
+  place-in h = go status
     where
-      go : (s : Status) → tokenAt rows s i ≡ some (getD rows i d)
-      go End = get-in rows i d h
-      go Stuck = rw (lt-ltb i (length rows) h) (get-in rows i d h)
+      go : (s : Status) → recordAt (length rows) s i ≡ i
+      go End = omega (arith, record-at (length rows) End i)
+      go Stuck = omega (arith, record-at (length rows) Stuck i)
 
-  stream-ended : status ≡ End → length rows ≤ i → tokenAt rows status i ≡ option.none
-  unfolding tokenAt
-  stream-ended e h = rw e (get-past rows i h)
+  -- and past the last none at End
+  place-ended : status ≡ End → length rows ≤ i → recordAt (length rows) status i ≡ length rows
+  place-ended e h = rw e (omega (arith, record-at (length rows) End i))
 
-  stream-last : status ≡ Stuck → 0 < length rows → length rows ≤ i → tokenAt rows status i ≡ some (getD rows (length rows - 1) d)
-  unfolding tokenAt
-  stream-last e k h = rw (e, le-ltb i (length rows) h) (get-in rows (length rows - 1) d (omega arith))
+  -- and that of the last at Stuck
+  place-last : status ≡ Stuck → 0 < length rows → length rows ≤ i → recordAt (length rows) status i ≡ length rows - 1
+  place-last e k h = rw e (omega (arith, record-at (length rows) Stuck i))
 
 -- a list at whose start these rows were put, each of which may be shown
 module _ (old : List ℕ) (rows : List Row) (status : Status) (h : length rows ≤ room old)
-    (shown : (i : ℕ) (d : Row) → i < length rows → rowFits (getD rows i d) ≡ true) (some-stuck : status ≡ Stuck → 0 < length rows) where
+    (shown : (i : ℕ) (d : Row) → i < length rows → rowFits (getD rows i d) ≡ true) (some-stuck : status ≡ Stuck → 0 < length rows)
+    (stream : Stream) (same : Streams stream rows status) where
   abbrev list : List ℕ
   list = putRows old rows
 
@@ -263,30 +267,32 @@ module _ (old : List ℕ) (rows : List Row) (status : Status) (h : length rows �
   stands : (calls : List Call) → Stands (room list) count status (0 + nexts calls) (afterOn list begin calls)
   stands = calls-stand (room list) (shownAt list) rows status shows 0 begin (start-stands (room list) count status begins-fit)
 
-  next-is : (calls : List Call) → callOn list (afterOn list begin calls) next .token ≡ tokenAt rows status (nexts calls)
+  next-is : (calls : List Call) → callOn list (afterOn list begin calls) next .token ≡ get rows (recordAt count status (nexts calls))
   next-is calls =
       let z : 0 + nexts calls ≡ nexts calls = omega arith in
       laws.next-token (room list) (shownAt list) rows status shows (0 + nexts calls) (afterOn list begin calls) (stands calls) .1
-      ∙ ap (tokenAt rows status) z
+      ∙ ap (λ (i : ℕ). get rows (recordAt count status i)) z
 
   begins : Mirrors (room list) rows status begin newLexer
   begins = start-mirrors (room list) rows status begins-fit
 
   mirrors : (calls : List Call) → UnrefusedOn list begin calls
-      → Mirrors (room list) rows status (afterOn list begin calls) (rustAfter rows status newLexer calls)
-  mirrors = calls-mirror (room list) (shownAt list) rows status shows begin newLexer begins
+      → Mirrors (room list) rows status (afterOn list begin calls) (rustAfter stream newLexer calls)
+  mirrors = calls-mirror (room list) (shownAt list) stream rows status shows same begin newLexer begins
 
-  hands-out : HandsOut list rows begin
+  hands-out : HandsOut list rows stream begin
   hands-out =
       record {
         never-refused = λ calls.
             laws.never-refused (room list) (shownAt list) rows status shows (0 + nexts calls) (afterOn list begin calls) (stands calls);
-        in-order = λ calls d k. next-is calls ∙ stream-row rows status (nexts calls) d k;
-        ended = λ e calls k. next-is calls ∙ stream-ended rows status (nexts calls) (rowAt old 0) e k;
-        endless = λ e calls d k. next-is calls ∙ stream-last rows status (nexts calls) d e (some-stuck e) k;
-        as-in-rust = calls-agree (room list) (shownAt list) rows status shows begin newLexer begins;
-        too-far = λ calls u. far-underflows (room list) (shownAt list) rows status shows (afterOn list begin calls) _ (mirrors calls u);
-        full = λ calls u. full-queued (room list) (shownAt list) rows status shows (afterOn list begin calls) _ (mirrors calls u);
+        in-order = λ calls d k. next-is calls ∙ ap (get rows) (place-in rows status (nexts calls) k) ∙ get-in rows (nexts calls) d k;
+        ended = λ e calls k. next-is calls ∙ ap (get rows) (place-ended rows status (nexts calls) e k) ∙ get-past rows count (omega arith);
+        endless = λ e calls d k. next-is calls
+            ∙ ap (get rows) (place-last rows status (nexts calls) e (some-stuck e) k)
+            ∙ get-in rows (count - 1) d (omega (arith, some-stuck e));
+        as-in-rust = calls-agree (room list) (shownAt list) stream rows status shows same begin newLexer begins;
+        too-far = λ calls u. far-underflows (room list) (shownAt list) stream rows status shows same (afterOn list begin calls) _ (mirrors calls u);
+        full = λ calls u. full-queued (room list) (shownAt list) stream rows status shows same (afterOn list begin calls) _ (mirrors calls u);
       }
 
 -- the rows of a source that is read whole
@@ -297,26 +303,31 @@ whole-shown source table room n stop w =
     (start-ok source (w .readable .short) (w .readable .well))
 
 module _ (source table old new : List ℕ) where
+  abbrev stream : Stream
+  stream = rustStream source table baseEdition
+
   -- from what was read whole and written
   from-whole : (n : ℕ) (stop : Stop) (status : Status) (c : Cursor) → ReadWhole source table (room old) n stop
       → new ≡ putRows old (readingOf source table .rows) → c ≡ startCursor n status → (status ≡ Stuck → stop ≡ stuck)
-      → HandsOut new (readingOf source table .rows) c
-  from-whole n stop status c w p e k =
+      → Streams stream (readingOf source table .rows) status → HandsOut new (readingOf source table .rows) stream c
+  from-whole n stop status c w p e k same =
       let rows : List Row = readingOf source table .rows in
       let begin : c ≡ startCursor (length rows) status = e ∙ ap (λ (m : ℕ). startCursor m status) (w .counted) in
       let some : status ≡ Stuck → 0 < length rows =
       λ s. stuck-some (propertiesAt table) baseEdition source startState (w .stops ∙ k s) in
-      subst (λ (l : List ℕ). HandsOut l rows c) (sym p)
-      (subst (HandsOut (putRows old rows) rows) (sym begin)
-      (hands-out old rows status (omega (arith, w .counted, w .has-room)) (whole-shown source table (room old) n stop w) some))
+      subst (λ (l : List ℕ). HandsOut l rows stream c) (sym p)
+      (subst (HandsOut (putRows old rows) rows stream) (sym begin)
+      (hands-out old rows status (omega (arith, w .counted, w .has-room)) (whole-shown source table (room old) n stop w) some stream same))
 
   pub after-a-scan : (r : Scanned) → Scans source table old r new → (c : Cursor) → BeginsAt r c
-      → HandsOut new (readingOf source table .rows) c
+      → HandsOut new (readingOf source table .rows) stream c
   after-a-scan (scanned.End n b) p c e =
       let w = end-whole source table old new n b p in
       from-whole n ended End c (w .0) (w .1) e (λ s. absurd (let z : _≡_ {A = ℕ} 0 1 = cc in omega arith))
+      (stream-promise source table baseEdition (w .0 .readable) .at-end (w .0 .stops))
   after-a-scan (scanned.Stuck n b) p c e =
-      let w = stuck-whole source table old new n b p in from-whole n stuck Stuck c (w .0) (w .1) e (λ s. refl)
+      let w = stuck-whole source table old new n b p in
+      from-whole n stuck Stuck c (w .0) (w .1) e (λ s. refl) (stream-promise source table baseEdition (w .0 .readable) .at-stuck (w .0 .stops))
   after-a-scan (scanned.Refused x) p c e = absurd e
   after-a-scan (scanned.ListFull n b) p c e = absurd e
   after-a-scan (scanned.ModesFull n b) p c e = absurd e

@@ -17,6 +17,7 @@ use Rattle.table_file.specs.File.{markOk, countOf, numbersOf, endOf, fileOf, Re
 use Rattle.fitness.specs.declared.TableCheck.{TableCheck}
 use Rattle.fitness.specs.declared.TableCheck.the-variants.{Fit, BadTable}
 use Rattle.table_file.specs.declared.TableFile.{TableFile}
+use Rattle.table_file.specs.declared.TableFile.the-variants.{Read}
 use Rattle.promises.specs.Said.{Said, says}
 
 -- ---- `check_table`
@@ -58,9 +59,11 @@ pub record ReadTablePromise (f old new : List ℕ) (r : TableFile) : Type 0 wher
   pub surplus : firstBad (markOk f) 0 6 ≡ 6 → endOf f < length f → fileSays r ≡ says badFile (endOf f)
   pub no-room : Framed f → length old < countOf f → fileSays r ≡ says listFull 0
   pub unfit : Framed f → countOf f ≤ length old → (i : ℕ) → tableCheck (numbersOf f) ≡ BadTable i → fileSays r ≡ says badTable i
-  pub read : Framed f → countOf f ≤ length old → tableCheck (numbersOf f) ≡ Fit → fileSays r ≡ says none 0
+  pub read : Framed f → countOf f ≤ length old → tableCheck (numbersOf f) ≡ Fit → r ≡ Read (countOf f)
+  -- no other count is told
+  pub counted : file.numberOf r ≡ none → r ≡ Read (countOf f)
   -- the row: its start where the file was read, and not a word on a refusal
   pub written : file.numberOf r ≡ none → new ≡ numbersOf f ++ drop (countOf f) old
   pub kept : (file.numberOf r ≡ none → ⊥) → new ≡ old
   -- the file of a fit table is read as that table
-  pub back : (t : List ℕ) → tableCheck t ≡ Fit → length t ≤ length old → f ≡ fileOf t → new ≡ t ++ drop (length t) old
+  pub back : (t : List ℕ) → tableCheck t ≡ Fit → length t ≤ length old → f ≡ fileOf t → (r ≡ Read (length t)) × (new ≡ t ++ drop (length t) old)

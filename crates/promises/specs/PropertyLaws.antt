@@ -114,10 +114,11 @@ read-table-promise f old new r p =
       surplus = λ m h. ap fileSays (a ∙ one-too-many f room m h);
       no-room = λ g h. ap fileSays (a ∙ no-room-left f room g h);
       unfit = λ g h i e. ap fileSays (a ∙ checked f room g h ∙ ap (λ (c : TableCheck). onFit c (answer.Read (countOf f))) e);
-      read = λ g h e. ap fileSays (a ∙ checked f room g h ∙ ap (λ (c : TableCheck). onFit c (answer.Read (countOf f))) e);
+      read = λ g h e. a ∙ checked f room g h ∙ ap (λ (c : TableCheck). onFit c (answer.Read (countOf f))) e;
+      counted = λ e. a ∙ counted f room (ap file.numberOf (sym a) ∙ e);
       written = λ e. p .row ∙ ap (λ (x : TableFile). rowAfter x f old) (counted f room (ap file.numberOf (sym a) ∙ e));
       kept = λ h. p .row ∙ refusal-keeps (readTable f room) f old (λ e. h (ap file.numberOf a ∙ e));
-      back = λ t fit h e. row-of-file t old new r fit h (subst (λ (x : List ℕ). ReadTableIs x old new r) e p) .1;
+      back = λ t fit h e. row-of-file t old new r fit h (subst (λ (x : List ℕ). ReadTableIs x old new r) e p);
     }
 
 pub read-table-has-one-answer : (f old new new′ : List ℕ) (r r′ : TableFile) → ReadTableIs f old new r → ReadTableIs f old new′ r′

@@ -17,7 +17,7 @@ use Rattle.lookahead.specs.Next as ofNext
 use Rattle.lookahead.specs.Next.{nextOf}
 use Rattle.lookahead.specs.Peek as ofPeek
 use Rattle.lookahead.specs.Peek.{peekOf}
-use Rattle.queue.specs.Queue.{KotoLexer, Answered, get, rustNext, rustPeek}
+use Rattle.queue.specs.Queue.{KotoLexer, Answered, Stream, get, rustNext, rustPeek}
 use Rattle.cursor.specs.declared.Status.{Status}
 use Rattle.cursor.specs.declared.Cursor.{Cursor}
 use Rattle.lookahead.specs.declared.Given.{Given}
@@ -122,21 +122,26 @@ pub record Stands (room count : ℕ) (status : Status) (i : ℕ) (c : Cursor) : 
 -- ---- in the Rust
 
 -- a call
-abbrev pub rustCall : List Row → Status → KotoLexer → Call → Answered
-rustCall rows status k next = rustNext rows status k
-rustCall rows status k (peek n) = rustPeek rows status k n
+abbrev pub rustCall : Stream → KotoLexer → Call → Answered
+rustCall stream k next = rustNext stream k
+rustCall stream k (peek n) = rustPeek stream k n
 
 -- the lexer after some calls
-unfoldable pub rustAfter : List Row → Status → KotoLexer → List Call → KotoLexer
-rustAfter rows status k [] = k
-rustAfter rows status k (x ∷ calls) = rustAfter rows status (rustCall rows status k x .after) calls
+unfoldable pub rustAfter : Stream → KotoLexer → List Call → KotoLexer
+rustAfter stream k [] = k
+rustAfter stream k (x ∷ calls) = rustAfter stream (rustCall stream k x .after) calls
 
 -- their tokens, one for each call
-unfoldable pub rustTokens : List Row → Status → KotoLexer → List Call → List (Option Row)
-rustTokens rows status k [] = []
-rustTokens rows status k (x ∷ calls) = rustCall rows status k x .token ∷ rustTokens rows status (rustCall rows status k x .after) calls
+unfoldable pub rustTokens : Stream → KotoLexer → List Call → List (Option Row)
+rustTokens stream k [] = []
+rustTokens stream k (x ∷ calls) = rustCall stream k x .token ∷ rustTokens stream (rustCall stream k x .after) calls
 
 -- ---- the cursor and the Rust's lexer
+
+-- the stream is what these rows and this status stand for: the row of each place. Past the last there is none at End, and at Stuck it is the
+-- last for ever
+abbrev pub Streams : Stream → List Row → Status → Type 0
+Streams stream rows status = (i : ℕ) → stream i ≡ get rows (recordAt (length rows) status i)
 
 -- the cursor stands for the lexer. At Stuck the lexer counts on where the cursor stays, so the two agree only on the record that comes next
 pub record Mirrors (room : ℕ) (rows : List Row) (status : Status) (c : Cursor) (k : KotoLexer) : Type 0 where

@@ -18,17 +18,16 @@ use Rattle.base.specs.Refusal.{none, peekTooFar, queueFull, badState, badRecord
 use Rattle.rows.specs.declared.Row.{Row}
 use Rattle.rows.specs.declared.RowAt.{RowAt}
 use Rattle.cursor.specs.Cursor.{isFit, startCursor, recordAt, ahead, movedOn, queuedOne}
-use Rattle.cursor.specs.CursorLaws.{record-at, held-plus, last-most, taken-held, stuck-some, moved-fits, queued-fits, must-both}
+use Rattle.cursor.specs.CursorLaws.{record-at, held-plus, last-most, taken-held, moved-fits, queued-fits, must-both}
 use Rattle.lookahead.specs.Next.{nextOf}
 use Rattle.lookahead.specs.Peek.{queuedAt, peekOf}
 use Rattle.cursor.specs.declared.Status.{Status}
-use Rattle.cursor.specs.declared.Status.the-variants.{Stuck}
 use Rattle.cursor.specs.declared.Cursor.{Cursor}
 use Rattle.lookahead.specs.declared.Given.{Given}
 use Rattle.lookahead.specs.declared.Peeked.{Peeked}
-use Rattle.queue.specs.Queue.{get, tokenAt}
+use Rattle.queue.specs.Queue.{get}
 use Rattle.queue.specs.Calls.{Call, next, peek, Outcome, ofGiven, ofPeeked, call, afterCalls, isNext, nexts, Shows, Stands}
-use Rattle.queue.specs.StreamLaws.{get-past, token-at, by-next, by-queued, by-peek}
+use Rattle.queue.specs.StreamLaws.{get-past, by-next, by-queued, by-peek}
 
 -- what a call leaves: the cursor is fit for the same records, m places on, and no refusal 8 or 9 was given
 pub record Leaves (room : ℕ) (c : Cursor) (m : ℕ) (o : Outcome) : Type 0 where
@@ -142,11 +141,7 @@ module _ (room : ℕ) (shown : ℕ → RowAt) (rows : List Row) (status : Status
     pub never-refused : (x : Call) → (call room shown c x .number ≡ badState → ⊥) × (call room shown c x .number ≡ badRecord → ⊥)
     never-refused x = let l = call-leaves room shown rows w c (s .fit) (s .counted) x in (l .fine, l .readable)
 
-    some-stuck : status ≡ Stuck → 0 < length rows
-    some-stuck e = omega (arith, s .counted, stuck-some room c (s .fit) (s .ends ∙ e))
-
-    pub next-token : (call room shown c next .number ≡ none) × (call room shown c next .token ≡ tokenAt rows status i)
+    pub next-token : (call room shown c next .number ≡ none) × (call room shown c next .token ≡ get rows (recordAt (length rows) status i))
     next-token =
         let t = next-is-token room shown rows w c (s .fit) (s .counted) in
-        let e : ahead c 0 ≡ recordAt (length rows) status i = stays room shown rows w c (s .fit) (s .counted) ∙ s .place in
-        (t .0, t .1 ∙ ap (get rows) e ∙ sym (token-at rows status i some-stuck))
+        (t .0, t .1 ∙ ap (get rows) (stays room shown rows w c (s .fit) (s .counted) ∙ s .place))

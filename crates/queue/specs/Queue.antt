@@ -1,5 +1,6 @@
--- lexer.rs `KotoLexer`, line by line: `next` and `peek` over a queue. The `TokenLexer` inside it is its tokens, one after the other; it
--- stands here as the rows of those tokens and how the reading of them ends. `QueueLaws` proves that a cursor says the same.
+-- lexer.rs `KotoLexer`, line by line: `next` and `peek` over a queue. The `TokenLexer` inside it is known by its stream, which is what its
+-- calls answer one after the other, and by how many were made; the crate `rust` has the stream of a source. `QueueLaws` proves that a cursor
+-- says the same.
 -- Assumes nothing.
 use Prim.Native.Nat.{ℕ, zero, suc, _+_, _-_}
 use mathlib.Core.Bool.{Bool}
@@ -9,10 +10,8 @@ use lib.Dec.{ltb}
 use lib.ListN.{length}
 use Rattle.base.specs.Pick.{pick}
 use Rattle.rows.specs.declared.Row.{Row}
-use Rattle.cursor.specs.declared.Status.{Status}
-use Rattle.cursor.specs.declared.Status.the-variants.{End, Stuck}
 
--- the lexer: how many tokens the `TokenLexer` has handed out, and the queue
+-- how often the `TokenLexer` was called, and the queue
 pub record KotoLexer : Type 0 where
   pub lexer : ℕ
   pub «token_queue» : List Row
@@ -32,19 +31,13 @@ get [] n = none
 get (t ∷ queue) zero = some t
 get (t ∷ queue) (suc n) = get queue n
 
--- the token that the `TokenLexer` hands out after i others: past the last there is none at End, and at Stuck the last is repeated for ever
-unfoldable pub tokenAt : List Row → Status → ℕ → Option Row
-tokenAt rows End i = get rows i
-tokenAt rows Stuck i = pick (ltb i (length rows)) (get rows i) (get rows (length rows - 1))
+-- the calls of a `TokenLexer`: the token that call i answers, or none
+abbrev pub Stream : Type 0
+Stream = ℕ → Option Row
 
--- one more token is handed out, if there is one
-abbrev pub handedOut : KotoLexer → Option Row → Answered
-handedOut k none = record { token = none; after = k }
-handedOut k (some t) = record { token = some t; after = record { lexer = k .lexer + 1; «token_queue» = k .«token_queue» } }
-
--- `next_token`
-abbrev pub nextToken : List Row → Status → KotoLexer → Answered
-nextToken rows status k = handedOut k (tokenAt rows status (k .lexer))
+-- `next_token`: one call more
+abbrev pub nextToken : Stream → KotoLexer → Answered
+nextToken stream k = record { token = stream (k .lexer); after = record { lexer = k .lexer + 1; «token_queue» = k .«token_queue» } }
 
 -- `if let Some(next) = token_queue.pop_front()`, or else what `next_token` answers
 abbrev pub popFront : List Row → ℕ → Answered → Answered
@@ -52,8 +45,8 @@ popFront [] lexer other = other
 popFront (t ∷ queue) lexer other = record { token = some t; after = record { lexer = lexer; «token_queue» = queue } }
 
 -- `next`
-unfoldable pub rustNext : List Row → Status → KotoLexer → Answered
-rustNext rows status k = popFront (k .«token_queue») (k .lexer) (nextToken rows status k)
+unfoldable pub rustNext : Stream → KotoLexer → Answered
+rustNext stream k = popFront (k .«token_queue») (k .lexer) (nextToken stream k)
 
 -- `n.max(token_queue_len)`
 abbrev pub maxOf : ℕ → ℕ → ℕ
@@ -77,13 +70,13 @@ pushedBy go none k = k
 pushedBy go (some t) k = go (pushBack k t)
 
 -- `for _ in 0..tokens_to_add`
-unfoldable pub addTokens : List Row → Status → ℕ → KotoLexer → KotoLexer
-addTokens rows status zero k = k
-addTokens rows status (suc m) k =
-    pushedBy (λ x. addTokens rows status m x) (nextToken rows status k .token) (nextToken rows status k .after)
+unfoldable pub addTokens : Stream → ℕ → KotoLexer → KotoLexer
+addTokens stream zero k = k
+addTokens stream (suc m) k =
+    pushedBy (λ x. addTokens stream m x) (nextToken stream k .token) (nextToken stream k .after)
 
 -- `peek`
-unfoldable pub rustPeek : List Row → Status → KotoLexer → ℕ → Answered
-rustPeek rows status k n =
-    let after : KotoLexer = addTokens rows status (tokensToAdd n (length (k .«token_queue»))) k in
+unfoldable pub rustPeek : Stream → KotoLexer → ℕ → Answered
+rustPeek stream k n =
+    let after : KotoLexer = addTokens stream (tokensToAdd n (length (k .«token_queue»))) k in
     record { token = get (after .«token_queue») n; after = after }

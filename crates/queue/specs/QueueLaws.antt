@@ -1,4 +1,4 @@
--- A cursor says what the Rust's lexer says, call by call, over a list that shows the lexer's rows.
+-- A cursor says what the Rust's lexer says, call by call, over a list that shows rows which stand for the lexer's stream.
 --     start-mirrors            the cursor of a scan's answer stands for a new lexer
 --     next-agrees, peek-agrees, call-agrees    a call that is not refused answers the same token, or none, and leads on
 --     calls-agree, calls-mirror    so does every sequence of such calls
@@ -19,22 +19,21 @@ use Rattle.base.specs.Refusal.{none, peekTooFar, queueFull}
 use Rattle.rows.specs.declared.Row.{Row}
 use Rattle.rows.specs.declared.RowAt.{RowAt}
 use Rattle.cursor.specs.Cursor.{queueMost, isFit, startCursor, recordAt, ahead, movedOn, hasMore, mustQueue, queuedOne}
-use Rattle.cursor.specs.CursorLaws.{held-plus, same-plus, moved-fits, queued-fits, queued-there, stuck-some, must-both}
+use Rattle.cursor.specs.CursorLaws.{record-at, last-most, held-plus, same-plus, moved-fits, queued-fits, queued-there, must-both}
 use Rattle.lookahead.specs.Next.{nextOf}
 use Rattle.lookahead.specs.Peek as ofPeek
 use Rattle.lookahead.specs.Peek.{queuedAt, peekOf}
 use Rattle.lookahead.specs.AnswerLaws.{peek-far}
 use Rattle.cursor.specs.declared.Status.{Status}
-use Rattle.cursor.specs.declared.Status.the-variants.{Stuck}
 use Rattle.cursor.specs.declared.Cursor.{Cursor}
 use Rattle.lookahead.specs.declared.Given.{Given}
 use Rattle.lookahead.specs.declared.Given.the-variants as given
 use Rattle.lookahead.specs.declared.Peeked.{Peeked}
-use Rattle.queue.specs.Queue.{KotoLexer, newLexer, get, tokenAt, handedOut, rustNext}
+use Rattle.queue.specs.Queue.{KotoLexer, newLexer, Stream, get, rustNext}
 use Rattle.queue.specs.Queue.{maxOf, tokensToAdd, underflows, pushBack, addTokens, rustPeek}
 use Rattle.queue.specs.Calls.{Call, next, peek, ofGiven, ofPeeked, call, afterCalls, tokensOf, Unrefused, Shows}
-use Rattle.queue.specs.Calls.{rustCall, rustAfter, rustTokens, Mirrors, Agrees}
-use Rattle.queue.specs.StreamLaws.{get-past, get-some, get-front, get-last, token-at, by-next, by-queued, by-peek}
+use Rattle.queue.specs.Calls.{rustCall, rustAfter, rustTokens, Streams, Mirrors, Agrees}
+use Rattle.queue.specs.StreamLaws.{get-past, get-some, get-front, get-last, by-next, by-queued, by-peek}
 
 pub start-mirrors : (room : ℕ) (rows : List Row) (status : Status) → isFit room (startCursor (length rows) status) ≡ true
     → Mirrors room rows status (startCursor (length rows) status) newLexer
@@ -43,13 +42,17 @@ start-mirrors room rows status f =
 
 -- ---- `next` in the Rust
 
-module _ (rows : List Row) (status : Status) (k : KotoLexer) where
-  pop-empty : {o : Option Row} → k .«token_queue» ≡ [] → tokenAt rows status (k .lexer) ≡ o → rustNext rows status k ≡ handedOut k o
+-- the lexer that was called once more
+abbrev called : KotoLexer → KotoLexer
+called k = record { lexer = k .lexer + 1; «token_queue» = k .«token_queue» }
+
+module _ (stream : Stream) (k : KotoLexer) where
+  pop-empty : {o : Option Row} → k .«token_queue» ≡ [] → stream (k .lexer) ≡ o → rustNext stream k ≡ record { token = o; after = called k }
   unfolding rustNext
   pop-empty e f = rw (e, f)
 
   pop-front : {t : Row} {queue : List Row} → k .«token_queue» ≡ t ∷ queue
-      → rustNext rows status k ≡ record { token = some t; after = record { lexer = k .lexer; «token_queue» = queue } }
+      → rustNext stream k ≡ record { token = some t; after = record { lexer = k .lexer; «token_queue» = queue } }
   unfolding rustNext
   pop-front e = rw e
 
@@ -62,30 +65,42 @@ tokens-none n len h = let high : maxOf n len ≡ n = rw (lt-ltb len n (omega ari
 
 -- ---- what a cursor that stands for the lexer knows of it
 
-module _ (room : ℕ) (rows : List Row) (status : Status) (c : Cursor) (k : KotoLexer) (m : Mirrors room rows status c k) where
+module _ (room : ℕ) (stream : Stream) (rows : List Row) (status : Status) (v : Streams stream rows status) (c : Cursor) (k : KotoLexer)
+    (m : Mirrors room rows status c k) where
   -- the row that a place means
   abbrev here : ℕ → ℕ
   here = recordAt (c .count) (c .status)
 
-  -- the lexer that has handed out one more token
-  abbrev handed : KotoLexer
-  handed = record { lexer = k .lexer + 1; «token_queue» = k .«token_queue» }
-
-  some-stuck : status ≡ Stuck → 0 < length rows
-  some-stuck e = omega (arith, m .counted, stuck-some room c (m .fit) (m .ends ∙ e))
-
   -- the token that the lexer hands out next is the one after the queue
-  lexer-token : tokenAt rows status (k .lexer) ≡ get rows (ahead c (c .queued))
+  lexer-token : stream (k .lexer) ≡ get rows (ahead c (c .queued))
   lexer-token =
-      token-at rows status (k .lexer) some-stuck
+      v (k .lexer)
       ∙ ap (λ (n : ℕ). get rows (recordAt n status (k .lexer))) (sym (m .counted))
       ∙ ap (λ (s : Status). get rows (recordAt (c .count) s (k .lexer))) (sym (m .ends))
       ∙ ap (get rows) (m .position)
 
+  -- and a call past the last place answers none, and stays there
+  called-past : c .count ≤ ahead c (c .queued) → Mirrors room rows status c (called k)
+  called-past h =
+      record {
+        counted = m .counted;
+        ends = m .ends;
+        fit = m .fit;
+        long = m .long;
+        queue = m .queue;
+        position = same-plus (c .count) (c .status) (k .lexer) (c .taken + c .queued) 1 (m .position)
+            ∙ omega (
+              arith,
+              record-at (c .count) (c .status) (c .taken + c .queued),
+              record-at (c .count) (c .status) (c .taken + c .queued + 1),
+              last-most (c .count) (c .status),
+            );
+      }
+
   -- ---- a token is handed out
 
   -- with nothing queued the lexer hands it out
-  moved-lexer : c .queued ≡ 0 → Mirrors room rows status (movedOn c) handed
+  moved-lexer : c .queued ≡ 0 → Mirrors room rows status (movedOn c) (called k)
   unfolding movedOn
   moved-lexer e =
       let p : c .taken + c .queued + 1 ≡ c .taken + 1 + (c .queued - 1) = omega arith in
@@ -122,25 +137,25 @@ module _ (room : ℕ) (rows : List Row) (status : Status) (c : Cursor) (k : Koto
 
   -- by what the queue is
   give-agrees : (row : Row) → get rows (ahead c 0) ≡ some row → (queue : List Row) → k .«token_queue» ≡ queue
-      → Agrees room rows status (ofGiven c (given.Token row (movedOn c))) (rustNext rows status k)
+      → Agrees room rows status (ofGiven c (given.Token row (movedOn c))) (rustNext stream k)
   unfolding get
   give-agrees row s [] e =
       let z : c .queued ≡ 0 = sym (m .long) ∙ ap length e in
-      let t : tokenAt rows status (k .lexer) ≡ some row = lexer-token ∙ ap (λ (i : ℕ). get rows (ahead c i)) z ∙ s in
-      subst (Agrees room rows status (ofGiven c (given.Token row (movedOn c)))) (sym (pop-empty rows status k e t))
+      let t : stream (k .lexer) ≡ some row = lexer-token ∙ ap (λ (i : ℕ). get rows (ahead c i)) z ∙ s in
+      subst (Agrees room rows status (ofGiven c (given.Token row (movedOn c)))) (sym (pop-empty stream k e t))
       (record { token = refl; mirrors = moved-lexer z })
   give-agrees row s (t ∷ queue) e =
       let n : suc (length queue) ≡ c .queued = sym (ap length e) ∙ m .long in
-      subst (Agrees room rows status (ofGiven c (given.Token row (movedOn c)))) (sym (pop-front rows status k e))
+      subst (Agrees room rows status (ofGiven c (given.Token row (movedOn c)))) (sym (pop-front stream k e))
       (record { token = ap (λ (l : List Row). get l 0) (sym e) ∙ m .queue 0 (omega arith) ∙ s; mirrors = moved-queue t queue e })
 
   none-agrees : c .count ≤ ahead c 0 → (queue : List Row) → k .«token_queue» ≡ queue
-      → Agrees room rows status (ofGiven c given.Nothing) (rustNext rows status k)
+      → Agrees room rows status (ofGiven c given.Nothing) (rustNext stream k)
   none-agrees h [] e =
       let z : c .queued ≡ 0 = sym (m .long) ∙ ap length e in
-      let t : tokenAt rows status (k .lexer) ≡ option.none =
+      let t : stream (k .lexer) ≡ option.none =
       lexer-token ∙ ap (λ (i : ℕ). get rows (ahead c i)) z ∙ get-past rows (ahead c 0) (omega (arith, m .counted)) in
-      subst (Agrees room rows status (ofGiven c given.Nothing)) (sym (pop-empty rows status k e t)) (record { token = refl; mirrors = m })
+      subst (Agrees room rows status (ofGiven c given.Nothing)) (sym (pop-empty stream k e t)) (record { token = refl; mirrors = called-past (subst (λ (i : ℕ). c .count ≤ ahead c i) (sym z) h) })
   none-agrees h (t ∷ queue) e =
       let n : suc (length queue) ≡ c .queued = sym (ap length e) ∙ m .long in
       absurd (omega (arith, queued-there room c (m .fit) 0 (omega arith)))
@@ -149,7 +164,7 @@ module _ (room : ℕ) (rows : List Row) (status : Status) (c : Cursor) (k : Koto
 
   -- one more
   pushed : hasMore c ≡ true → (c .queued ≡ queueMost → ⊥) → (t : Row) → get rows (ahead c (c .queued)) ≡ some t
-      → Mirrors room rows status (queuedOne c) (pushBack handed t)
+      → Mirrors room rows status (queuedOne c) (pushBack (called k) t)
   unfolding queuedOne
   pushed h n t e =
       let p : c .taken + c .queued + 1 ≡ c .taken + (c .queued + 1) = omega arith in
@@ -166,30 +181,40 @@ module _ (room : ℕ) (rows : List Row) (status : Status) (c : Cursor) (k : Koto
       }
 
   one-added : (n : ℕ) → n ≤ c .queued → (t : Row) → get rows (ahead c (c .queued)) ≡ some t
-      → addTokens rows status (tokensToAdd n (length (k .«token_queue»))) k ≡ pushBack handed t
+      → addTokens stream (tokensToAdd n (length (k .«token_queue»))) k ≡ pushBack (called k) t
   unfolding addTokens
   one-added n le t e =
       let one : tokensToAdd n (length (k .«token_queue»)) ≡ 1 = tokens-one n (length (k .«token_queue»)) (omega (arith, m .long)) in
       rw (one, lexer-token ∙ e)
 
-  none-added : (n : ℕ) → mustQueue c n ≡ false → n ≤ c .queued + 1 → addTokens rows status (tokensToAdd n (length (k .«token_queue»))) k ≡ k
+  -- none is added: the loop has no turn, or the lexer has no token
+  pub record Unchanged (n : ℕ) : Type 0 where
+    pub after : KotoLexer
+    pub loop : addTokens stream (tokensToAdd n (length (k .«token_queue»))) k ≡ after
+    pub mirrors : Mirrors room rows status c after
+
+  none-added : (n : ℕ) → mustQueue c n ≡ false → n ≤ c .queued + 1 → Unchanged n
   unfolding addTokens mustQueue
   none-added n f near =
       split-lt (c .queued) n
       (λ h. let no : tokensToAdd n (length (k .«token_queue»)) ≡ 0 =
-      tokens-none n (length (k .«token_queue»)) (omega (arith, m .long)) in rw no)
+      tokens-none n (length (k .«token_queue»)) (omega (arith, m .long)) in record { after = k; loop = rw no; mirrors = m })
       (λ h. let one : tokensToAdd n (length (k .«token_queue»)) ≡ 1 =
       tokens-one n (length (k .«token_queue»)) (omega (arith, m .long)) in
       let past : c .count ≤ ahead c (c .queued) = ltb-false (ahead c (c .queued)) (c .count) (rw (le-leb n (c .queued) h) at f) in
-      rw (one, lexer-token ∙ get-past rows (ahead c (c .queued)) (omega (arith, m .counted))))
+      record {
+        after = called k;
+        loop = rw (one, lexer-token ∙ get-past rows (ahead c (c .queued)) (omega (arith, m .counted)));
+        mirrors = called-past past;
+      })
 
 -- ---- `peek` in the Rust
 
-rust-peek-is : (rows : List Row) (status : Status) (k : KotoLexer) (n : ℕ) {after : KotoLexer}
-    → addTokens rows status (tokensToAdd n (length (k .«token_queue»))) k ≡ after
-    → rustPeek rows status k n ≡ record { token = get (after .«token_queue») n; after = after }
+rust-peek-is : (stream : Stream) (k : KotoLexer) (n : ℕ) {after : KotoLexer}
+    → addTokens stream (tokensToAdd n (length (k .«token_queue»))) k ≡ after
+    → rustPeek stream k n ≡ record { token = get (after .«token_queue») n; after = after }
 unfolding rustPeek
-rust-peek-is rows status k n e = rw e
+rust-peek-is stream k n e = rw e
 
 -- the greater of the two
 max-most : (n len most : ℕ) → n ≤ most → len ≤ most → maxOf n len ≤ most
@@ -197,7 +222,8 @@ max-most n len most h k = by-lt (λ (x : ℕ). x ≤ most) len n (λ _. h) (λ _
 
 -- ---- over a list that shows the rows
 
-module _ (room : ℕ) (shown : ℕ → RowAt) (rows : List Row) (status : Status) (w : Shows shown rows) where
+module _ (room : ℕ) (shown : ℕ → RowAt) (stream : Stream) (rows : List Row) (status : Status) (w : Shows shown rows)
+    (v : Streams stream rows status) where
   -- queued token n, of a cursor and a queue
   queued-agrees : (c : Cursor) (k : KotoLexer) → Mirrors room rows status c k → (old : Cursor) (n : ℕ)
       → Agrees room rows status (ofPeeked old (queuedAt shown c n)) (record { token = get (k .«token_queue») n; after = k })
@@ -208,21 +234,21 @@ module _ (room : ℕ) (shown : ℕ → RowAt) (rows : List Row) (status : Status
       (λ h. record { token = get-past (k .«token_queue») n (omega (arith, m .long)); mirrors = m })
 
   module _ (c : Cursor) (k : KotoLexer) (m : Mirrors room rows status c k) where
-    pub next-agrees : Agrees room rows status (ofGiven c (nextOf room shown c)) (rustNext rows status k)
+    pub next-agrees : Agrees room rows status (ofGiven c (nextOf room shown c)) (rustNext stream k)
     next-agrees =
-        by-next room shown rows w c (m .fit) (m .counted) (λ (r : Given). Agrees room rows status (ofGiven c r) (rustNext rows status k))
-        (λ row e. give-agrees room rows status c k m row e (k .«token_queue») refl)
-        (λ h. none-agrees room rows status c k m h (k .«token_queue») refl)
+        by-next room shown rows w c (m .fit) (m .counted) (λ (r : Given). Agrees room rows status (ofGiven c r) (rustNext stream k))
+        (λ row e. give-agrees room stream rows status v c k m row e (k .«token_queue») refl)
+        (λ h. none-agrees room stream rows status v c k m h (k .«token_queue») refl)
 
     -- what is to be shown of an answer of `peek`
     abbrev PeekAgrees : ℕ → Peeked → Type 0
-    PeekAgrees n r = ofPeek.numberOf r ≡ none → Agrees room rows status (ofPeeked c r) (rustPeek rows status k n)
+    PeekAgrees n r = ofPeek.numberOf r ≡ none → Agrees room rows status (ofPeeked c r) (rustPeek stream k n)
 
     -- from a cursor that stands for the lexer after the loop
-    after-loop : (n : ℕ) (d : Cursor) (after : KotoLexer) → addTokens rows status (tokensToAdd n (length (k .«token_queue»))) k ≡ after
+    after-loop : (n : ℕ) (d : Cursor) (after : KotoLexer) → addTokens stream (tokensToAdd n (length (k .«token_queue»))) k ≡ after
         → Mirrors room rows status d after → PeekAgrees n (queuedAt shown d n)
     after-loop n d after e x z =
-        subst (Agrees room rows status (ofPeeked c (queuedAt shown d n))) (sym (rust-peek-is rows status k n e)) (queued-agrees d after x c n)
+        subst (Agrees room rows status (ofPeeked c (queuedAt shown d n))) (sym (rust-peek-is stream k n e)) (queued-agrees d after x c n)
 
     -- the row that is queued next
     next-row : hasMore c ≡ true → (row : Row) × (get rows (ahead c (c .queued)) ≡ some row)
@@ -232,11 +258,11 @@ module _ (room : ℕ) (shown : ℕ → RowAt) (rows : List Row) (status : Status
     peek-agrees n =
         by-peek room shown c (m .fit) (PeekAgrees n) n (λ far z. absurd (omega arith)) (λ e q z. absurd (omega arith))
         (λ e q. let both = must-both c n e in let t = next-row (both .1) in
-        after-loop n (queuedOne c) _ (one-added room rows status c k m n (both .0) (t .0) (t .1))
-        (pushed room rows status c k m (both .1) q (t .0) (t .1)))
-        (λ e h. after-loop n c k (none-added room rows status c k m n e h) m)
+        after-loop n (queuedOne c) _ (one-added room stream rows status v c k m n (both .0) (t .0) (t .1))
+        (pushed room stream rows status v c k m (both .1) q (t .0) (t .1)))
+        (λ e h. let u = none-added room stream rows status v c k m n e h in after-loop n c (u .after) (u .loop) (u .mirrors))
 
-    pub call-agrees : (x : Call) → call room shown c x .number ≡ none → Agrees room rows status (call room shown c x) (rustCall rows status k x)
+    pub call-agrees : (x : Call) → call room shown c x .number ≡ none → Agrees room rows status (call room shown c x) (rustCall stream k x)
     call-agrees next = λ _. next-agrees
     call-agrees (peek n) = peek-agrees n
 
@@ -278,16 +304,16 @@ module _ (room : ℕ) (shown : ℕ → RowAt) (rows : List Row) (status : Status
 
   -- every sequence of calls of which none is refused
   pub calls-agree : (c : Cursor) (k : KotoLexer) → Mirrors room rows status c k → (calls : List Call) → Unrefused room shown c calls
-      → rustTokens rows status k calls ≡ tokensOf room shown c calls
+      → rustTokens stream k calls ≡ tokensOf room shown c calls
   unfolding Unrefused rustTokens tokensOf
   calls-agree c k m [] u = refl
   calls-agree c k m (x ∷ calls) u =
       let a = call-agrees c k m x (u .0) in
-      rw (a .token, calls-agree (call room shown c x .cursor) (rustCall rows status k x .after) (a .mirrors) calls (u .1))
+      rw (a .token, calls-agree (call room shown c x .cursor) (rustCall stream k x .after) (a .mirrors) calls (u .1))
 
   pub calls-mirror : (c : Cursor) (k : KotoLexer) → Mirrors room rows status c k → (calls : List Call) → Unrefused room shown c calls
-      → Mirrors room rows status (afterCalls room shown c calls) (rustAfter rows status k calls)
+      → Mirrors room rows status (afterCalls room shown c calls) (rustAfter stream k calls)
   unfolding Unrefused afterCalls rustAfter
   calls-mirror c k m [] u = m
   calls-mirror c k m (x ∷ calls) u =
-      calls-mirror (call room shown c x .cursor) (rustCall rows status k x .after) (call-agrees c k m x (u .0) .mirrors) calls (u .1)
+      calls-mirror (call room shown c x .cursor) (rustCall stream k x .after) (call-agrees c k m x (u .0) .mirrors) calls (u .1)

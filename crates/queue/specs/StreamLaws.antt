@@ -1,7 +1,6 @@
--- The tokens of a list as the Rust's `TokenLexer` hands them out, and as a cursor's answers have them: both are the row that a place means.
+-- `token_queue.get(n)`, and the cursor's answers over rows that are shown: both are the row that a place means.
 --     get-in, get-past, get-some    `token_queue.get(n)`
 --     get-front, get-last       the same after a `push_back`
---     token-at                  the token of the lexer at a place
 --     shows-by                  rows that are shown, each by its index
 --     by-next, by-queued        a property of `next`'s answers, and of a look's at the queue, over rows that are shown
 --     by-peek                   a property of `peek`'s answers, by its tests
@@ -29,7 +28,7 @@ use Rattle.lookahead.specs.declared.Given.{Given}
 use Rattle.lookahead.specs.declared.Given.the-variants as given
 use Rattle.lookahead.specs.declared.Peeked.{Peeked}
 use Rattle.lookahead.specs.declared.Peeked.the-variants as peeked
-use Rattle.queue.specs.Queue.{get, tokenAt}
+use Rattle.queue.specs.Queue.{get}
 use Rattle.queue.specs.Calls.{Shows}
 
 -- ---- `get`
@@ -64,29 +63,6 @@ get-last [] t zero e = refl
 get-last [] t (suc i) e = absurd (omega arith)
 get-last (x ∷ l) t zero e = absurd (omega arith)
 get-last (x ∷ l) t (suc i) e = get-last l t i (omega arith)
-
--- ---- the lexer's tokens
-
-module _ (rows : List Row) where
-  at-end : (i : ℕ) → get rows i ≡ get rows (recordAt (length rows) End i)
-  at-end i =
-      split-lt i (length rows)
-      (λ h. let e : recordAt (length rows) End i ≡ i = omega (arith, record-at (length rows) End i) in ap (get rows) (sym e))
-      (λ h. let e : recordAt (length rows) End i ≡ length rows = omega (arith, record-at (length rows) End i) in
-      get-past rows i h ∙ sym (ap (get rows) e ∙ get-past rows (length rows) (omega arith)))
-
-  at-stuck : (i : ℕ) → 0 < length rows → tokenAt rows Stuck i ≡ get rows (recordAt (length rows) Stuck i)
-  unfolding tokenAt
-  at-stuck i k =
-      by-lt (λ (x : Option Row). x ≡ get rows (recordAt (length rows) Stuck i)) i (length rows)
-      (λ h. let e : i ≡ recordAt (length rows) Stuck i = omega (arith, record-at (length rows) Stuck i) in ap (get rows) e)
-      (λ h. let e : length rows - 1 ≡ recordAt (length rows) Stuck i = omega (arith, record-at (length rows) Stuck i) in ap (get rows) e)
-
-  pub token-at : (status : Status) (i : ℕ) → (status ≡ Stuck → 0 < length rows)
-      → tokenAt rows status i ≡ get rows (recordAt (length rows) status i)
-  unfolding tokenAt
-  token-at End i k = at-end i
-  token-at Stuck i k = at-stuck i (k refl)
 
 -- ---- the cursor's answers
 

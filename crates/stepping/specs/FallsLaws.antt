@@ -1,4 +1,5 @@
--- Every token goes on by a byte, or pops a mode, or turns RawStart into RawEnd, or is an Error that stands still: `take-falls`.
+-- Every token goes on by a byte, or pops a mode, or turns RawStart into RawEnd, or is an Error that stands still: `take-falls`. A loop does
+-- not go back: `follow-from`.
 -- Assumes nothing.
 use Prim.Native.Nat.{ℕ, zero, suc, _+_, _*_, _-_, _≤_, _<_}
 use native.Mathlib.Omega.{arith}
@@ -56,7 +57,7 @@ len-some c =
     (λ k. by-lt (λ (l : List ℕ). 0 < length l) c 0x10000 (λ m. omega arith) (λ m. omega arith)))
 
 -- where a loop comes to is at the byte b or further on
-abbrev From : ℕ → Followed → Type 0
+abbrev pub From : ℕ → Followed → Type 0
 From b (Closed q) = b ≤ q .byte .0
 From b (Open q) = b ≤ q .byte .0
 From b Stopped = Unit {0}
@@ -90,7 +91,7 @@ module _ (turn : ℕ → List ℕ → Turn) where
   any-least (Close b w) = omega arith
   any-least Stuck = tt
 
-  follow-from : (k : ℕ) (r : Reach) (cs : List ℕ) → From (r .byte .0) (followIn turn k r cs)
+  pub follow-from : (k : ℕ) (r : Reach) (cs : List ℕ) → From (r .byte .0) (followIn turn k r cs)
   unfolding followIn
   follow-from k r [] = omega arith
   follow-from (suc k) r (c ∷ cs) = follow-from (suc k - lenUtf8 c) r cs

@@ -1,11 +1,11 @@
--- Both halves of a step together are the Rust's stack and step.
---     length-codes     a stack has as many modes as its depth
+-- Both halves of a step together are the Rust's stack and step, arm by arm the same `takeToken`.
+--     length-codes     a stack has as many modes as its depth; length-rest: one less is left below the top
 --     change-same      a change of the modes leaves place, indent and previous token
---     step-mirrors
+--     step-follows     where characters are left, the step mirrors the Rust's; step-ends: where none are, it is the end
 -- Assumes nothing.
 use Prim.Native.Nat.{ℕ, zero, suc, _<_, _≤_}
 use native.Mathlib.Omega.{arith}
-use mathlib.Core.Path.{_≡_, refl, sym, ap, _∙_}
+use mathlib.Core.Path.{_≡_, refl, sym, ap, subst, _∙_}
 use mathlib.Core.Bool.{true, false}
 use mathlib.Core.List.{List, [], _∷_}
 use lib.ListN.{length}
@@ -19,20 +19,21 @@ use Rattle.state.specs.declared.Change.{Change}
 use Rattle.state.specs.declared.Change.the-variants.{Keep, Push, Pop, Replace}
 use Rattle.state.specs.declared.State.{State}
 use Rattle.state.specs.declared.Taken.{Taken}
-use Rattle.lexer.specs.GetNextToken.{takeToken, remainingAt, nextOf, getNextToken}
-use Rattle.lexer.specs.Step.{isFull, stoodStill, halfOf, halfAt, half, joined, step}
+use Rattle.lexer.specs.GetNextToken.{takeToken, remainingAt}
+use Rattle.lexer.specs.Step.{isFull, halfOf, halfAt, half, joined, step}
 use Rattle.lexer.specs.Keeps.{Keeps}
 use Rattle.lexer.specs.KeepsLaws.{take-keeps}
 use Rattle.lexer.specs.ArmLaws.{change-fits}
 use Rattle.lexer.specs.declared.Half.{Half}
-use Rattle.stepping.specs.Mirrors.{Same, Follows, Mirrors}
+use Rattle.lexer.specs.declared.What.the-variants as what
+use Rattle.stepping.specs.Mirrors.{Same, Follows}
 
 pub length-codes : (codes : List ℕ) (d : ℕ) → length (codesOf codes d) ≡ d
 unfolding codesOf
 length-codes codes zero = refl
 length-codes codes (suc d) = ap suc (length-codes codes d)
 
-length-rest : (ms : List ℕ) → length (rest ms) ≤ length ms
+pub length-rest : (ms : List ℕ) → length (rest ms) ≤ length ms
 unfolding rest
 length-rest [] = omega arith
 length-rest (m ∷ ms) = omega arith
@@ -71,13 +72,9 @@ module _ (st : State) (a : Agrees st) where
   height = length-codes (st .modes .codes) (st .modes .depth) ∙ sym (a .depth)
 
   -- the half of a token that was taken mirrors the Rust's
-  taken-mirrors : (t : Taken) → Keeps (settled (st .lexer)) t
-      → Follows st (t .token) (remembered (t .token .kind) (t .lexer)) (changed (t .change) (stackOf (st .modes))) (joined st (halfOf (st .lexer) t))
-  unfolding stoodStill
-  taken-mirrors t k =
-      by-test
-      (λ (x : Half). Follows st (t .token) (remembered (t .token .kind) (t .lexer)) (changed (t .change) (stackOf (st .modes))) (joined st x))
-      (isFull (t .change) (st .lexer .depth))
+  taken-follows : (t : Taken) → Keeps (settled (st .lexer)) t → Follows st t (joined st (halfOf (st .lexer) t))
+  taken-follows t k =
+      by-test (λ (x : Half). Follows st t (joined st x)) (isFull (t .change) (st .lexer .depth))
       (λ e.
       let many = too-many (t .change) (stackOf (st .modes)) (omega (arith, height, a .most, a .depth)) (ap (isFull (t .change)) height ∙ e) in
       record { full = λ _. (refl, refl); found = λ h. absurd (omega arith); stack = λ h. absurd (omega arith); lexer = λ h. absurd (omega arith) })
@@ -94,13 +91,19 @@ module _ (st : State) (a : Agrees st) where
         lexer = λ _. change-same (t .change) mid;
       })
 
-  at-mirrors : (look : ℕ → ℕ) (edition : ℕ) (cs : List ℕ)
-      → Mirrors st (nextOf look edition cs (st .lexer) (stackOf (st .modes))) (joined st (halfAt look edition cs (st .lexer)))
-  at-mirrors look edition [] = (refl, refl)
-  at-mirrors look edition (c ∷ cs) =
-      taken-mirrors (takeToken look edition (c ∷ cs) (settled (st .lexer))) (take-keeps (settled (st .lexer)) look edition (c ∷ cs))
+  module _ (look : ℕ → ℕ) (edition : ℕ) (s : List ℕ) where
+    -- the characters that are left
+    abbrev left : List ℕ
+    left = remainingAt s (st .lexer .place .«current_byte» .0)
 
-  pub step-mirrors : (look : ℕ → ℕ) (edition : ℕ) (s : List ℕ)
-      → Mirrors st (getNextToken look edition s (st .lexer) (stackOf (st .modes))) (step look edition s st)
-  unfolding step half
-  step-mirrors look edition s = at-mirrors look edition (remainingAt s (st .lexer .place .«current_byte» .0))
+    pub step-follows : (c : ℕ) (cs : List ℕ) → left ≡ c ∷ cs
+        → Follows st (takeToken look edition (c ∷ cs) (settled (st .lexer))) (step look edition s st)
+    unfolding step half
+    step-follows c cs e =
+        subst (λ (l : List ℕ). Follows st (takeToken look edition (c ∷ cs) (settled (st .lexer))) (joined st (halfAt look edition l (st .lexer))))
+        (sym e)
+        (taken-follows (takeToken look edition (c ∷ cs) (settled (st .lexer))) (take-keeps (settled (st .lexer)) look edition (c ∷ cs)))
+
+    pub step-ends : left ≡ [] → (step look edition s st .what ≡ what.End) × (step look edition s st .state ≡ st)
+    unfolding step half
+    step-ends e = rw e (refl, refl)
