@@ -1,4 +1,5 @@
--- A case by a test that computes: the one way in which definitions of this project choose. The ways to reason by its cases are in `PickLaws`.
+-- A case by a test that computes: the one way in which definitions of this project choose. The ways to reason by its cases are in
+-- `PickLaws`.
 -- Assumes nothing.
 use mathlib.Core.Bool.{Bool, true, false}
 

@@ -18,7 +18,8 @@ before look left zero cs = left
 before look left (suc k) [] = left
 before look left (suc k) (c ∷ cs) = before look (look c ∷ left) k cs
 
--- there is a break after the first k characters of cs, of which there are some: at the end of the text (GB2), or where no rule joins the next
+-- there is a break after the first k characters of cs, of which there are some: at the end of the text (GB2), or where no rule joins the
+-- next
 abbrev pub breakAfter : ℕ → (ℕ → ℕ) → List ℕ → ℕ → Bool
 breakAfter edition look cs k = pick (ltb k (length cs)) (not (joined edition (before look [] k cs) (look (getD cs k 0)))) true
 

@@ -10,7 +10,7 @@ use Rattle.base.specs.Pick.{pick}
 use Rattle.position.specs.Place.{alongBy}
 use Rattle.property.specs.Parts.{widthOf}
 use Rattle.token.specs.Kind.{error, commentSingle, commentMulti}
-use Rattle.text.specs.Tests.{hash, minus}
+use Rattle.text.specs.Tests.{hash, minus, noLineEndTest}
 use Rattle.text.specs.Count.{lenUtf8, runTest}
 use Rattle.text.specs.Follow.{nextIs, Followed, Closed, Open, Stopped, follow}
 use Rattle.text.specs.declared.Turn.{Turn}
@@ -44,4 +44,4 @@ consumeCommentMulti look cs l = commentToken l (follow (commentTurn look) (along
 unfoldable pub consumeComment : (ℕ → ℕ) → List ℕ → Lexer → Taken
 consumeComment look cs l =
     pick (nextIs minus (drop 1 cs)) (consumeCommentMulti look (drop 1 cs) l)
-    (tokenTo commentSingle (runTest look 0 (alongBy 1 1 (reachOf l)) (drop 1 cs)) l)
+    (tokenTo commentSingle (runTest look noLineEndTest (alongBy 1 1 (reachOf l)) (drop 1 cs)) l)

@@ -35,7 +35,8 @@ cursorOf taken queued count status = record { taken = taken; queued = queued; co
 
 -- the answer for these numbers
 abbrev pub nextBy : List ℕ → ℕ → ℕ → ℕ → ℕ → Given
-nextBy list taken queued count status = byStatus (λ (x : Status). nextOf (room list) (shownAt list) (cursorOf taken queued count x)) given.BadState status
+nextBy list taken queued count status =
+    byStatus (λ (x : Status). nextOf (room list) (shownAt list) (cursorOf taken queued count x)) given.BadState status
 
 -- what it tells
 abbrev pub nextTold : List ℕ → ℕ → ℕ → ℕ → ℕ → Told
@@ -54,7 +55,8 @@ pub record NextIs (list : List ℕ) (taken queued count status newTaken newQueue
 
 -- the answer for these numbers
 abbrev pub peekBy : List ℕ → ℕ → ℕ → ℕ → ℕ → ℕ → Peeked
-peekBy list taken queued count status n = byStatus (λ (x : Status). peekOf (room list) (shownAt list) (cursorOf taken queued count x) n) peeked.BadState status
+peekBy list taken queued count status n =
+    byStatus (λ (x : Status). peekOf (room list) (shownAt list) (cursorOf taken queued count x) n) peeked.BadState status
 
 -- what it tells
 abbrev pub peekTold : List ℕ → ℕ → ℕ → ℕ → ℕ → ℕ → Told

@@ -1,7 +1,7 @@
 -- lexer.rs `get_next_token`, its match arm by arm: the token that is taken from a lexer, which has the Rust's fields, and of the modes the
--- depth and the one on top. What becomes of the stack stands beside the token (`change`). The Rust's own state, whose stack has no bound, and
--- the whole call over it stand in the crate `rust`.
--- `look` gives the properties of a code point, and `edition` chooses the rules of clusters (1 without GB9c, 2 with it).
+-- depth and the one on top. What becomes of the stack stands beside the token (`change`). The Rust's own state, whose stack has no bound,
+-- and the whole call over it stand in the crate `rust`. `look` gives the properties of a code point, and `edition` chooses the rules of
+-- clusters (1 without GB9c, 2 with it).
 -- Assumes nothing.
 use Prim.Native.Nat.{ℕ}
 use mathlib.Core.Bool.{Bool, _||_}

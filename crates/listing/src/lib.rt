@@ -1,4 +1,4 @@
-// What the list program does with the bytes that it has read (document 01, "The list program"). It is a library, so that the program which
+// What the list program does with the bytes that it has read (document 01, "Scripts and format strings to try"). It is a library, so that the program which
 // lists many sources lists each as the list program does.
 use input::Refusal;
 use reading::Scanned;

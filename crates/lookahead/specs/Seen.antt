@@ -1,5 +1,5 @@
--- Document 01, "Look-ahead": what a cursor sees. Of a list it is asked for how many records it has room (`room`), and what it shows at an index
--- (`shown`); the layout of its records is known in the crate `rows`.
+-- Document 01, "Look-ahead": what a cursor sees. Of a list it is asked for how many records it has room (`room`), and what it shows at an
+-- index (`shown`); the layout of its records is known in the crate `rows`.
 -- Assumes nothing.
 use Prim.Native.Nat.{ℕ}
 use lib.Dec.{ltb}

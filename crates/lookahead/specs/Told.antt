@@ -1,5 +1,5 @@
--- What an answer of `next` or `peek` tells beside its refusal, number by number: whether a token is shown, its record, and how many tokens are
--- taken and queued after it.
+-- What an answer of `next` or `peek` tells beside its refusal, number by number: whether a token is shown, its record, and how many tokens
+-- are taken and queued after it.
 -- Assumes nothing.
 use Prim.Native.Nat.{ℕ}
 use mathlib.Core.List.{List, [], _∷_}

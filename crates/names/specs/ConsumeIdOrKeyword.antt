@@ -13,7 +13,7 @@ use Rattle.utf8.specs.Encode.{encodeAll}
 use Rattle.token.specs.Kind.{id, dot, else, elseIf, underscore, stringStart}
 use Rattle.words.specs.Words.{isWord, startsWith, elseWord, elseIfWord, rWord}
 use Rattle.keywords.specs.Keywords.{keywordOf}
-use Rattle.text.specs.Tests.{doubleQuote, singleQuote, testOf}
+use Rattle.text.specs.Tests.{doubleQuote, singleQuote, hashTest, idContinueTest, testOf}
 use Rattle.text.specs.Count.{lenUtf8, countWhile, runTest}
 use Rattle.text.specs.Follow.{nextIs}
 use Rattle.state.specs.Modes.{rawStart, modeCode, hashCountOf}
@@ -29,7 +29,7 @@ use Rattle.names.specs.declared.RawStart.the-variants.{Opens, Nothing}
 -- `consume_and_count_utf8(&mut chars, is_id_continue)` after the first character, which has already been matched
 unfoldable pub nameEnd : (ℕ → ℕ) → List ℕ → Lexer → Reach
 nameEnd look [] l = reachOf l
-nameEnd look (c ∷ cs) l = runTest look 1 (alongBy (lenUtf8 c) 1 (reachOf l)) cs
+nameEnd look (c ∷ cs) l = runTest look idContinueTest (alongBy (lenUtf8 c) 1 (reachOf l)) cs
 
 -- the bytes that are left from `self.current_byte` on
 abbrev pub remaining : List ℕ → List ℕ
@@ -44,7 +44,7 @@ nameBytes l end = end .byte .0 - reachOf l .byte .0
 -- `parse_raw_string_start`: up to 255 hashes and a quote; cs are the characters after the "r"
 unfoldable pub parseRawStringStart : List ℕ → RawStart
 parseRawStringStart cs =
-    let count = countWhile (testOf 5) cs in
+    let count = countWhile (testOf hashTest) cs in
     pick (ltb 255 count) Nothing
     (pick (nextIs doubleQuote (drop count cs)) (Opens (2 * count))
     (pick (nextIs singleQuote (drop count cs)) (Opens (2 * count + 1)) Nothing))

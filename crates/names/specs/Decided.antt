@@ -22,7 +22,8 @@ Small Nothing = Unit {0}
 -- the name that begins at the lexer's place and reaches to `end` is a raw string's start, or a name like any other
 pub record RawDecides (s : List ℕ) (l : Lexer) (end : Reach) (r : RawStart) : Type 0 where
   pub decides :
-      pick (isWord rWord (take (end .byte .0 - reachOf l .byte .0) (drop (reachOf l .byte .0) s))) (rawOrName (charsFrom s (reachOf l)) end l)
+      pick (isWord rWord (take (end .byte .0 - reachOf l .byte .0) (drop (reachOf l .byte .0) s)))
+      (rawOrName (charsFrom s (reachOf l)) end l)
       (keywordOrId (charsFrom s (reachOf l)) end l)
       ≡ orElse r l (keywordOrId (charsFrom s (reachOf l)) end l)
   pub small : Small r

@@ -1,4 +1,4 @@
-// How records and the end of a scan are printed (document 01, "The list program"): a record or an end a line, numbers in decimal with one
+// How records and the end of a scan are printed (document 01, "Scripts and format strings to try"): a record or an end a line, numbers in decimal with one
 // space between two of them. This crate knows no source and no table.
 use libc::STDOUT_FILENO;
 use reading::Scanned;

@@ -1,5 +1,6 @@
--- The cases that document 01 marks P in "Scripts and format strings to try", as one table: each is a call with its bytes, and what that gives.
--- `CasesLaws.all-cases` proves all of them, over the definitions that the contracts cite. Bytes are decoded and looked up in the small table.
+-- The cases that document 01 marks P in "Scripts and format strings to try", as one table: each is a call with its bytes, and what that
+-- gives. `CasesLaws.all-cases` proves all of them, over the definitions that the contracts cite. Bytes are decoded and looked up in the
+-- small table.
 -- Assumes nothing.
 use Prim.Native.Nat.{ℕ}
 use mathlib.Core.List.{List, [], _∷_}

@@ -31,5 +31,6 @@ pub record FirstClusterPromise (source table : List ℕ) (r : Cluster) : Type 0 
   pub bad-utf8 : length source ≤ sourceMost → tableCheck table ≡ Fit → (n : ℕ) → Longest source n → clusterSays r ≡ says badUtf8 n
   pub no-bytes : source ≡ [] → tableCheck table ≡ Fit → (clusterSays r ≡ says none 0) × (lenOf r ≡ 0)
   pub cluster :
-      length source ≤ sourceMost → tableCheck table ≡ Fit → WellFormed source → (n : ℕ) → Shortest baseEdition (propertiesAt table) (chars source) n
+      length source ≤ sourceMost → tableCheck table ≡ Fit → WellFormed source → (n : ℕ)
+      → Shortest baseEdition (propertiesAt table) (chars source) n
       → (clusterSays r ≡ says none 0) × (lenOf r ≡ length (encodeAll (take n (chars source))))

@@ -1,6 +1,6 @@
--- Demand 3, bounded and whole, about the records of demand 2's reading alone (document 01, "One answer to each call"). A source of n bytes has at
--- most n + n/3 records; leaving out a last Error that stands still, byte ranges and spans join from zero without a gap; and a reading that
--- ends covers the source, or closes on an Error that cuts a longer character.
+-- Demand 3, bounded and whole, about the records of demand 2's reading alone (document 01, "One answer to each call"). A source of n bytes
+-- has at most n + n/3 records; leaving out a last Error that stands still, byte ranges and spans join from zero without a gap; and a
+-- reading that ends covers the source, or closes on an Error that cuts a longer character.
 -- Assumes nothing.
 use Prim.Native.Nat.{ℕ, _+_, _-_, _/_, _<_, _≤_}
 use mathlib.Core.Path.{_≡_}

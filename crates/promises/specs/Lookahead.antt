@@ -140,7 +140,8 @@ TooFarIs number n k =
     (number ≡ peekTooFar → underflows n (length (k .«token_queue»)) ≡ true)
     × (underflows n (length (k .«token_queue»)) ≡ true → number ≡ peekTooFar)
 
--- what every sequence of calls meets that begins at this cursor, over a list that holds these rows; the Rust's `KotoLexer` goes over this stream
+-- what every sequence of calls meets that begins at this cursor, over a list that holds these rows; the Rust's `KotoLexer` goes over this
+-- stream
 pub record HandsOut (list : List ℕ) (rows : List Row) (stream : Stream) (c : Cursor) : Type 0 where
   -- whatever was called before, no call gets 8 or 9
   pub never-refused :

@@ -1,4 +1,5 @@
--- The promise of `pool::add_string`, case by case in document 01's order: 3, 8, 13, and then the string's index; and what it leaves of the pool.
+-- The promise of `pool::add_string`, case by case in document 01's order: 3, 8, 13, and then the string's index; and what it leaves of the
+-- pool.
 -- Assumes nothing.
 use Prim.Native.Nat.{ℕ, _+_, _<_, _≤_}
 use mathlib.Core.Path.{_≡_}

@@ -66,4 +66,5 @@ pub record ReadTablePromise (f old new : List ℕ) (r : TableFile) : Type 0 wher
   pub written : file.numberOf r ≡ none → new ≡ numbersOf f ++ drop (countOf f) old
   pub kept : (file.numberOf r ≡ none → ⊥) → new ≡ old
   -- the file of a fit table is read as that table
-  pub back : (t : List ℕ) → tableCheck t ≡ Fit → length t ≤ length old → f ≡ fileOf t → (r ≡ Read (length t)) × (new ≡ t ++ drop (length t) old)
+  pub back : (t : List ℕ) → tableCheck t ≡ Fit → length t ≤ length old → f ≡ fileOf t
+      → (r ≡ Read (length t)) × (new ≡ t ++ drop (length t) old)

@@ -1,5 +1,5 @@
--- What an answer says in document 01's terms: a number (0, or a refusal's) and its place or value. The promises tell both through this alone,
--- by each answer's own `numberOf` and `placeOf`.
+-- What an answer says in document 01's terms: a number (0, or a refusal's) and its place or value. The promises tell both through this
+-- alone, by each answer's own `numberOf` and `placeOf`.
 -- Assumes nothing.
 use Prim.Native.Nat.{ℕ}
 

@@ -1,5 +1,5 @@
--- The promise of `scan::scan`, case by case in document 01's order: 1, 2, 3, then the records of the source's reading, as many as have room,
--- with a status, or refusal 4 or 5. What it ensures is `Scans`.
+-- The promise of `scan::scan`, case by case in document 01's order: 1, 2, 3, then the records of the source's reading, as many as have
+-- room, with a status, or refusal 4 or 5. What it ensures is `Scans`.
 -- Assumes nothing.
 use Prim.Native.Nat.{ℕ, _<_, _≤_}
 use mathlib.Core.Path.{_≡_}
@@ -63,7 +63,8 @@ rows source table = readingOf source table .rows
 abbrev pub stop : List ℕ → List ℕ → reading.Stop
 stop source table = readingOf source table .stop
 
--- the cases shut each other out, and leave nothing out. The current byte is where the last record that was written ends (0 where there is none)
+-- the cases shut each other out, and leave nothing out. The current byte is where the last record that was written ends (0 where there is
+-- none)
 pub record ScanPromise (source table old : List ℕ) (r : Scanned) (new : List ℕ) : Type 0 where
   -- 1, 2, 3: no record, and the list stays
   pub too-long : sourceMost < length source → (scanSays r ≡ refuses tooLong 0 0) × (new ≡ old)

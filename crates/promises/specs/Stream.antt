@@ -21,8 +21,8 @@ rustStream source table edition = streamOf (propertiesAt table) edition source
 abbrev pub ourReading : List ℕ → List ℕ → ℕ → Reading
 ourReading source table edition = reading (propertiesAt table) edition source
 
--- the Rust hands out this reading: its records are the tokens one by one, until the Rust answers None for ever; until an Error that passes no
--- byte, which every later call answers again; or until a token that pushes a 65th mode
+-- the Rust hands out this reading: its records are the tokens one by one, until the Rust answers None for ever; until an Error that passes
+-- no byte, which every later call answers again; or until a token that pushes a 65th mode
 abbrev pub RustHands : List ℕ → List ℕ → ℕ → Reading → Type 0
 RustHands source table edition r = Hands (propertiesAt table) edition source r newTokenLexer
 

@@ -1,5 +1,5 @@
--- Document 01, "One answer to each call": the wrong scans that the contract must shut out. Each is a property that a scan may have, whatever
--- else it does; `WrongScansLaws` proves that none which meets the contract has it.
+-- Document 01, "One answer to each call": the wrong scans that the contract must shut out. Each is a property that a scan may have,
+-- whatever else it does; `WrongScansLaws` proves that none which meets the contract has it.
 -- Assumes nothing.
 use Prim.Native.Nat.{ℕ, _<_}
 use mathlib.Core.Path.{_≡_}

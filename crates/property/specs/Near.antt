@@ -1,5 +1,5 @@
--- Whether a run has a code point, by tests that look at that run and the next one alone (`has-code` of `TableLaws` has what they settle). No
--- public contract cites it.
+-- Whether a run has a code point, by tests that look at that run and the next one alone (`has-code` of `TableLaws` has what they settle).
+-- No public contract cites it.
 -- Assumes nothing.
 use Prim.Native.Nat.{ℕ, _+_}
 use mathlib.Core.List.{List}

@@ -1,5 +1,5 @@
--- Sequences of `next` and `peek`, here and in the Rust, and when a cursor stands for the Rust's lexer. As a cursor does, they go over a list
--- that has room for so many records and shows these (`room`, `shown`).
+-- Sequences of `next` and `peek`, here and in the Rust, and when a cursor stands for the Rust's lexer. As a cursor does, they go over a
+-- list that has room for so many records and shows these (`room`, `shown`).
 -- Assumes nothing.
 use Prim.Native.Nat.{ℕ, _+_, _<_}
 use mathlib.Core.Path.{_≡_}
@@ -138,8 +138,8 @@ rustTokens stream k (x ∷ calls) = rustCall stream k x .token ∷ rustTokens st
 
 -- ---- the cursor and the Rust's lexer
 
--- the stream is what these rows and this status stand for: the row of each place. Past the last there is none at End, and at Stuck it is the
--- last for ever
+-- the stream is what these rows and this status stand for: the row of each place. Past the last there is none at End, and at Stuck it is
+-- the last for ever
 abbrev pub Streams : Stream → List Row → Status → Type 0
 Streams stream rows status = (i : ℕ) → stream i ≡ get rows (recordAt (length rows) status i)
 

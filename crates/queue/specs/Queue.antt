@@ -1,6 +1,6 @@
 -- lexer.rs `KotoLexer`, line by line: `next` and `peek` over a queue. The `TokenLexer` inside it is known by its stream, which is what its
--- calls answer one after the other, and by how many were made; the crate `rust` has the stream of a source. `QueueLaws` proves that a cursor
--- says the same.
+-- calls answer one after the other, and by how many were made; the crate `rust` has the stream of a source. `QueueLaws` proves that a
+-- cursor says the same.
 -- Assumes nothing.
 use Prim.Native.Nat.{ℕ, zero, suc, _+_, _-_}
 use mathlib.Core.Bool.{Bool}

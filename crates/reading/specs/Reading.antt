@@ -17,8 +17,8 @@ use Rattle.lexer.specs.declared.What.the-variants as what
 
 -- ---- records
 
--- `LexedToken`: a token with the bytes, the span and the indent that the lexer l has after it. What it may tell of the lexer before it comes in
--- too: document 02 asks for the depth there
+-- `LexedToken`: a token with the bytes, the span and the indent that the lexer l has after it. What it may tell of the lexer before it
+-- comes in too: document 02 asks for the depth there
 abbrev pub rowOf : Token → Lexer → Lexer → Row
 rowOf t before l =
     record {
@@ -67,8 +67,8 @@ afterStep go before after what.Stuck = stuckReading before (after .lexer)
 afterStep go before after what.ModesFull = stopped deep
 afterStep go before after what.End = stopped ended
 
--- the reading from a state, in so many steps. `readFrom` gives it one more than can be taken: `ReadingLaws.reading-step` is its equation, in
--- which no steps are counted
+-- the reading from a state, in so many steps. `readFrom` gives it one more than can be taken: `ReadingLaws.reading-step` is its equation,
+-- in which no steps are counted
 unfoldable pub readIn : ℕ → (ℕ → ℕ) → ℕ → List ℕ → State → Reading
 readIn zero look edition s st = stopped ended
 readIn (suc n) look edition s st =

@@ -1,5 +1,6 @@
--- What a scan answers and writes, from the reading and the list's room (document 01, "Records" and "Refusal numbers"): refusals 1, 2, 3 in this
--- order, which write nothing; then the records, as many as have room, and the status, or refusal 4 or 5, which leave the records before them.
+-- What a scan answers and writes, from the reading and the list's room (document 01, "Records" and "Refusal numbers"): refusals 1, 2, 3 in
+-- this order, which write nothing; then the records, as many as have room, and the status, or refusal 4 or 5, which leave the records
+-- before them.
 -- Assumes nothing.
 use Prim.Native.Nat.{ℕ, _+_, _-_}
 use mathlib.Core.Path.{_≡_}

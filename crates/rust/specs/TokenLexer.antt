@@ -1,5 +1,5 @@
--- lexer.rs `TokenLexer` as the Rust has it: one state with its own stack of modes, which has no bound, and `get_next_token`, which decides by
--- the top of that stack and leaves the whole next state. Its arms are those of `takeToken`. And its tokens one after the other, as
+-- lexer.rs `TokenLexer` as the Rust has it: one state with its own stack of modes, which has no bound, and `get_next_token`, which decides
+-- by the top of that stack and leaves the whole next state. Its arms are those of `takeToken`. And its tokens one after the other, as
 -- `next_token` hands them out. No room is here, no list, and no copy beside the stack.
 -- Assumes nothing.
 use Prim.Native.Nat.{ℕ, zero, suc}

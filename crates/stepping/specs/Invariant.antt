@@ -1,5 +1,6 @@
 -- The state's invariant between two steps, stated once: the lexer is fine, what was read last is behind it, the copies agree with a stack
--- of at most 64, the end delimiter stands where RawEnd is on top, and RawEnd is never below the top. And the measure that a step falls in which does not stand still.
+-- of at most 64, the end delimiter stands where RawEnd is on top, and RawEnd is never below the top. And the measure that a step falls in
+-- which does not stand still.
 -- Assumes nothing.
 use Prim.Native.Nat.{ℕ, _+_, _*_, _-_, _≤_, _<_}
 use mathlib.Core.Path.{_≡_}

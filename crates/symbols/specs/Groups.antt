@@ -1,5 +1,5 @@
--- How the code finds its way in the table: symbols by their first byte. Nothing outside this crate needs it: what a symbol is, `Symbols` says,
--- and the code answers that (proofs/Narrow.antt).
+-- How the code finds its way in the table: symbols by their first byte. Nothing outside this crate needs it: what a symbol is, `Symbols`
+-- says, and the code answers that (proofs/Narrow.antt).
 -- Assumes nothing.
 use mathlib.Core.List.{List}
 use Prim.Native.Nat.{ℕ}

@@ -1,5 +1,5 @@
--- lexer.rs `check_symbol!`: symbols as fixed byte strings, in the Rust's order ("longest first where 000 does", document 01). A symbol is told
--- by the bytes that are left to read.
+-- lexer.rs `check_symbol!`: symbols as fixed byte strings, in the Rust's order ("longest first where 000 does", document 01). A symbol is
+-- told by the bytes that are left to read.
 -- Assumes nothing.
 use mathlib.Core.List.{List, [], _∷_}
 use Prim.Native.Nat.{ℕ}

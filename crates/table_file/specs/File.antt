@@ -1,7 +1,7 @@
 -- Document 01, "The property table": the table file; "Refusal numbers": its refusals 14, 4 and 2, in that order, with their places.
--- What the paper leaves open of the place of 14 is decided so: it is the smallest offset at which a byte is wrong, and a byte after the last
--- number is wrong; where no byte is wrong and some lack, it is the file's length. A count of 0 or over 8,000 in a file that is as long as it
--- says is refusal 2 with place 0, after 4.
+-- What the paper leaves open of the place of 14 is decided so: it is the smallest offset at which a byte is wrong, and a byte after the
+-- last number is wrong; where no byte is wrong and some lack, it is the file's length. A count of 0 or over 8,000 in a file that is as long
+-- as it says is refusal 2 with place 0, after 4.
 -- Assumes nothing.
 use Prim.Native.Nat.{ℕ, zero, suc, _+_, _*_, _/_, _%_}
 use Prim.Native.Char.{code}

@@ -28,11 +28,19 @@ dropBytes k [] = []
 dropBytes (suc k) (c ∷ cs) = dropBytes (suc k - lenUtf8 c) cs
 dropBytes zero (c ∷ cs) = c ∷ cs
 
--- the loop from r on, where the first k bytes of what is left belong to what was passed
+-- the loop from r on. The Rust's loop takes as many characters from `chars` as its arm matched; a turn says how many bytes it passes, and k
+-- is what it still owes of them: bytes of the characters that are left which belong to what was passed. While k is not 0, a character pays
+-- its own bytes and no turn is asked
 unfoldable pub followIn : (ℕ → List ℕ → Turn) → ℕ → Reach → List ℕ → Followed
 followIn turn k r [] = Open r
 followIn turn (suc k) r (c ∷ cs) = followIn turn (suc k - lenUtf8 c) r cs
-followIn turn zero r (c ∷ cs) = elim (turn c cs) [ Pass b w ↦ followIn turn (b - lenUtf8 c) (alongBy b w r) cs | Line b ↦ followIn turn (b - lenUtf8 c) (lineBy b r) cs | Close b w ↦ Closed (alongBy b w r) | Stuck ↦ Stopped ]
+followIn turn zero r (c ∷ cs) =
+    elim (turn c cs) [
+      | Pass b w ↦ followIn turn (b - lenUtf8 c) (alongBy b w r) cs
+      | Line b ↦ followIn turn (b - lenUtf8 c) (lineBy b r) cs
+      | Close b w ↦ Closed (alongBy b w r)
+      | Stuck ↦ Stopped
+    ]
 
 abbrev pub follow : (ℕ → List ℕ → Turn) → Reach → List ℕ → Followed
 follow turn r cs = followIn turn 0 r cs

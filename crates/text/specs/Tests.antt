@@ -113,22 +113,49 @@ isHexDigit c = isDigit c || (inside c 97 102 || (inside c 65 70 || eqb c undersc
 unfoldable pub isLineEnd : ℕ → Bool
 isLineEnd c = eqb c lf || eqb c cr
 
--- the predicate of this number: whitespace, binary, octal, decimal and hex digits, and any other number the hash
+-- ---- the predicates by their numbers
+
+abbrev pub whitespaceTest : ℕ
+whitespaceTest = 0
+
+abbrev pub binaryTest : ℕ
+binaryTest = 1
+
+abbrev pub octalTest : ℕ
+octalTest = 2
+
+abbrev pub decimalTest : ℕ
+decimalTest = 3
+
+abbrev pub hexTest : ℕ
+hexTest = 4
+
+abbrev pub hashTest : ℕ
+hashTest = 5
+
+-- the predicate of this number; any other number is the hash's
 unfoldable pub testOf : ℕ → ℕ → Bool
 testOf test c =
-    pick (eqb test 0) (isWhitespace c)
-    (pick (eqb test 1) (isBinaryDigit c)
-    (pick (eqb test 2) (isOctalDigit c)
-    (pick (eqb test 3) (isDecimalDigit c)
-    (pick (eqb test 4) (isHexDigit c) (eqb c hash)))))
+    pick (eqb test whitespaceTest) (isWhitespace c)
+    (pick (eqb test binaryTest) (isBinaryDigit c)
+    (pick (eqb test octalTest) (isOctalDigit c)
+    (pick (eqb test decimalTest) (isDecimalDigit c)
+    (pick (eqb test hexTest) (isHexDigit c) (eqb c hash)))))
 
--- 1: `is_id_continue`, which asks for the properties; any other number: no end of a line
+-- of those that `consume_and_count_utf8` is called with: no end of a line, and `is_id_continue`
+abbrev pub noLineEndTest : ℕ
+noLineEndTest = 0
+
+abbrev pub idContinueTest : ℕ
+idContinueTest = 1
+
+-- `is_id_continue` asks for the properties; any other number is that of no end of a line
 unfoldable pub testUtf8 : ℕ → ℕ → ℕ → Bool
-testUtf8 test c properties = pick (eqb test 1) (xidContinue properties) (not (isLineEnd c))
+testUtf8 test c properties = pick (eqb test idContinueTest) (xidContinue properties) (not (isLineEnd c))
 
 abbrev pub testUtf8Of : (ℕ → ℕ) → ℕ → ℕ → Bool
 testUtf8Of look test c = testUtf8 test c (look c)
 
 -- an ASCII character that passes the test of this number and takes one column, whatever the table (`CountLaws`)
 unfoldable pub atOnce : ℕ → ℕ → Bool
-atOnce test c = pick (eqb test 1) (isNamePart c) (isPrintable c)
+atOnce test c = pick (eqb test idContinueTest) (isNamePart c) (isPrintable c)

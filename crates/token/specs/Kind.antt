@@ -1,5 +1,6 @@
 -- lexer.rs `Token`: each kind of token by its number in a record (document 01, "Records"), 0 to 80 in the Rust's order and under its
--- names. `Kind` stands after a name that antt or its library has already: `atKind`, `asKind`, `falseKind`, `inKind`, `notKind`, `trueKind`, `letKind`.
+-- names. `Kind` stands after a name that antt or its library has already: `atKind`, `asKind`, `falseKind`, `inKind`, `notKind`, `trueKind`,
+-- `letKind`.
 -- Assumes nothing.
 use Prim.Native.Nat.{ℕ}
 

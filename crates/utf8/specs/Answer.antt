@@ -1,5 +1,5 @@
--- Document 01, "Refusal numbers", of what `read_char` and `check_utf8` answer: ill-formed bytes are refusal 3, whether they are wrong or cut,
--- and whether the end cuts a character is told beside it. How many bytes a character has is `lenOf` (`Lengths`).
+-- Document 01, "Refusal numbers", of what `read_char` and `check_utf8` answer: ill-formed bytes are refusal 3, whether they are wrong or
+-- cut, and whether the end cuts a character is told beside it. How many bytes a character has is `lenOf` (`Lengths`).
 -- Assumes nothing.
 use Prim.Native.Nat.{ℕ}
 use Rattle.base.specs.Refusal.{none, badUtf8}

@@ -1,5 +1,5 @@
--- What the answers of `read_char` and `check_utf8` mean, by `encode` alone. `MeaningLaws` proves that the definitions which the contracts cite
--- (`readAt`, `checkFrom`) answer so, and that no other answer fits.
+-- What the answers of `read_char` and `check_utf8` mean, by `encode` alone. `MeaningLaws` proves that the definitions which the contracts
+-- cite (`readAt`, `checkFrom`) answer so, and that no other answer fits.
 -- Assumes nothing.
 use Prim.Native.Nat.{ℕ, _+_, _<_, _≤_}
 use mathlib.Core.Path.{_≡_}
