@@ -20,7 +20,7 @@ use Rattle.utf8.specs.CharsLaws.{At, not-ascii}
 use Rattle.property.specs.Parts.{xidStart}
 use Rattle.property.specs.Table.{propertiesAt}
 use Rattle.fitness.specs.Ascii.{isLetter}
-use Rattle.fitness.specs.FitLaws.{FitTable}
+use Rattle.fitness.specs.Fit.{FitTable}
 use Rattle.fitness.specs.SmallLaws.{ascii-start}
 use Rattle.token.specs.Kind.{stringEnd, curlyOpen}
 use Rattle.text.specs.Bytes.{byteAt}

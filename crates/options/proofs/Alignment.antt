@@ -18,7 +18,7 @@ use Rattle.utf8.specs.Chars.{chars}
 use Rattle.utf8.specs.CharsLaws.{After}
 use Rattle.property.specs.Table.{lastFrom, propertiesAt}
 use Rattle.fitness.specs.Small.{smallTable}
-use Rattle.fitness.specs.FitLaws.{FitTable}
+use Rattle.fitness.specs.Fit.{FitTable}
 use Rattle.cluster.specs.First.{firstEnd, firstRest, secondIs}
 use Rattle.cluster.specs.FirstLaws.{first-at, plain, second-by-first}
 use Rattle.text.specs.Bytes.{byteAt}

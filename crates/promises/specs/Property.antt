@@ -9,8 +9,7 @@ use Rattle.base.specs.Refusal.{none, badTable, listFull, badFile}
 use Rattle.property.specs.Table.{propertiesAt}
 use Rattle.fitness.specs.Small.{smallTable}
 use Rattle.fitness.specs.Fit as table
-use Rattle.fitness.specs.Fit.{countOk, runOk, tableCheck}
-use Rattle.fitness.specs.FitLaws.{RunsOk}
+use Rattle.fitness.specs.Fit.{countOk, runOk, tableCheck, RunsOk}
 use Rattle.fitness.specs.First.{firstBad}
 use Rattle.table_file.specs.File as file
 use Rattle.table_file.specs.File.{markOk, countOf, numbersOf, endOf, fileOf, ReadTableIs}

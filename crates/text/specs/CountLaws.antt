@@ -30,7 +30,8 @@ use Rattle.property.specs.Parts.{xidContinue, widthOf}
 use Rattle.property.specs.Table.{lastFrom, propertiesAt}
 use Rattle.fitness.specs.Small.{smallTable}
 use Rattle.fitness.specs.First.{firstBad}
-use Rattle.fitness.specs.FitLaws.{FitTable, ascii-rule}
+use Rattle.fitness.specs.Fit.{FitTable}
+use Rattle.fitness.specs.FitLaws.{ascii-rule}
 use Rattle.fitness.specs.Ascii.{isLetter, isNamePart, isPrintable}
 use Rattle.text.specs.Bytes.{byteAt}
 use Rattle.text.specs.Tests.{isWhitespace, isBinaryDigit, isOctalDigit, isDecimalDigit, isHexDigit, isLineEnd, testOf, testUtf8, testUtf8Of, atOnce}
