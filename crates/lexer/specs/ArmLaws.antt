@@ -15,8 +15,8 @@ use Rattle.base.specs.PickLaws.{by-eq, by-test}
 use Rattle.base.specs.RangeLaws.{is-inside, under, over}
 use Rattle.utf8.specs.Encode.{WellFormed}
 use Rattle.utf8.specs.Read.{isTail}
-use Rattle.utf8.specs.Chars.{chars}
-use Rattle.utf8.specs.CharsLaws.{At, not-ascii}
+use Rattle.utf8.specs.Chars.{chars, At}
+use Rattle.utf8.specs.CharsLaws.{not-ascii}
 use Rattle.property.specs.Parts.{xidStart}
 use Rattle.property.specs.Table.{propertiesAt}
 use Rattle.fitness.specs.Ascii.{isLetter}

@@ -23,8 +23,8 @@ use Rattle.position.specs.Place.{alongBy}
 use Rattle.position.specs.declared.Reach.{Reach}
 use Rattle.utf8.specs.Encode.{WellFormed}
 use Rattle.utf8.specs.Read.{readAt}
-use Rattle.utf8.specs.Chars.{chars}
-use Rattle.utf8.specs.CharsLaws.{At, at-char, rest-at, ascii-at, ascii-byte}
+use Rattle.utf8.specs.Chars.{chars, At}
+use Rattle.utf8.specs.CharsLaws.{at-char, rest-at, ascii-at, ascii-byte}
 use Rattle.utf8.specs.declared.Read.the-variants.{Char}
 use Rattle.property.specs.Parts.{xidContinue, widthOf}
 use Rattle.property.specs.Table.{lastFrom, propertiesAt}
