@@ -20,7 +20,7 @@ use lib.Seq.{drop-cons}
 use borrow.Author.Tests.{lt-ltb, eqb-true}
 use Rattle.base.specs.Pick.{pick}
 use Rattle.base.specs.PickLaws.{by-test, by-lt}
-use Rattle.base.specs.Cases.{pick-yes, pick-no}
+use Rattle.base.specs.CasesLaws.{pick-yes, pick-no}
 use Rattle.position.specs.Place.{alongBy}
 use Rattle.position.specs.declared.Reach.{Reach}
 use Rattle.utf8.specs.Chars.{chars, At}
