@@ -12,7 +12,7 @@ use Rattle.fitness.specs.Fit as table
 use Rattle.fitness.specs.Fit.{countOk, runOk, tableCheck, RunsOk}
 use Rattle.fitness.specs.First.{firstBad}
 use Rattle.table_file.specs.File as file
-use Rattle.table_file.specs.File.{markOk, countOf, numbersOf, endOf, fileOf, ReadTableIs}
+use Rattle.table_file.specs.File.{markOk, countOf, numbersOf, endOf, fileOf}
 use Rattle.fitness.specs.declared.TableCheck.{TableCheck}
 use Rattle.fitness.specs.declared.TableCheck.the-variants.{Fit, BadTable}
 use Rattle.table_file.specs.declared.TableFile.{TableFile}

@@ -21,7 +21,7 @@ use lib.ListN.{length, getD, take, drop, length-append, length-drop, take-append
 use lib.Seq.{drop-drop, drop-cons, getD-drop, drop-append-seam}
 use Rattle.base.specs.PickLaws.{split-lt}
 use Rattle.base.specs.Range.{inside}
-use Rattle.utf8.specs.Encode.{Scalar, Scalars, encode, encodeAll, WellFormed}
+use Rattle.utf8.specs.Encode.{Scalars, encode, encodeAll, WellFormed}
 use Rattle.utf8.specs.EncodeLaws.{encode1, all-append, scalars-drop}
 use Rattle.utf8.specs.Read.{seqLen, secondOk, fourth, third, second, headOf, decodeHead, readAt}
 use Rattle.utf8.specs.GrammarLaws.{Sound, found1}
