@@ -6,4 +6,4 @@ pub mod PickLaws
 pub mod RangeLaws
 pub mod AllLaws
 pub mod ListLaws
-pub mod Cases
+pub mod CasesLaws

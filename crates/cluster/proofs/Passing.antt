@@ -12,8 +12,8 @@ use mathlib.Core.Bool.{true, false}
 use lib.ListN.{length, take, drop, length-append}
 use Rattle.utf8.specs.Encode.{encode, encodeAll, WellFormed}
 use Rattle.utf8.specs.Read.{readAt}
-use Rattle.utf8.specs.Chars.{chars}
-use Rattle.utf8.specs.CharsLaws.{At, at-char, rest-at, chars-end}
+use Rattle.utf8.specs.Chars.{chars, At}
+use Rattle.utf8.specs.CharsLaws.{at-char, rest-at, chars-end}
 use Rattle.utf8.specs.declared.Read.the-variants.{Char}
 use Rattle.uax29.specs.Uax29.{joined}
 use Rattle.cluster.specs.First.{goOn, firstEnd}

@@ -20,7 +20,7 @@ use Rattle.utf8.specs.EncodeLaws.{encode1}
 use Rattle.utf8.specs.Chars.{chars}
 use Rattle.property.specs.Parts.{widthOf}
 use Rattle.property.specs.Table.{propertiesAt}
-use Rattle.fitness.specs.FitLaws.{FitTable}
+use Rattle.fitness.specs.Fit.{FitTable}
 use Rattle.fitness.specs.Ascii.{isPrintable}
 use Rattle.fitness.specs.SmallLaws.{ascii-width}
 use Rattle.token.specs.Kind.{commentSingle}

@@ -8,7 +8,7 @@ use mathlib.Core.List.{List}
 use Rattle.base.specs.PickLaws.{by-eq}
 use Rattle.position.specs.Place.{alongBy}
 use Rattle.property.specs.Table.{propertiesAt}
-use Rattle.fitness.specs.FitLaws.{FitTable}
+use Rattle.fitness.specs.Fit.{FitTable}
 use Rattle.text.specs.Bytes.{byteAt}
 use Rattle.text.specs.Tests.{hash, minus, testUtf8Of}
 use Rattle.text.specs.CountLaws.{run-stands}

@@ -6,7 +6,7 @@ ghost use Rattle.position.specs.Place.{alongBy};
 ghost use Rattle.utf8.specs.Encode.{WellFormed};
 ghost use Rattle.utf8.specs.Chars.{chars};
 ghost use Rattle.property.specs.Table.{propertiesAt};
-ghost use Rattle.fitness.specs.FitLaws.{FitTable};
+ghost use Rattle.fitness.specs.Fit.{FitTable};
 ghost use Rattle.text.specs.Bytes.{byteAt};
 ghost use Rattle.text.specs.Follow.{turnAt};
 ghost use Rattle.text.specs.Stands.{Stands, charsFrom};

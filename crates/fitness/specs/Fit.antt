@@ -1,6 +1,7 @@
 -- Document 01, "The property table": the run rules and code points 0 to 127; "Refusal numbers": refusal 2 with its place.
 -- Assumes nothing.
-use Prim.Native.Nat.{ℕ, _-_}
+use Prim.Native.Nat.{ℕ, _-_, _<_, _≤_}
+use mathlib.Core.Path.{_≡_}
 use mathlib.Core.List.{List}
 use mathlib.Core.Bool.{Bool, true, _&&_}
 use lib.Dec.{ltb, leb, eqb}
@@ -8,7 +9,7 @@ use lib.ListN.{length, getD}
 use Rattle.base.specs.Pick.{pick}
 use Rattle.base.specs.Refusal as refusal
 use Rattle.property.specs.Parts.{propertiesOf, xidStart, xidContinue, classOf}
-use Rattle.property.specs.Table.{propertiesAt, startAt}
+use Rattle.property.specs.Table.{propertiesAt, startAt, Rises}
 use Rattle.fitness.specs.Small.{smallTable}
 use Rattle.fitness.specs.First.{firstBad}
 use Rattle.fitness.specs.declared.TableCheck.{TableCheck}
@@ -71,3 +72,16 @@ numberOf (BadTable place) = refusal.badTable
 abbrev pub placeOf : TableCheck → ℕ
 placeOf Fit = 0
 placeOf (BadTable place) = place
+
+-- ---- a fit table
+
+-- no run is bad
+abbrev pub RunsOk : List ℕ → Type 0
+RunsOk table = (i : ℕ) → i < length table → runOk table i ≡ true
+
+-- what holds of a table that is not refused; `FitLaws.fit-by` proves that nothing else is asked
+pub record FitTable (table : List ℕ) : Type 0 where
+  pub most : length table ≤ countMost
+  pub rises : Rises table
+  pub runs : RunsOk table
+  pub ascii : (c : ℕ) → c < asciiCount → propertiesAt table c ≡ propertiesAt smallTable c

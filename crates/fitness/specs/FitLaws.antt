@@ -1,5 +1,5 @@
 -- Laws of `tableCheck`.
---     FitTable, fit-of, fit-by            what holds of a fit table, and that nothing else is asked
+--     fit-of, fit-by                      what holds of a fit table, and that nothing else is asked
 --     bad-count, bad-run, bad-ascii       the place of refusal 2 in each of its cases, which exclude each other and leave nothing out
 --     class-most, start-continues         what a fit table says of any code point
 --     ascii-rule                          a rule that the small table keeps at each of the code points 0 to 127, every fit table keeps
@@ -22,7 +22,7 @@ use Rattle.property.specs.TableLaws.{of-runs}
 use Rattle.fitness.specs.Small.{smallTable}
 use Rattle.fitness.specs.First.{firstBad}
 use Rattle.fitness.specs.FirstLaws.{good-before, none-bad, some-bad, is-first}
-use Rattle.fitness.specs.Fit.{startOk, propertiesOk, runOk, asciiOk, countOk, tableCheck, numberOf}
+use Rattle.fitness.specs.Fit.{startOk, propertiesOk, runOk, asciiOk, countOk, tableCheck, numberOf, RunsOk, FitTable}
 use Rattle.fitness.specs.declared.TableCheck.{TableCheck}
 use Rattle.fitness.specs.declared.TableCheck.the-variants.{Fit, BadTable}
 
@@ -35,13 +35,10 @@ passed false r i e = absurd (let z : _≡_ {A = ℕ} 0 1 = cc in omega arith)
 -- ---- the run rules, at every run
 
 module _ (table : List ℕ) where
-  abbrev pub RunsOk : Type 0
-  RunsOk = (i : ℕ) → i < length table → runOk table i ≡ true
-
-  pub runs-done : length table ≤ firstBad (runOk table) 0 (length table) → RunsOk
+  pub runs-done : length table ≤ firstBad (runOk table) 0 (length table) → RunsOk table
   runs-done h i l = good-before (runOk table) 0 (length table) i (omega arith) (omega arith)
 
-  module _ (runs : RunsOk) where
+  module _ (runs : RunsOk table) where
     first-start : 0 < length table → startAt table 0 ≡ 0
     unfolding runOk startOk
     first-start h = eqb-true (startAt table 0) 0 (and-left (startOk table 0) _ (runs 0 h))
@@ -70,12 +67,6 @@ module _ (table : List ℕ) where
     fine c = of-runs (λ (p : ℕ). propertiesOk p ≡ true) table c refl run-fine
 
 -- ---- a fit table
-
-pub record FitTable (table : List ℕ) : Type 0 where
-  pub most : length table ≤ 8000
-  pub rises : Rises table
-  pub runs : RunsOk table
-  pub ascii : (c : ℕ) → c < 128 → propertiesAt table c ≡ propertiesAt smallTable c
 
 module _ (table : List ℕ) where
   pub fit-of : tableCheck table ≡ Fit → FitTable table

@@ -18,8 +18,8 @@ use Rattle.property.specs.Table.{lastFrom, propertiesAt}
 use Rattle.fitness.specs.Small.{smallTable}
 use Rattle.fitness.specs.Ascii.{isLetter, isNamePart, isPrintable, asciiClass}
 use Rattle.fitness.specs.First.{firstBad}
-use Rattle.fitness.specs.Fit.{startOk, propertiesOk, runOk, tableCheck}
-use Rattle.fitness.specs.FitLaws.{FitTable, fit-of, ascii-rule}
+use Rattle.fitness.specs.Fit.{startOk, propertiesOk, runOk, tableCheck, FitTable}
+use Rattle.fitness.specs.FitLaws.{fit-of, ascii-rule}
 use Rattle.fitness.specs.declared.TableCheck.the-variants.{Fit}
 
 pub small-fit : tableCheck smallTable ≡ Fit

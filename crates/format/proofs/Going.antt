@@ -17,8 +17,8 @@ use Rattle.base.specs.Refusal.{formatMost}
 use Rattle.utf8.specs.Encode.{encode, encodeAll, WellFormed}
 use Rattle.utf8.specs.EncodeLaws.{encode-some}
 use Rattle.utf8.specs.Read.{readAt}
-use Rattle.utf8.specs.Chars.{chars}
-use Rattle.utf8.specs.CharsLaws.{Stops, At, at-char, After, after-chars}
+use Rattle.utf8.specs.Chars.{chars, At}
+use Rattle.utf8.specs.CharsLaws.{Stops, at-char, After, after-chars}
 use Rattle.utf8.specs.declared.Read.the-variants.{Char}
 use Rattle.format.specs.Parse as parse
 use Rattle.format.specs.Parse.{indexMax, peeked, isDigit, digitsFrom, consumeU32, armOf, onConsumed, bodyOf, Parsed, parseFrom, lenUtf8}

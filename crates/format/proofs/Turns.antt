@@ -12,8 +12,8 @@ use lib.ListN.{length, take, drop, length-append}
 use Rattle.base.specs.Refusal.{formatMost}
 use Rattle.utf8.specs.Encode.{encode, encodeAll}
 use Rattle.utf8.specs.EncodeLaws.{encode1}
-use Rattle.utf8.specs.Chars.{chars}
-use Rattle.utf8.specs.CharsLaws.{At, at-char}
+use Rattle.utf8.specs.Chars.{chars, At}
+use Rattle.utf8.specs.CharsLaws.{at-char}
 use Rattle.cluster.specs.First.{goOn, firstEnd}
 use Rattle.format.specs.Options.{withAlignment, withWidth, withPrecision, withRepresentation, withFill}
 use Rattle.format.specs.Parse as parse

@@ -3,7 +3,7 @@
 -- Assumes nothing.
 use Prim.Native.Nat.{ℕ}
 use mathlib.Core.Path.{_≡_, sym, _∙_}
-use Rattle.base.specs.Cases.{cases}
+use Rattle.base.specs.CasesLaws.{cases}
 use Rattle.utf8.specs.declared.Utf8Check.{Utf8Check}
 use Rattle.utf8.specs.declared.Utf8Check.the-variants as utf8
 use Rattle.fitness.specs.declared.TableCheck.{TableCheck}

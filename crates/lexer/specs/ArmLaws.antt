@@ -15,12 +15,12 @@ use Rattle.base.specs.PickLaws.{by-eq, by-test}
 use Rattle.base.specs.RangeLaws.{is-inside, under, over}
 use Rattle.utf8.specs.Encode.{WellFormed}
 use Rattle.utf8.specs.Read.{isTail}
-use Rattle.utf8.specs.Chars.{chars}
-use Rattle.utf8.specs.CharsLaws.{At, not-ascii}
+use Rattle.utf8.specs.Chars.{chars, At}
+use Rattle.utf8.specs.CharsLaws.{not-ascii}
 use Rattle.property.specs.Parts.{xidStart}
 use Rattle.property.specs.Table.{propertiesAt}
 use Rattle.fitness.specs.Ascii.{isLetter}
-use Rattle.fitness.specs.FitLaws.{FitTable}
+use Rattle.fitness.specs.Fit.{FitTable}
 use Rattle.fitness.specs.SmallLaws.{ascii-start}
 use Rattle.token.specs.Kind.{stringEnd, curlyOpen}
 use Rattle.text.specs.Bytes.{byteAt}

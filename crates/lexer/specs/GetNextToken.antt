@@ -4,8 +4,7 @@
 -- clusters (1 without GB9c, 2 with it).
 -- Assumes nothing.
 use Prim.Native.Nat.{ℕ}
-use mathlib.Core.Bool.{Bool, _||_}
-use mathlib.Core.List.{List, [], _∷_}
+use mathlib.Core.List.{List, []}
 use lib.Dec.{eqb}
 use lib.ListN.{getD, drop}
 use Rattle.base.specs.Pick.{pick}

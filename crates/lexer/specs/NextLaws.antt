@@ -8,8 +8,7 @@ use mathlib.Core.List.{List}
 use lib.Dec.{eqb}
 use lib.ListN.{length, getD, drop}
 use Rattle.utf8.specs.Encode.{WellFormed}
-use Rattle.utf8.specs.Chars.{chars}
-use Rattle.utf8.specs.CharsLaws.{At}
+use Rattle.utf8.specs.Chars.{chars, At}
 use Rattle.text.specs.Bytes.{byteAt}
 use Rattle.text.specs.FollowLaws.{here, head-is, ascii-head}
 use Rattle.lexer.specs.GetNextToken.{nextChar}

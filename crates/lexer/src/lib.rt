@@ -10,7 +10,7 @@ ghost use Rattle.base.specs.Refusal.{sourceMost};
 ghost use Rattle.position.specs.Position.{columnMost};
 ghost use Rattle.utf8.specs.Read.{isTail};
 ghost use Rattle.property.specs.Table.{propertiesAt};
-ghost use Rattle.fitness.specs.FitLaws.{FitTable};
+ghost use Rattle.fitness.specs.Fit.{FitTable};
 ghost use Rattle.text.specs.Bytes.{byteAt};
 ghost use Rattle.text.specs.Stands.{Stands, charsFrom};
 ghost use Rattle.state.specs.Lexer.{reachOf};

@@ -20,12 +20,12 @@ use lib.Seq.{drop-cons}
 use borrow.Author.Tests.{lt-ltb, eqb-true}
 use Rattle.base.specs.Pick.{pick}
 use Rattle.base.specs.PickLaws.{by-test, by-lt}
-use Rattle.base.specs.Cases.{pick-yes, pick-no}
+use Rattle.base.specs.CasesLaws.{pick-yes, pick-no}
 use Rattle.position.specs.Place.{alongBy}
 use Rattle.position.specs.declared.Reach.{Reach}
-use Rattle.utf8.specs.Chars.{chars}
+use Rattle.utf8.specs.Chars.{chars, At}
 use Rattle.utf8.specs.Encode.{WellFormed}
-use Rattle.utf8.specs.CharsLaws.{At, chars-well, rest-at}
+use Rattle.utf8.specs.CharsLaws.{chars-well, rest-at}
 use Rattle.token.specs.Kind.{id, dot, else, elseIf}
 use Rattle.words.specs.Words.{isWord, startsWith, elseWord, elseIfWord, rWord}
 use Rattle.keywords.specs.Keywords.{keywordOf}

@@ -7,7 +7,7 @@ ghost use Rattle.base.specs.Refusal.{sourceMost};
 ghost use Rattle.position.specs.Position.{columnMost};
 ghost use Rattle.utf8.specs.Chars.{chars};
 ghost use Rattle.property.specs.Table.{propertiesAt};
-ghost use Rattle.fitness.specs.FitLaws.{FitTable};
+ghost use Rattle.fitness.specs.Fit.{FitTable};
 ghost use Rattle.text.specs.Bytes.{byteAt};
 ghost use Rattle.text.specs.Chars.{LenIs};
 ghost use Rattle.text.specs.Stands.{Stands, charsFrom};

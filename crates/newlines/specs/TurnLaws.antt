@@ -18,11 +18,10 @@ use Rattle.position.specs.Place.{lineBy}
 use Rattle.position.specs.declared.Reach.{Reach}
 use Rattle.utf8.specs.Encode.{WellFormed}
 use Rattle.utf8.specs.EncodeLaws.{encode1}
-use Rattle.utf8.specs.Chars.{chars}
-use Rattle.utf8.specs.CharsLaws.{At}
+use Rattle.utf8.specs.Chars.{chars, At}
 use Rattle.property.specs.Parts.{widthOf}
 use Rattle.property.specs.Table.{propertiesAt}
-use Rattle.fitness.specs.FitLaws.{FitTable}
+use Rattle.fitness.specs.Fit.{FitTable}
 use Rattle.fitness.specs.Ascii.{isPrintable}
 use Rattle.fitness.specs.SmallLaws.{ascii-width}
 use Rattle.token.specs.Kind.{newLine}

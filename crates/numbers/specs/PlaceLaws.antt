@@ -15,7 +15,7 @@ use mathlib.Core.List.{List}
 use lib.ListN.{length, drop}
 use borrow.Author.Tests.{le-ltb, eq-eqb, eqb-true}
 use Rattle.base.specs.PickLaws.{split-lt}
-use Rattle.base.specs.Cases.{pick-yes, pick-no, or-yes, or-no, and-yes, and-no, told-yes, told-no, told-not, told-is}
+use Rattle.base.specs.CasesLaws.{pick-yes, pick-no, or-yes, or-no, and-yes, and-no, told-yes, told-no, told-not, told-is}
 use Rattle.base.specs.Refusal.{sourceMost}
 use Rattle.position.specs.Position.{columnMost}
 use Rattle.position.specs.declared.Reach.{Reach}

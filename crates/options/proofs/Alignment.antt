@@ -12,13 +12,13 @@ use mathlib.Core.List.{List, [], _∷_}
 use lib.Dec.{eqb}
 use lib.ListN.{length, getD, drop}
 use borrow.Author.Tests.{eq-eqb, ne-eqb}
-use Rattle.base.specs.Cases.{and-yes, and-no}
+use Rattle.base.specs.CasesLaws.{and-yes, and-no}
 use Rattle.utf8.specs.Encode.{WellFormed}
 use Rattle.utf8.specs.Chars.{chars}
 use Rattle.utf8.specs.CharsLaws.{After}
 use Rattle.property.specs.Table.{lastFrom, propertiesAt}
 use Rattle.fitness.specs.Small.{smallTable}
-use Rattle.fitness.specs.FitLaws.{FitTable}
+use Rattle.fitness.specs.Fit.{FitTable}
 use Rattle.cluster.specs.First.{firstEnd, firstRest, secondIs}
 use Rattle.cluster.specs.FirstLaws.{first-at, plain, second-by-first}
 use Rattle.text.specs.Bytes.{byteAt}

@@ -11,7 +11,7 @@ ghost use Rattle.base.specs.Refusal.{sourceMost};
 ghost use Rattle.utf8.specs.Encode.{WellFormed};
 ghost use Rattle.utf8.specs.Chars.{chars};
 ghost use Rattle.property.specs.Table.{propertiesAt};
-ghost use Rattle.fitness.specs.FitLaws.{FitTable};
+ghost use Rattle.fitness.specs.Fit.{FitTable};
 ghost use Rattle.text.specs.Stands.{Stands, charsFrom};
 ghost use Rattle.state.specs.Lexer.{reachOf};
 ghost use Rattle.options.specs.ConsumeFormatOptions.{skipBytes, findBrace, consumeFormatOptions};

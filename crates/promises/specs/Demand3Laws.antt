@@ -18,8 +18,8 @@ use Rattle.utf8.specs.Encode.{WellFormed}
 use Rattle.utf8.specs.Read.{isTail}
 use Rattle.utf8.specs.CharsLaws.{fine-of-well}
 use Rattle.property.specs.Table.{propertiesAt}
-use Rattle.fitness.specs.Fit.{tableCheck}
-use Rattle.fitness.specs.FitLaws.{FitTable, fit-of}
+use Rattle.fitness.specs.Fit.{tableCheck, FitTable}
+use Rattle.fitness.specs.FitLaws.{fit-of}
 use Rattle.fitness.specs.declared.TableCheck.the-variants.{Fit}
 use Rattle.input.specs.Input.{baseEdition}
 use Rattle.input.specs.InputLaws.{is-fine}

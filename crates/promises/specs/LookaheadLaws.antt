@@ -11,11 +11,9 @@ use mathlib.Core.Path.{_≡_, refl, sym, ap, subst, _∙_}
 use mathlib.Core.Bool.{Bool, true, false}
 use mathlib.Core.List.{List}
 use mathlib.Core.Option.{some}
-use mathlib.Core.Option as option
 use lib.ListN.{length, getD}
-use borrow.Author.Tests.{ltb-true, leb-true, lt-ltb, le-ltb, le-leb, lt-leb}
+use borrow.Author.Tests.{ltb-true, leb-true, lt-ltb, le-leb, lt-leb}
 use Rattle.base.specs.PickLaws.{split-lt}
-use Rattle.utf8.specs.CharsLaws.{well-of-fine}
 use Rattle.property.specs.Table.{propertiesAt}
 use Rattle.fitness.specs.FitLaws as property
 use Rattle.input.specs.Input.{baseEdition}

@@ -9,11 +9,10 @@ use Rattle.base.specs.Refusal.{none, badTable, listFull, badFile}
 use Rattle.property.specs.Table.{propertiesAt}
 use Rattle.fitness.specs.Small.{smallTable}
 use Rattle.fitness.specs.Fit as table
-use Rattle.fitness.specs.Fit.{countOk, runOk, tableCheck}
-use Rattle.fitness.specs.FitLaws.{RunsOk}
+use Rattle.fitness.specs.Fit.{countOk, runOk, tableCheck, RunsOk}
 use Rattle.fitness.specs.First.{firstBad}
 use Rattle.table_file.specs.File as file
-use Rattle.table_file.specs.File.{markOk, countOf, numbersOf, endOf, fileOf, ReadTableIs}
+use Rattle.table_file.specs.File.{markOk, countOf, numbersOf, endOf, fileOf}
 use Rattle.fitness.specs.declared.TableCheck.{TableCheck}
 use Rattle.fitness.specs.declared.TableCheck.the-variants.{Fit, BadTable}
 use Rattle.table_file.specs.declared.TableFile.{TableFile}

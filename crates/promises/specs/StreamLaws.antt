@@ -6,7 +6,8 @@ use mathlib.Core.List.{List}
 use mathlib.Core.Option.{none}
 use Rattle.base.specs.Refusal.{sourceMost}
 use Rattle.property.specs.Table.{propertiesAt}
-use Rattle.fitness.specs.FitLaws.{FitTable, fit-of}
+use Rattle.fitness.specs.Fit.{FitTable}
+use Rattle.fitness.specs.FitLaws.{fit-of}
 use Rattle.input.specs.Input.{Readable}
 use Rattle.rust.specs.TokenLexer.{TokenLexer, newTokenLexer, getNextToken, handed, StandsStill}
 use Rattle.rust.specs.StillLaws as rust

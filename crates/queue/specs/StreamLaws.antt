@@ -5,24 +5,22 @@
 --     by-next, by-queued        a property of `next`'s answers, and of a look's at the queue, over rows that are shown
 --     by-peek                   a property of `peek`'s answers, by its tests
 -- Assumes nothing.
-use Prim.Native.Nat.{ℕ, zero, suc, _+_, _-_, _≤_, _<_}
+use Prim.Native.Nat.{ℕ, zero, suc, _+_, _≤_, _<_}
 use native.Mathlib.Omega.{arith}
 use mathlib.Core.Path.{_≡_, refl, sym, ap, subst, _∙_}
 use mathlib.Core.Bool.{Bool, true, false}
 use mathlib.Core.List.{List, [], _∷_, _++_}
-use mathlib.Core.Option.{Option, none, some, Option·some-injective, Option·none-ne-some}
+use mathlib.Core.Option.{none, some, Option·some-injective, Option·none-ne-some}
 use lib.ListN.{length, getD}
-use Rattle.base.specs.PickLaws.{by-lt, split-lt, split-eq}
+use Rattle.base.specs.PickLaws.{split-lt, split-eq}
 use Rattle.rows.specs.declared.Row.{Row}
 use Rattle.rows.specs.declared.RowAt.{RowAt}
 use Rattle.rows.specs.declared.RowAt.the-variants.{Fit}
-use Rattle.cursor.specs.Cursor.{queueMost, isFit, recordAt, ahead, movedOn, mustQueue, queuedOne}
-use Rattle.cursor.specs.CursorLaws.{record-at, queued-there}
+use Rattle.cursor.specs.Cursor.{queueMost, isFit, ahead, movedOn, mustQueue, queuedOne}
+use Rattle.cursor.specs.CursorLaws.{queued-there}
 use Rattle.lookahead.specs.Next.{nextOf}
 use Rattle.lookahead.specs.Peek.{queuedAt, peekOf}
 use Rattle.lookahead.specs.AnswerLaws.{next-row, next-none, queued-row, queued-none, peek-far, peek-as-is, peek-full, peek-more}
-use Rattle.cursor.specs.declared.Status.{Status}
-use Rattle.cursor.specs.declared.Status.the-variants.{End, Stuck}
 use Rattle.cursor.specs.declared.Cursor.{Cursor}
 use Rattle.lookahead.specs.declared.Given.{Given}
 use Rattle.lookahead.specs.declared.Given.the-variants as given

@@ -14,7 +14,7 @@ use lib.ListN.{length}
 use Rattle.base.specs.Refusal.{sourceMost}
 use Rattle.position.specs.declared.Place.{Place}
 use Rattle.property.specs.Table.{propertiesAt}
-use Rattle.fitness.specs.FitLaws.{FitTable}
+use Rattle.fitness.specs.Fit.{FitTable}
 use Rattle.token.specs.Kind.{error}
 use Rattle.rows.specs.Row.{room, Packs, putRow, rowFits}
 use Rattle.rows.specs.RowLaws.{put-length, fits-packs}

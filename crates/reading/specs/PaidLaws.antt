@@ -18,7 +18,7 @@ use Rattle.position.specs.declared.Reach.{Reach}
 use Rattle.utf8.specs.Encode.{encode, encodeAll}
 use Rattle.property.specs.Parts.{xidStart}
 use Rattle.property.specs.Table.{propertiesAt}
-use Rattle.fitness.specs.FitLaws.{FitTable}
+use Rattle.fitness.specs.Fit.{FitTable}
 use Rattle.token.specs.Kind as kind
 use Rattle.words.specs.Words.{isWord, startsWith, elseWord, elseIfWord, rWord}
 use Rattle.keywords.specs.Keywords.{keywordOf}

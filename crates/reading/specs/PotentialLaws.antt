@@ -15,7 +15,7 @@ use Rattle.base.specs.PickLaws.{by-test}
 use Rattle.position.specs.Place as place
 use Rattle.position.specs.declared.Place.{Place}
 use Rattle.property.specs.Table.{propertiesAt}
-use Rattle.fitness.specs.FitLaws.{FitTable}
+use Rattle.fitness.specs.Fit.{FitTable}
 use Rattle.token.specs.Kind.{curlyClose}
 use Rattle.token.specs.declared.Token.{Token}
 use Rattle.text.specs.Stands.{Stands}

@@ -1,5 +1,5 @@
 -- The reading of a source by the language alone: its records (document 01, "Records"), and how it stops. It is what lexer.rs's `TokenLexer`
--- hands out, one `LexedToken` after the other, with no list and no room.
+-- hands out, one `LexedToken` after the other, with no list and no room: the crate `rust` proves that.
 -- Assumes nothing.
 use Prim.Native.Nat.{ℕ, zero, suc}
 use mathlib.Core.List.{List, [], _∷_}

@@ -9,7 +9,7 @@ use mathlib.Core.Bool.{true}
 use mathlib.Core.List.{List, [], _∷_}
 use lib.ListN.{length, getD}
 use Rattle.property.specs.Table.{propertiesAt}
-use Rattle.fitness.specs.FitLaws.{FitTable}
+use Rattle.fitness.specs.Fit.{FitTable}
 use Rattle.rows.specs.Row.{rowFits}
 use Rattle.rows.specs.declared.Row.{Row}
 use Rattle.state.specs.declared.Lexer.{Lexer}

@@ -5,7 +5,7 @@ use lexer::What;
 use state::State;
 use utf8::Utf8Check;
 ghost use Prim.Native.Nat.{_≤_};
-ghost use Rattle.fitness.specs.FitLaws.{FitTable};
+ghost use Rattle.fitness.specs.Fit.{FitTable};
 ghost use Rattle.state.specs.State.{startState};
 ghost use Rattle.stepping.specs.Invariant.{Ok};
 

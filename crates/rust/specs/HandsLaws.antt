@@ -4,12 +4,12 @@
 --     reading-hands         from the start
 --     stream-end, stream-stuck   so the rows and the status of a scan stand for the machine's stream
 -- Assumes nothing.
-use Prim.Native.Nat.{ℕ, zero, suc, _-_, _≤_, _<_}
+use Prim.Native.Nat.{ℕ, zero, suc, _≤_, _<_}
 use native.Mathlib.Omega.{arith}
 use mathlib.Core.Path.{_≡_, refl, sym, ap, subst, _∙_}
-use mathlib.Core.Bool.{Bool, true, false, _&&_, and-eq-true-iff}
+use mathlib.Core.Bool.{Bool, true, false, and-eq-true-iff}
 use mathlib.Core.List.{List, [], _∷_}
-use mathlib.Core.Option.{Option, none, some}
+use mathlib.Core.Option.{none, some}
 use lib.Dec.{eqb}
 use lib.ListN.{length}
 use borrow.Author.Tests.{eqb-true, eq-eqb}
@@ -18,13 +18,13 @@ use Rattle.base.specs.Refusal.{sourceMost}
 use Rattle.position.specs.declared.Place.{Place}
 use Rattle.utf8.specs.Encode.{WellFormed}
 use Rattle.property.specs.Table.{propertiesAt}
-use Rattle.fitness.specs.FitLaws.{FitTable}
+use Rattle.fitness.specs.Fit.{FitTable}
 use Rattle.token.specs.Kind.{error}
 use Rattle.token.specs.declared.Token.{Token}
 use Rattle.rows.specs.declared.Row.{Row}
 use Rattle.state.specs.Lexer.{settled, remembered, atPlace, plainToken}
 use Rattle.state.specs.State.{startState}
-use Rattle.state.specs.Stack.{top, rest, changed, codesOf, stackOf, Agrees}
+use Rattle.state.specs.Stack.{top, changed, codesOf, stackOf, Agrees}
 use Rattle.state.specs.declared.Change.{Change}
 use Rattle.state.specs.declared.Change.the-variants.{Keep, Push, Pop, Replace}
 use Rattle.state.specs.declared.Lexer.{Lexer}

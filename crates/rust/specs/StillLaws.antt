@@ -5,7 +5,7 @@
 --     still-for-ever   so does every call
 --     none-for-ever    a call that answers None is followed by such calls only; for-ever: what a call repeats, every call repeats
 -- Assumes nothing.
-use Prim.Native.Nat.{ℕ, zero, suc, _+_, _-_, _≤_, _<_}
+use Prim.Native.Nat.{ℕ, zero, suc, _+_, _≤_, _<_}
 use native.Mathlib.Omega.{arith}
 use mathlib.Core.Path.{_≡_, refl, sym, ap, _∙_}
 use mathlib.Core.Bool.{Bool, true, false}
@@ -16,7 +16,7 @@ use lib.Dec.{eqb}
 use lib.ListN.{take, drop}
 use Rattle.base.specs.Pick.{pick}
 use Rattle.base.specs.PickLaws.{by-test}
-use Rattle.position.specs.Place.{alongBy, lineBy}
+use Rattle.position.specs.Place.{alongBy}
 use Rattle.position.specs.declared.Reach.{Reach}
 use Rattle.utf8.specs.Encode.{encodeAll}
 use Rattle.property.specs.Parts.{xidStart}
@@ -30,10 +30,7 @@ use Rattle.symbols.specs.SymbolsLaws.{symbol-is}
 use Rattle.symbols.specs.declared.SymbolAt.{SymbolAt}
 use Rattle.symbols.specs.declared.SymbolAt.the-variants as symbol
 use Rattle.text.specs.Tests.{cr, lf, minus, isWhitespace, isLineEnd, isDigit}
-use Rattle.text.specs.Count.{lenUtf8}
-use Rattle.text.specs.Follow.{nextIs, Followed, Closed, Open, Stopped, followIn, follow, dropBytes}
-use Rattle.text.specs.declared.Turn.{Turn}
-use Rattle.text.specs.declared.Turn.the-variants.{Pass, Line, Close, Stuck}
+use Rattle.text.specs.Follow.{nextIs, Followed, Closed, Open, Stopped, follow, dropBytes}
 use Rattle.state.specs.Modes.{literal, templateExprFormat, rawStart, rawEnd, tagOf, delimiterOf, quoteOf}
 use Rattle.state.specs.Lexer.{reachOf, stuckAt, settled, remembered, plainToken}
 use Rattle.state.specs.declared.Lexer.{Lexer}

@@ -9,7 +9,7 @@ ghost use lib.Dec.{ltb};
 ghost use Rattle.base.specs.Pick.{pick};
 ghost use Rattle.base.specs.Refusal.{sourceMost};
 ghost use Rattle.property.specs.Table.{propertiesAt};
-ghost use Rattle.fitness.specs.FitLaws.{FitTable};
+ghost use Rattle.fitness.specs.Fit.{FitTable};
 ghost use Rattle.rows.specs.Row.{room};
 ghost use Rattle.state.specs.Lexer.{reachOf};
 ghost use Rattle.stepping.specs.Invariant.{Ok};

@@ -18,7 +18,7 @@ use Rattle.base.specs.PickLaws.{split-lt}
 use Rattle.position.specs.declared.Place.{Place}
 use Rattle.utf8.specs.Read.{isTail}
 use Rattle.property.specs.Table.{propertiesAt}
-use Rattle.fitness.specs.FitLaws.{FitTable}
+use Rattle.fitness.specs.Fit.{FitTable}
 use Rattle.token.specs.Kind.{error}
 use Rattle.token.specs.declared.Token.{Token}
 use Rattle.text.specs.Stands.{Stands, charsFrom}

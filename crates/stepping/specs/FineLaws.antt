@@ -17,10 +17,11 @@ use Rattle.position.specs.Place.{alongBy}
 use Rattle.position.specs.declared.Reach.{Reach}
 use Rattle.utf8.specs.Encode.{encode, encodeAll, WellFormed}
 use Rattle.utf8.specs.Read.{isTail}
-use Rattle.utf8.specs.CharsLaws.{At, chars-well, ascii-byte}
+use Rattle.utf8.specs.Chars.{At}
+use Rattle.utf8.specs.CharsLaws.{chars-well, ascii-byte}
 use Rattle.property.specs.Parts.{xidStart}
 use Rattle.property.specs.Table.{propertiesAt}
-use Rattle.fitness.specs.FitLaws.{FitTable}
+use Rattle.fitness.specs.Fit.{FitTable}
 use Rattle.symbols.specs.Symbols.{symbolOf}
 use Rattle.symbols.specs.SymbolsLaws.{symbol-is}
 use Rattle.symbols.specs.declared.SymbolAt.{SymbolAt}

@@ -16,7 +16,7 @@ use Rattle.position.specs.declared.Place.{Place}
 use Rattle.utf8.specs.Encode.{WellFormed}
 use Rattle.utf8.specs.Read.{isTail}
 use Rattle.property.specs.Table.{propertiesAt}
-use Rattle.fitness.specs.FitLaws.{FitTable}
+use Rattle.fitness.specs.Fit.{FitTable}
 use Rattle.state.specs.Modes.{rawEnd, tagOf, delimiterOf}
 use Rattle.state.specs.Lexer.{reachOf, settled, remembered}
 use Rattle.state.specs.State.{startState, changedBy, Fits}

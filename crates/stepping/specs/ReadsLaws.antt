@@ -13,7 +13,7 @@ use Rattle.position.specs.declared.Place.{Place}
 use Rattle.position.specs.Place as place
 use Rattle.utf8.specs.Read.{isTail}
 use Rattle.property.specs.Table.{propertiesAt}
-use Rattle.fitness.specs.FitLaws.{FitTable}
+use Rattle.fitness.specs.Fit.{FitTable}
 use Rattle.token.specs.Kind.{error}
 use Rattle.token.specs.Detail.{fits}
 use Rattle.token.specs.declared.Token.{Token}

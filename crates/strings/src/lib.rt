@@ -8,7 +8,7 @@ ghost use Rattle.position.specs.Position.{columnMost};
 ghost use Rattle.utf8.specs.Encode.{WellFormed};
 ghost use Rattle.utf8.specs.Chars.{chars};
 ghost use Rattle.property.specs.Table.{propertiesAt};
-ghost use Rattle.fitness.specs.FitLaws.{FitTable};
+ghost use Rattle.fitness.specs.Fit.{FitTable};
 ghost use Rattle.text.specs.Follow.{turnAt};
 ghost use Rattle.text.specs.Stands.{Stands, charsFrom};
 ghost use Rattle.state.specs.Lexer.{reachOf};

@@ -15,7 +15,7 @@ use mathlib.Core.Bool.{true, false}
 use lib.ListN.{length, getD, set, take, drop, length-set}
 use lib.Seq.{paste, paste-zero, paste-suc, take-all, take-at}
 use borrow.Author.Tests.{le-leb, lt-leb}
-use Rattle.base.specs.Cases.{cases}
+use Rattle.base.specs.CasesLaws.{cases}
 use Rattle.table_file.specs.File.{mark, markOk, number32, numbersIn, onFit, readTable, rowAfter, ReadTableIs}
 use Rattle.table_file.specs.FileLaws.{length-numbers, number-at, later}
 use Rattle.fitness.specs.Fit.{tableCheck}

@@ -14,7 +14,7 @@ use Rattle.utf8.specs.LengthsLaws.{char-read}
 use Rattle.utf8.specs.CharsLaws.{at-char, rest-at, ascii-at}
 use Rattle.utf8.specs.declared.Read.the-variants as read
 use Rattle.property.specs.Table.{propertiesAt}
-use Rattle.fitness.specs.FitLaws.{FitTable}
+use Rattle.fitness.specs.Fit.{FitTable}
 use Rattle.text.specs.Ascii.{asciiProperties}
 use Rattle.text.specs.Chars.{CharIs}
 use Rattle.text.specs.CountLaws.{ascii-properties}

@@ -18,7 +18,7 @@ use Rattle.utf8.specs.Chars.{chars}
 use Rattle.utf8.specs.CharsLaws.{at-char, rest-at, ascii-at}
 use Rattle.property.specs.Parts.{widthOf}
 use Rattle.property.specs.Table.{propertiesAt}
-use Rattle.fitness.specs.FitLaws.{FitTable}
+use Rattle.fitness.specs.Fit.{FitTable}
 use Rattle.text.specs.Tests.{testOf, testUtf8Of, atOnce}
 use Rattle.text.specs.Count.{countWhile, runUtf8}
 use Rattle.text.specs.Stands.{Stands}

@@ -6,7 +6,7 @@ use mathlib.Core.List.{List}
 use lib.ListN.{drop}
 use Rattle.utf8.specs.Encode.{WellFormed}
 use Rattle.utf8.specs.Read.{readAt}
-use Rattle.utf8.specs.CharsLaws.{At}
+use Rattle.utf8.specs.Chars.{At}
 use Rattle.utf8.specs.declared.Read.the-variants as read
 use Rattle.property.specs.Table.{propertiesAt}
 use Rattle.text.specs.declared.Char.{Char}

@@ -23,14 +23,15 @@ use Rattle.position.specs.Place.{alongBy}
 use Rattle.position.specs.declared.Reach.{Reach}
 use Rattle.utf8.specs.Encode.{WellFormed}
 use Rattle.utf8.specs.Read.{readAt}
-use Rattle.utf8.specs.Chars.{chars}
-use Rattle.utf8.specs.CharsLaws.{At, at-char, rest-at, ascii-at, ascii-byte}
+use Rattle.utf8.specs.Chars.{chars, At}
+use Rattle.utf8.specs.CharsLaws.{at-char, rest-at, ascii-at, ascii-byte}
 use Rattle.utf8.specs.declared.Read.the-variants.{Char}
 use Rattle.property.specs.Parts.{xidContinue, widthOf}
 use Rattle.property.specs.Table.{lastFrom, propertiesAt}
 use Rattle.fitness.specs.Small.{smallTable}
 use Rattle.fitness.specs.First.{firstBad}
-use Rattle.fitness.specs.FitLaws.{FitTable, ascii-rule}
+use Rattle.fitness.specs.Fit.{FitTable}
+use Rattle.fitness.specs.FitLaws.{ascii-rule}
 use Rattle.fitness.specs.Ascii.{isLetter, isNamePart, isPrintable}
 use Rattle.text.specs.Bytes.{byteAt}
 use Rattle.text.specs.Tests.{isWhitespace, isBinaryDigit, isOctalDigit, isDecimalDigit, isHexDigit, isLineEnd, testOf, testUtf8, testUtf8Of, atOnce}

@@ -23,8 +23,8 @@ use Rattle.position.specs.Place.{alongBy, lineBy}
 use Rattle.position.specs.declared.Reach.{Reach}
 use Rattle.utf8.specs.Encode.{encode, WellFormed}
 use Rattle.utf8.specs.Read.{readAt}
-use Rattle.utf8.specs.Chars.{chars, charsIn}
-use Rattle.utf8.specs.CharsLaws.{At, Stops, at-char, rest-at, never-stops, ascii-at, ascii-byte}
+use Rattle.utf8.specs.Chars.{chars, charsIn, At}
+use Rattle.utf8.specs.CharsLaws.{Stops, at-char, rest-at, never-stops, ascii-at, ascii-byte}
 use Rattle.utf8.specs.declared.Read.{Read}
 use Rattle.utf8.specs.declared.Read.the-variants.{Char, Bad, Cut}
 use Rattle.text.specs.Bytes.{byteAt}

@@ -4,7 +4,7 @@
 use Prim.Native.Nat.{ℕ}
 use mathlib.Core.Path.{_≡_, sym, ap, _∙_}
 use mathlib.Core.Bool.{Bool, true, false}
-use Rattle.base.specs.Cases.{cases}
+use Rattle.base.specs.CasesLaws.{cases}
 use Rattle.uax29.specs.Uax29.{pairRule, onOpen}
 use Rattle.uax29.specs.declared.Pair.{Pair}
 use Rattle.uax29.specs.declared.Pair.the-variants.{Joined, Broken, Open}

@@ -15,7 +15,7 @@ use lib.ListN.{length, getD}
 use borrow.Author.Tests.{eqb-true, eqb-false, eq-eqb, ne-eqb}
 use Rattle.base.specs.Pick.{pick}
 use Rattle.base.specs.PickLaws.{split-eq}
-use Rattle.base.specs.Cases.{or-yes, and-yes}
+use Rattle.base.specs.CasesLaws.{or-yes, and-yes}
 use Rattle.property.specs.Parts.{classOf, isPict, incbOf, extend, regionalIndicator, consonant, incbExtend, linker}
 use Rattle.uax29.specs.Uax29.{endsPict, endsOdd, endsConsonant, endsLinked}
 

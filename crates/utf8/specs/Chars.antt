@@ -1,8 +1,11 @@
 -- All of a list of bytes: its code points, and whether it is well formed (RFC 3629, section 4: UTF8-octets = *( UTF8-char )).
 -- Both go through the list byte by byte. The number k is how many bytes are still to be passed over before a character begins.
 -- Assumes nothing.
-use Prim.Native.Nat.{ℕ, zero, suc}
-use mathlib.Core.List.{List, [], _∷_}
+use Prim.Native.Nat.{ℕ, zero, suc, _+_, _<_, _≤_}
+use mathlib.Core.Path.{_≡_}
+use mathlib.Core.List.{List, [], _∷_, _++_}
+use lib.ListN.{length, drop}
+use Rattle.utf8.specs.Encode.{Scalar, encode}
 use Rattle.utf8.specs.Read.{decodeHead}
 use Rattle.utf8.specs.declared.Read.{Read}
 use Rattle.utf8.specs.declared.Read.the-variants.{Char, Bad, Cut}
@@ -37,3 +40,12 @@ checkIn i zero (b ∷ bs) = onRead (decodeHead (b ∷ bs)) (λ c n. checkIn (suc
 
 abbrev pub checkFrom : ℕ → List ℕ → Utf8Check
 checkFrom i l = checkIn i 0 l
+
+-- the character c stands at the place i of s, with n bytes; the code points go on behind it
+pub record At (s : List ℕ) (i c n : ℕ) : Type 0 where
+  pub scalar : Scalar c
+  pub width : length (encode c) ≡ n
+  pub bytes : drop i s ≡ encode c ++ drop (i + n) s
+  pub some : 0 < n
+  pub fits : i + n ≤ length s
+  pub step : chars (drop i s) ≡ c ∷ chars (drop (i + n) s)

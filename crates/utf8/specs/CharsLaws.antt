@@ -1,5 +1,5 @@
 -- Laws of `chars` and `checkFrom`: use these, and not the definitions' text.
---     At, at-char              what holds where `readAt` finds a character at the place i: what a caller's turn uses
+--     at-char                  what holds where `readAt` finds a character at the place i: what a caller's turn uses
 --     chars-at, check-at       one step of `chars` and `checkFrom` over that character
 --     bad-at, cut-at           the answer of `checkFrom` where there is none
 --     end-cut, chars-end, check-end    at the end
@@ -21,12 +21,12 @@ use lib.ListN.{length, getD, take, drop, length-append, length-drop, take-append
 use lib.Seq.{drop-drop, drop-cons, getD-drop, drop-append-seam}
 use Rattle.base.specs.PickLaws.{split-lt}
 use Rattle.base.specs.Range.{inside}
-use Rattle.utf8.specs.Encode.{Scalar, Scalars, encode, encodeAll, WellFormed}
+use Rattle.utf8.specs.Encode.{Scalars, encode, encodeAll, WellFormed}
 use Rattle.utf8.specs.EncodeLaws.{encode1, all-append, scalars-drop}
 use Rattle.utf8.specs.Read.{seqLen, secondOk, fourth, third, second, headOf, decodeHead, readAt}
 use Rattle.utf8.specs.GrammarLaws.{Sound, found1}
 use Rattle.utf8.specs.ReadLaws.{sound, complete}
-use Rattle.utf8.specs.Chars.{charsIn, chars, checkIn, checkFrom}
+use Rattle.utf8.specs.Chars.{charsIn, chars, checkIn, checkFrom, At}
 use Rattle.utf8.specs.declared.Read.{Read}
 use Rattle.utf8.specs.declared.Read.the-variants.{Char, Bad, Cut}
 use Rattle.utf8.specs.declared.Utf8Check.the-variants.{Fine, BadAt, CutAt}
@@ -84,14 +84,6 @@ check-cut i [] h e = absurd (omega arith)
 check-cut i (b ∷ bs) h e = rw e
 
 -- ---- the same at a place of the whole
-
-pub record At (s : List ℕ) (i c n : ℕ) : Type 0 where
-  pub scalar : Scalar c
-  pub width : length (encode c) ≡ n
-  pub bytes : drop i s ≡ encode c ++ drop (i + n) s
-  pub some : 0 < n
-  pub fits : i + n ≤ length s
-  pub step : chars (drop i s) ≡ c ∷ chars (drop (i + n) s)
 
 module _ (s : List ℕ) (i : ℕ) where
   pub chars-at : (c n : ℕ) → readAt s i ≡ Char c n → chars (drop i s) ≡ c ∷ chars (drop (i + n) s)

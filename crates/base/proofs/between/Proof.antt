@@ -1,6 +1,6 @@
 -- `base::between` meets its contract: each return is a case of `inside`. Assumes nothing.
 use mathlib.Core.Path.{sym}
-use Rattle.base.specs.Cases.{cases}
+use Rattle.base.specs.CasesLaws.{cases}
 use Rattle.base.specs.Range.{inside}
 use Rattle.base.proofs.between.Statement.{statement}
 use Rattle.base.proofs.between.Tie as tie

@@ -11,7 +11,8 @@ use lib.ListN.{length}
 use denote.Ref.{now}
 use Rattle.base.specs.PickLaws.{split-lt}
 use Rattle.utf8.specs.Read.{readAt}
-use Rattle.utf8.specs.CharsLaws.{Stops, At, at-char, never-stops}
+use Rattle.utf8.specs.Chars.{At}
+use Rattle.utf8.specs.CharsLaws.{Stops, at-char, never-stops}
 use Rattle.utf8.specs.declared.Read.the-variants.{Char}
 use Rattle.utf8.proofs.Tags.{stopped}
 use Rattle.property.specs.Table.{propertiesAt}

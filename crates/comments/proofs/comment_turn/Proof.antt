@@ -4,7 +4,7 @@ use mathlib.Core.Path.{_≡_, sym, _∙_}
 use mathlib.Core.Bool.{false}
 use mathlib.Core.Logic.{⊎-elim}
 use denote.Ref.{now}
-use Rattle.base.specs.Cases.{cases, pick-no}
+use Rattle.base.specs.CasesLaws.{cases, pick-no}
 use Rattle.text.specs.Tests.{hash, minus}
 use Rattle.newlines.specs.TurnLaws.{isPair, printable-at}
 use Rattle.comments.specs.CommentLaws.{comment-at}

@@ -3,7 +3,7 @@ use borrow.Author.Needs.{needs}
 use native.Mathlib.Omega.{arith}
 use mathlib.Core.Path.{_≡_, sym, ap, subst, _∙_}
 use denote.Ref.{now}
-use Rattle.base.specs.Cases.{pick-yes, pick-no, told-yes, told-no}
+use Rattle.base.specs.CasesLaws.{pick-yes, pick-no, told-yes, told-no}
 use Rattle.position.specs.Place.{alongBy}
 use Rattle.position.specs.declared.Reach.{Reach}
 use Rattle.token.specs.Kind.{commentSingle}

@@ -1,7 +1,7 @@
 -- `property::check_table` meets its contract: each return is a case of `tableCheck`. Assumes nothing.
 use borrow.Author.Needs.{needs}
 use mathlib.Core.Path.{sym}
-use Rattle.base.specs.Cases.{cases}
+use Rattle.base.specs.CasesLaws.{cases}
 use Rattle.fitness.specs.Fit.{tableCheck}
 use Rattle.fitness.specs.FitLaws.{runs-done, runs-rise}
 use Rattle.fitness.proofs.check_table.Statement.{statement}

@@ -1,7 +1,7 @@
 -- `property::start_ok` meets its contract: each return is a case of `startOk`. Assumes nothing.
 use borrow.Author.Needs.{needs}
 use mathlib.Core.Path.{sym}
-use Rattle.base.specs.Cases.{cases}
+use Rattle.base.specs.CasesLaws.{cases}
 use Rattle.fitness.specs.Fit.{startOk}
 use Rattle.fitness.proofs.start_ok.Statement.{statement}
 use Rattle.fitness.proofs.start_ok.Tie as tie

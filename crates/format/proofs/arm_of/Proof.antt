@@ -1,7 +1,7 @@
 -- `format::arm_of` meets its contract: each return is a case of `armOf`. Assumes nothing.
 use borrow.Author.Needs.{needs}
 use mathlib.Core.Path.{sym, _∙_}
-use Rattle.base.specs.Cases.{chain}
+use Rattle.base.specs.CasesLaws.{chain}
 use Rattle.format.specs.Parse.{armOf}
 use Rattle.format.proofs.arm_of.Statement.{statement}
 use Rattle.format.proofs.arm_of.Tie as tie

@@ -1,6 +1,6 @@
 -- `format::char_to_alignment` meets its contract: each way through the tests is a case of it. Assumes nothing.
 use mathlib.Core.Path.{sym}
-use Rattle.base.specs.Cases.{cases}
+use Rattle.base.specs.CasesLaws.{cases}
 use Rattle.format.specs.Parse.{charToAlignment}
 use Rattle.format.proofs.char_to_alignment.Statement.{statement}
 use Rattle.format.proofs.char_to_alignment.Tie as tie

@@ -3,7 +3,7 @@ use borrow.Author.Needs.{needs}
 use native.Mathlib.Omega.{arith}
 use mathlib.Core.Path.{_≡_, sym, _∙_}
 use mathlib.Core.Bool.{true}
-use Rattle.base.specs.Cases.{chain}
+use Rattle.base.specs.CasesLaws.{chain}
 use Rattle.format.specs.Parse.{isDigit, consumeU32}
 use Rattle.format.proofs.Peeks.{digit-is}
 use Rattle.format.proofs.consume_u32.Statement.{statement}

@@ -1,6 +1,6 @@
 -- `format::is_digit` meets its contract: each way through the tests is a case of it. Assumes nothing.
 use mathlib.Core.Path.{sym}
-use Rattle.base.specs.Cases.{cases}
+use Rattle.base.specs.CasesLaws.{cases}
 use Rattle.format.specs.Parse.{isDigit}
 use Rattle.format.proofs.is_digit.Statement.{statement}
 use Rattle.format.proofs.is_digit.Tie as tie

@@ -1,7 +1,7 @@
 -- `format::is_width` meets its contract: each way through the tests is a case of it. Assumes nothing.
 use borrow.Author.Needs.{needs}
 use mathlib.Core.Path.{sym}
-use Rattle.base.specs.Cases.{cases}
+use Rattle.base.specs.CasesLaws.{cases}
 use Rattle.format.proofs.is_width.Statement.{statement}
 use Rattle.format.proofs.is_width.Tie as tie
 

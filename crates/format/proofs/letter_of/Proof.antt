@@ -1,7 +1,7 @@
 -- `format::letter_of` meets its contract: each return is a case of `letterOf`. Assumes nothing.
 use borrow.Author.Needs.{needs}
 use mathlib.Core.Path.{sym, _∙_}
-use Rattle.base.specs.Cases.{chain}
+use Rattle.base.specs.CasesLaws.{chain}
 use Rattle.format.specs.Parse.{letterOf}
 use Rattle.format.proofs.letter_of.Statement.{statement}
 use Rattle.format.proofs.letter_of.Tie as tie

@@ -1,6 +1,6 @@
 -- `format::representation_of` meets its contract: each return is a case of `representationOf`. Assumes nothing.
 use mathlib.Core.Path.{sym}
-use Rattle.base.specs.Cases.{chain}
+use Rattle.base.specs.CasesLaws.{chain}
 use Rattle.format.specs.Parse.{representationOf}
 use Rattle.format.proofs.representation_of.Statement.{statement}
 use Rattle.format.proofs.representation_of.Tie as tie

@@ -1,7 +1,7 @@
 -- `keywords::check_keyword` meets its contract: what was found counts, and then the test. Assumes nothing.
 use mathlib.Core.Path.{sym}
 use borrow.Author.Needs.{needs}
-use Rattle.base.specs.Cases.{chain}
+use Rattle.base.specs.CasesLaws.{chain}
 use Rattle.keywords.specs.Groups.{checked}
 use Rattle.keywords.proofs.check_keyword.Statement.{statement}
 use Rattle.keywords.proofs.check_keyword.Tie as tie

@@ -1,6 +1,6 @@
 -- `lexer::half_of` meets its contract: each return is a case of `halfOf`. Assumes nothing.
 use mathlib.Core.Path.{refl, sym, _∙_}
-use Rattle.base.specs.Cases.{pick-yes}
+use Rattle.base.specs.CasesLaws.{pick-yes}
 use borrow.Author.Needs.{needs}
 use Rattle.lexer.proofs.half_of.Statement.{statement}
 use Rattle.lexer.proofs.half_of.Tie as tie

@@ -1,7 +1,7 @@
 -- `lexer::stood_still` meets its contract: each return is a case of `stoodStill`.
 -- Assumes nothing.
 use mathlib.Core.Path.{sym}
-use Rattle.base.specs.Cases.{cases}
+use Rattle.base.specs.CasesLaws.{cases}
 use Rattle.lexer.specs.Step.{stoodStill}
 use Rattle.lexer.proofs.stood_still.Statement.{statement}
 use Rattle.lexer.proofs.stood_still.Tie as tie

@@ -1,6 +1,6 @@
 -- `lookahead::queued_at` meets its contract: where token n is queued, the answer is by what is seen. Assumes nothing.
 use mathlib.Core.Path.{sym}
-use Rattle.base.specs.Cases.{cases}
+use Rattle.base.specs.CasesLaws.{cases}
 use Rattle.lookahead.specs.Peek.{queuedAt}
 use Rattle.lookahead.specs.AnswerLaws.{show-is, show-token, show-none, show-bad}
 use borrow.Author.Needs.{needs}

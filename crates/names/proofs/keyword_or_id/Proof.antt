@@ -4,7 +4,7 @@ use borrow.Author.Needs.{needs}
 use borrow.Author.Tests.{eq-eqb, ne-eqb}
 use native.Mathlib.Omega.{arith}
 use mathlib.Core.Path.{refl, sym, ap, _∙_}
-use Rattle.base.specs.Cases.{pick-yes, pick-no}
+use Rattle.base.specs.CasesLaws.{pick-yes, pick-no}
 use Rattle.position.specs.declared.Reach.{Reach}
 use Rattle.names.specs.ConsumeIdOrKeyword.{keywordOrId}
 use Rattle.names.specs.NameLaws.{keyword-at}

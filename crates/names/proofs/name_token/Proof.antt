@@ -3,7 +3,7 @@
 use borrow.Author.Needs.{needs}
 use native.Mathlib.Omega.{arith}
 use mathlib.Core.Path.{refl, sym, ap, subst, _∙_}
-use Rattle.base.specs.Cases.{pick-yes, pick-no}
+use Rattle.base.specs.CasesLaws.{pick-yes, pick-no}
 use Rattle.position.specs.declared.Reach.{Reach}
 use Rattle.names.specs.NameLaws.{name-token-at, decided-at}
 use Rattle.names.specs.Decided.{Small}

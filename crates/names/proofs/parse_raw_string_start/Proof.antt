@@ -2,7 +2,7 @@
 -- Assumes nothing.
 use borrow.Author.Needs.{needs}
 use mathlib.Core.Path.{sym, _∙_}
-use Rattle.base.specs.Cases.{cases}
+use Rattle.base.specs.CasesLaws.{cases}
 use Rattle.names.specs.NameLaws.{raw-start-at}
 use Rattle.names.proofs.parse_raw_string_start.Statement.{statement}
 use Rattle.names.proofs.parse_raw_string_start.Tie as tie

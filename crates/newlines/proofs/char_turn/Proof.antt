@@ -1,7 +1,7 @@
 -- `newlines::char_turn` meets its contract: it takes the tests of `plain-at` in their order. Assumes nothing.
 use borrow.Author.Needs.{needs}
 use mathlib.Core.Path.{sym, ap, _∙_}
-use Rattle.base.specs.Cases.{cases}
+use Rattle.base.specs.CasesLaws.{cases}
 use Rattle.property.specs.Parts.{widthOf}
 use Rattle.newlines.specs.TurnLaws.{plain-at}
 use Rattle.newlines.proofs.char_turn.Statement.{statement}

@@ -2,7 +2,7 @@
 use borrow.Author.Needs.{needs}
 use native.Mathlib.Omega.{arith}
 use mathlib.Core.Path.{sym, ap, _∙_}
-use Rattle.base.specs.Cases.{cases, pick-yes, pick-no, told-yes, told-no}
+use Rattle.base.specs.CasesLaws.{cases, pick-yes, pick-no, told-yes, told-no}
 use Rattle.position.specs.declared.Reach.{Reach}
 use Rattle.token.specs.Kind.{newLine}
 use Rattle.state.specs.Lexer.{tokenTo}

@@ -1,6 +1,6 @@
 -- `options::is_alignment` meets its contract: each way through the tests is a case of it. Assumes nothing.
 use mathlib.Core.Path.{sym}
-use Rattle.base.specs.Cases.{cases}
+use Rattle.base.specs.CasesLaws.{cases}
 use Rattle.options.proofs.is_alignment.Statement.{statement}
 use Rattle.options.proofs.is_alignment.Tie as tie
 

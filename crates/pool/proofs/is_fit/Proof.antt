@@ -1,7 +1,7 @@
 -- `pool::is_fit` meets its contract: the code takes the tests of `fitIn` in its order. Assumes nothing.
 use mathlib.Core.Path.{sym}
 use borrow.Author.Needs.{needs}
-use Rattle.base.specs.Cases.{cases}
+use Rattle.base.specs.CasesLaws.{cases}
 use Rattle.pool.specs.Pool.{fitIn}
 use Rattle.pool.proofs.is_fit.Statement.{statement}
 use Rattle.pool.proofs.is_fit.Tie as tie

@@ -1,7 +1,7 @@
 -- `pool::room_of` meets its contract: both answers are cases of `roomOf`. Assumes nothing.
 use mathlib.Core.Path.{sym}
 use borrow.Author.Needs.{needs}
-use Rattle.base.specs.Cases.{cases}
+use Rattle.base.specs.CasesLaws.{cases}
 use Rattle.pool.specs.Pool.{roomOf}
 use Rattle.pool.proofs.room_of.Statement.{statement}
 use Rattle.pool.proofs.room_of.Tie as tie

@@ -1,7 +1,7 @@
 -- `pool_lent::end_of` meets its contract: both answers are cases of `endOf`. Assumes nothing.
 use mathlib.Core.Path.{sym}
 use borrow.Author.Needs.{needs}
-use Rattle.base.specs.Cases.{cases}
+use Rattle.base.specs.CasesLaws.{cases}
 use Rattle.pool_lent.specs.Decided.{endOf}
 use Rattle.pool_lent.proofs.end_of.Statement.{statement}
 use Rattle.pool_lent.proofs.end_of.Tie as tie

@@ -1,6 +1,6 @@
 -- `pool_lent::least` meets its contract: both answers are cases of `least`. Assumes nothing.
 use mathlib.Core.Path.{sym}
-use Rattle.base.specs.Cases.{cases}
+use Rattle.base.specs.CasesLaws.{cases}
 use Rattle.pool_lent.proofs.least.Statement.{statement}
 use Rattle.pool_lent.proofs.least.Tie as tie
 

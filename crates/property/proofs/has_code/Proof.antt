@@ -1,7 +1,7 @@
 -- `property::has_code` meets its contract: each return is a case of `hasCode`. Assumes nothing.
 use borrow.Author.Needs.{needs}
 use mathlib.Core.Path.{sym}
-use Rattle.base.specs.Cases.{cases}
+use Rattle.base.specs.CasesLaws.{cases}
 use Rattle.property.specs.Near.{hasCode}
 use Rattle.property.proofs.has_code.Statement.{statement}
 use Rattle.property.proofs.has_code.Tie as tie

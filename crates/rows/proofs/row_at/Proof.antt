@@ -3,7 +3,7 @@ use mathlib.Core.Path.{_≡_, sym}
 use mathlib.Core.List.{List}
 use Prim.Native.Nat.{ℕ, _*_}
 use borrow.Author.Needs.{needs}
-use Rattle.base.specs.Cases.{cases}
+use Rattle.base.specs.CasesLaws.{cases}
 use Rattle.base.specs.Pick.{pick}
 use Rattle.rows.specs.Row.{rowWords, rowFrom, rowAt, rowFits, shownAt}
 use Rattle.rows.specs.declared.Row.{Row}

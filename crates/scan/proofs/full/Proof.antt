@@ -1,6 +1,6 @@
 -- `scan::full` meets its contract: its test is that of `whole`. Assumes nothing.
 use mathlib.Core.Path.{sym}
-use Rattle.base.specs.Cases.{cases}
+use Rattle.base.specs.CasesLaws.{cases}
 use Rattle.scan.proofs.full.Statement.{statement}
 use Rattle.scan.proofs.full.Tie as tie
 

@@ -1,6 +1,6 @@
 -- `state::quote_of` meets its contract: each return is a case of `quoteOf`. Assumes nothing.
 use mathlib.Core.Path.{sym}
-use Rattle.base.specs.Cases.{cases}
+use Rattle.base.specs.CasesLaws.{cases}
 use Rattle.state.proofs.quote_of.Statement.{statement}
 use Rattle.state.proofs.quote_of.Tie as tie
 

@@ -1,7 +1,7 @@
 -- `strings::escape_turn` meets its contract: it takes the tests of `escape-at` in their order. Assumes nothing.
 use borrow.Author.Needs.{needs}
 use mathlib.Core.Path.{sym, _∙_}
-use Rattle.base.specs.Cases.{cases}
+use Rattle.base.specs.CasesLaws.{cases}
 use Rattle.strings.specs.TurnLaws.{escape-at}
 use Rattle.strings.proofs.escape_turn.Statement.{statement}
 use Rattle.strings.proofs.escape_turn.Tie as tie

@@ -3,7 +3,7 @@ use borrow.Author.Needs.{needs}
 use native.Mathlib.Omega.{arith}
 use mathlib.Core.Path.{sym, _∙_}
 use denote.Ref.{now}
-use Rattle.base.specs.Cases.{cases}
+use Rattle.base.specs.CasesLaws.{cases}
 use Rattle.text.specs.Tests.{backslash}
 use Rattle.text.specs.FollowLaws.{one-ascii}
 use Rattle.strings.specs.TurnLaws.{literal-at}

@@ -2,7 +2,7 @@
 -- Assumes nothing.
 use borrow.Author.Needs.{needs}
 use mathlib.Core.Path.{sym}
-use Rattle.base.specs.Cases.{cases}
+use Rattle.base.specs.CasesLaws.{cases}
 use Rattle.symbol_tokens.specs.ConsumeSymbol.{symbolChange}
 use Rattle.symbol_tokens.proofs.symbol_change.Statement.{statement}
 use Rattle.symbol_tokens.proofs.symbol_change.Tie as tie

@@ -2,7 +2,7 @@
 -- Assumes nothing.
 use borrow.Author.Needs.{needs}
 use mathlib.Core.Path.{sym}
-use Rattle.base.specs.Cases.{cases}
+use Rattle.base.specs.CasesLaws.{cases}
 use Rattle.text.specs.Ascii.{asciiProperties}
 use Rattle.text.proofs.ascii_properties.Statement.{statement}
 use Rattle.text.proofs.ascii_properties.Tie as tie

@@ -2,7 +2,7 @@
 -- Assumes nothing.
 use borrow.Author.Needs.{needs}
 use mathlib.Core.Path.{sym}
-use Rattle.base.specs.Cases.{cases}
+use Rattle.base.specs.CasesLaws.{cases}
 use Rattle.text.specs.Tests.{isBinaryDigit}
 use Rattle.text.proofs.is_binary_digit.Statement.{statement}
 use Rattle.text.proofs.is_binary_digit.Tie as tie

@@ -2,7 +2,7 @@
 -- Assumes nothing.
 use borrow.Author.Needs.{needs}
 use mathlib.Core.Path.{sym}
-use Rattle.base.specs.Cases.{cases}
+use Rattle.base.specs.CasesLaws.{cases}
 use Rattle.text.specs.Tests.{isHexDigit}
 use Rattle.text.proofs.is_hex_digit.Statement.{statement}
 use Rattle.text.proofs.is_hex_digit.Tie as tie

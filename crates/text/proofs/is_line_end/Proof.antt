@@ -1,7 +1,7 @@
 -- `text::is_line_end` meets its contract: each return is a case of `isLineEnd`.
 -- Assumes nothing.
 use mathlib.Core.Path.{sym}
-use Rattle.base.specs.Cases.{cases}
+use Rattle.base.specs.CasesLaws.{cases}
 use Rattle.text.specs.Tests.{isLineEnd}
 use Rattle.text.proofs.is_line_end.Statement.{statement}
 use Rattle.text.proofs.is_line_end.Tie as tie

@@ -1,7 +1,7 @@
 -- `text::is_name_part` meets its contract: each return is a case of `isNamePart`. Assumes nothing.
 use borrow.Author.Needs.{needs}
 use mathlib.Core.Path.{sym}
-use Rattle.base.specs.Cases.{cases}
+use Rattle.base.specs.CasesLaws.{cases}
 use Rattle.text.proofs.is_name_part.Statement.{statement}
 use Rattle.text.proofs.is_name_part.Tie as tie
 

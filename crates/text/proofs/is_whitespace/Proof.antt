@@ -1,7 +1,7 @@
 -- `text::is_whitespace` meets its contract: each return is a case of `isWhitespace`.
 -- Assumes nothing.
 use mathlib.Core.Path.{sym}
-use Rattle.base.specs.Cases.{cases}
+use Rattle.base.specs.CasesLaws.{cases}
 use Rattle.text.specs.Tests.{isWhitespace}
 use Rattle.text.proofs.is_whitespace.Statement.{statement}
 use Rattle.text.proofs.is_whitespace.Tie as tie

@@ -1,7 +1,7 @@
 -- `text::passes_at_once` meets its contract: each return is a case of `atOnce`. Assumes nothing.
 use borrow.Author.Needs.{needs}
 use mathlib.Core.Path.{sym}
-use Rattle.base.specs.Cases.{cases}
+use Rattle.base.specs.CasesLaws.{cases}
 use Rattle.text.specs.Tests.{atOnce}
 use Rattle.text.proofs.passes_at_once.Statement.{statement}
 use Rattle.text.proofs.passes_at_once.Tie as tie

@@ -3,7 +3,7 @@ use borrow.Author.Needs.{needs}
 use borrow.Author.Tests.{ne-eqb}
 use mathlib.Core.Path.{sym, ap}
 use mathlib.Core.Bool.{not}
-use Rattle.base.specs.Cases.{cases, pick-no}
+use Rattle.base.specs.CasesLaws.{cases, pick-no}
 use Rattle.text.specs.Tests.{testUtf8}
 use Rattle.text.proofs.passes_utf8.Statement.{statement}
 use Rattle.text.proofs.passes_utf8.Tie as tie

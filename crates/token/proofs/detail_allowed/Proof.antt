@@ -1,7 +1,7 @@
 -- `token::detail_allowed` meets its contract: the kind decides which test is asked of the detail. Assumes nothing.
 use mathlib.Core.Path.{sym}
 use borrow.Author.Needs.{needs}
-use Rattle.base.specs.Cases.{cases}
+use Rattle.base.specs.CasesLaws.{cases}
 use Rattle.token.proofs.detail_allowed.Statement.{statement}
 use Rattle.token.proofs.detail_allowed.Tie as tie
 

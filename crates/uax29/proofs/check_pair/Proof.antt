@@ -2,7 +2,7 @@
 use borrow.Author.Needs.{needs}
 use mathlib.Core.Path.{sym}
 use Rattle.uax29.specs.Uax29.{pairRule}
-use Rattle.base.specs.Cases.{chain}
+use Rattle.base.specs.CasesLaws.{chain}
 use Rattle.uax29.proofs.check_pair.Statement.{statement}
 use Rattle.uax29.proofs.check_pair.Tie as tie
 

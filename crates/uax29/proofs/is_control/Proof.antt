@@ -1,7 +1,7 @@
 -- `uax29::is_control` meets its contract: each return is a case of `isControl`. Assumes nothing.
 use mathlib.Core.Path.{sym}
 use Rattle.uax29.specs.Uax29.{isControl}
-use Rattle.base.specs.Cases.{cases}
+use Rattle.base.specs.CasesLaws.{cases}
 use Rattle.uax29.proofs.is_control.Statement.{statement}
 use Rattle.uax29.proofs.is_control.Tie as tie
 

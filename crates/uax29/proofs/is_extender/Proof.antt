@@ -1,7 +1,7 @@
 -- `uax29::is_extender` meets its contract: each return is a case of `gb9`. Assumes nothing.
 use mathlib.Core.Path.{sym}
 use Rattle.uax29.specs.Uax29.{gb9}
-use Rattle.base.specs.Cases.{cases}
+use Rattle.base.specs.CasesLaws.{cases}
 use Rattle.uax29.proofs.is_extender.Statement.{statement}
 use Rattle.uax29.proofs.is_extender.Tie as tie
 

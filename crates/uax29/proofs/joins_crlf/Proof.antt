@@ -1,7 +1,7 @@
 -- `uax29::joins_crlf` meets its contract: each return is a case of `gb3`. Assumes nothing.
 use mathlib.Core.Path.{sym}
 use Rattle.uax29.specs.Uax29.{gb3}
-use Rattle.base.specs.Cases.{cases}
+use Rattle.base.specs.CasesLaws.{cases}
 use Rattle.uax29.proofs.joins_crlf.Statement.{statement}
 use Rattle.uax29.proofs.joins_crlf.Tie as tie
 

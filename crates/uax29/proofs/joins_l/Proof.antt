@@ -1,7 +1,7 @@
 -- `uax29::joins_l` meets its contract: each return is a case of `gb6`. Assumes nothing.
 use mathlib.Core.Path.{sym}
 use Rattle.uax29.specs.Uax29.{gb6}
-use Rattle.base.specs.Cases.{cases}
+use Rattle.base.specs.CasesLaws.{cases}
 use Rattle.uax29.proofs.joins_l.Statement.{statement}
 use Rattle.uax29.proofs.joins_l.Tie as tie
 

@@ -1,7 +1,7 @@
 -- `uax29::joins_t` meets its contract: each return is a case of `gb8`. Assumes nothing.
 use mathlib.Core.Path.{sym}
 use Rattle.uax29.specs.Uax29.{gb8}
-use Rattle.base.specs.Cases.{cases}
+use Rattle.base.specs.CasesLaws.{cases}
 use Rattle.uax29.proofs.joins_t.Statement.{statement}
 use Rattle.uax29.proofs.joins_t.Tie as tie
 

@@ -1,7 +1,7 @@
 -- `uax29::joins_v` meets its contract: each return is a case of `gb7`. Assumes nothing.
 use mathlib.Core.Path.{sym}
 use Rattle.uax29.specs.Uax29.{gb7}
-use Rattle.base.specs.Cases.{cases}
+use Rattle.base.specs.CasesLaws.{cases}
 use Rattle.uax29.proofs.joins_v.Statement.{statement}
 use Rattle.uax29.proofs.joins_v.Tie as tie
 

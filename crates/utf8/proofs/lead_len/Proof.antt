@@ -1,7 +1,7 @@
 -- `utf8::lead_len` meets its contract: the code takes the tests of `lenBy` in its order, and `len-by-ones` says that this is `seqLen`.
 -- Assumes nothing.
 use mathlib.Core.Path.{sym}
-use Rattle.base.specs.Cases.{cases}
+use Rattle.base.specs.CasesLaws.{cases}
 use Rattle.utf8.proofs.Lead.{lenBy, len-by-ones}
 use Rattle.utf8.proofs.lead_len.Statement.{statement}
 use Rattle.utf8.proofs.lead_len.Tie as tie

@@ -1,6 +1,6 @@
 -- `utf8::second_ok` meets its contract: the code takes the tests of `secondOk` in its order. Assumes nothing.
 use mathlib.Core.Path.{sym}
-use Rattle.base.specs.Cases.{cases}
+use Rattle.base.specs.CasesLaws.{cases}
 use Rattle.utf8.specs.Read.{secondOk}
 use borrow.Author.Needs.{needs}
 use Rattle.utf8.proofs.second_ok.Statement.{statement}

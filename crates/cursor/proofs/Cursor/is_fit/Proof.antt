@@ -1,6 +1,6 @@
 -- `Cursor::is_fit` meets its contract: the code takes the tests of `isFit` in its order. Assumes nothing.
 use mathlib.Core.Path.{_≡_, sym}
-use Rattle.base.specs.Cases.{cases}
+use Rattle.base.specs.CasesLaws.{cases}
 use Rattle.cursor.specs.Cursor.{fitBy, isFit}
 use Rattle.cursor.specs.CursorLaws.{fit-last}
 use Rattle.cursor.specs.declared.Status.{Status}

@@ -1,7 +1,7 @@
 -- `Cursor::must_queue` meets its contract: its two tests are those of `mustQueue`. Assumes nothing.
 use mathlib.Core.Path.{sym}
 use borrow.Author.Tests.{le-leb}
-use Rattle.base.specs.Cases.{cases}
+use Rattle.base.specs.CasesLaws.{cases}
 use Rattle.cursor.specs.Cursor.{mustQueue}
 use borrow.Author.Needs.{needs}
 use Rattle.cursor.proofs.Cursor.must_queue.Statement.{statement}

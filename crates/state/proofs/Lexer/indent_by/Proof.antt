@@ -1,6 +1,6 @@
 -- `state::Lexer::indent_by` meets its contract: each return is a case of `indented`. Assumes nothing.
 use mathlib.Core.Path.{sym}
-use Rattle.base.specs.Cases.{cases}
+use Rattle.base.specs.CasesLaws.{cases}
 use Rattle.state.proofs.Lexer.indent_by.Statement.{statement}
 use Rattle.state.proofs.Lexer.indent_by.Tie as tie
 

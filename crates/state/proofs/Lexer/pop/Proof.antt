@@ -1,6 +1,6 @@
 -- `state::Lexer::pop` meets its contract: each return is a case of `popped`. Assumes nothing.
 use mathlib.Core.Path.{sym}
-use Rattle.base.specs.Cases.{cases}
+use Rattle.base.specs.CasesLaws.{cases}
 use borrow.Author.Needs.{needs}
 use Rattle.state.proofs.Lexer.pop.Statement.{statement}
 use Rattle.state.proofs.Lexer.pop.Tie as tie

@@ -1,7 +1,7 @@
 -- `state::Lexer::replace` meets its contract: each return is a case of `replaced`. Assumes nothing.
 use mathlib.Core.Path.{refl, sym, _∙_}
 use borrow.Author.Tests.{eq-eqb}
-use Rattle.base.specs.Cases.{cases, pick-yes}
+use Rattle.base.specs.CasesLaws.{cases, pick-yes}
 use borrow.Author.Needs.{needs}
 use Rattle.state.proofs.Lexer.replace.Statement.{statement}
 use Rattle.state.proofs.Lexer.replace.Tie as tie

@@ -1,6 +1,6 @@
 -- `state::Lexer::settle` meets its contract: each return is a case of `settled`. Assumes nothing.
 use mathlib.Core.Path.{sym}
-use Rattle.base.specs.Cases.{cases}
+use Rattle.base.specs.CasesLaws.{cases}
 use Rattle.state.proofs.Lexer.settle.Statement.{statement}
 use Rattle.state.proofs.Lexer.settle.Tie as tie
 

@@ -1,6 +1,6 @@
 -- `token::Token::is_whitespace` meets its contract: it asks the definition's questions in the definition's order. Assumes nothing.
 use mathlib.Core.Path.{sym}
-use Rattle.base.specs.Cases.{cases}
+use Rattle.base.specs.CasesLaws.{cases}
 use Rattle.token.proofs.Token.is_whitespace.Statement.{statement}
 use Rattle.token.proofs.Token.is_whitespace.Tie as tie
 

@@ -1,7 +1,7 @@
 -- `token::Token::is_whitespace_including_newline` meets its contract: `is_whitespace` answers the first question. Assumes nothing.
 use mathlib.Core.Path.{sym}
 use borrow.Author.Needs.{needs}
-use Rattle.base.specs.Cases.{cases}
+use Rattle.base.specs.CasesLaws.{cases}
 use Rattle.token.proofs.Token.is_whitespace_including_newline.Statement.{statement}
 use Rattle.token.proofs.Token.is_whitespace_including_newline.Tie as tie
 
