@@ -1,5 +1,5 @@
 pub mod Pools
-pub mod PoolsLaws
 pub mod Formats
+pub mod PoolsLaws
 pub mod FormatsLaws
 pub mod CallsLaws

@@ -3,10 +3,10 @@ pub mod Meaning
 pub mod Read
 pub mod Chars
 pub mod Answer
+pub mod Lengths
 pub mod EncodeLaws
 pub mod GrammarLaws
 pub mod ReadLaws
-pub mod Lengths
 pub mod LengthsLaws
 pub mod CharsLaws
 pub mod MeaningLaws
