@@ -28,7 +28,8 @@ use Rattle.text.specs.Tests.{isWhitespace, isLineEnd, isDigit}
 use Rattle.text.specs.Stands.{charsFrom}
 use Rattle.text.specs.FollowLaws.{here, chars-end}
 use Rattle.state.specs.Modes.{templateExpr, modeCode, tagOf, delimiterOf, quoteOf}
-use Rattle.state.specs.Lexer.{reachOf, plainToken, settled}
+use Rattle.token.specs.Token.{tokenOf}
+use Rattle.state.specs.Lexer.{reachOf, settled}
 use Rattle.state.specs.State.{Fits}
 use Rattle.state.specs.declared.Change.{Change}
 use Rattle.state.specs.declared.Change.the-variants.{Keep, Push, Pop, Replace}
@@ -52,12 +53,12 @@ use Rattle.lexer.specs.declared.Half.{Half}
 use Rattle.lexer.specs.declared.What.the-variants as what
 
 module _ (look : ℕ → ℕ) (quote c : ℕ) (cs : List ℕ) (l : Lexer) where
-  pub literal-end : eqb c quote ≡ true → inLiteral look quote c cs l ≡ oneByte (plainToken stringEnd) Pop l
+  pub literal-end : eqb c quote ≡ true → inLiteral look quote c cs l ≡ oneByte (tokenOf stringEnd) Pop l
   unfolding inLiteral
   literal-end e = rw e
 
   pub literal-brace : eqb c quote ≡ false → eqb c 123 ≡ true
-      → inLiteral look quote c cs l ≡ oneByte (plainToken curlyOpen) (Push (modeCode templateExpr 0)) l
+      → inLiteral look quote c cs l ≡ oneByte (tokenOf curlyOpen) (Push (modeCode templateExpr 0)) l
   unfolding inLiteral
   literal-brace e f = rw (e, f)
 

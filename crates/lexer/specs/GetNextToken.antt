@@ -16,7 +16,8 @@ use Rattle.token.specs.declared.Token.{Token}
 use Rattle.text.specs.Tests as char
 use Rattle.text.specs.Tests.{isWhitespace, isDigit, isLineEnd}
 use Rattle.state.specs.Modes.{literal, templateExpr, templateExprFormat, rawStart, rawEnd, modeCode, tagOf, delimiterOf, quoteOf}
-use Rattle.state.specs.Lexer.{advancedLine, plainToken}
+use Rattle.token.specs.Token.{tokenOf}
+use Rattle.state.specs.Lexer.{advancedLine}
 use Rattle.state.specs.declared.Change.{Change}
 use Rattle.state.specs.declared.Change.the-variants.{Push, Pop}
 use Rattle.state.specs.declared.Lexer.{Lexer}
@@ -48,8 +49,8 @@ nextChar cs = getD cs 0 0
 -- `Some(StringMode::Literal(quote))`: the end quote, a template, or contents; c is the next character
 unfoldable pub inLiteral : (ℕ → ℕ) → ℕ → ℕ → List ℕ → Lexer → Taken
 inLiteral look quote c cs l =
-    pick (eqb c quote) (oneByte (plainToken stringEnd) Pop l)
-    (pick (eqb c char.curlyOpen) (oneByte (plainToken curlyOpen) (Push (modeCode templateExpr 0)) l)
+    pick (eqb c quote) (oneByte (tokenOf stringEnd) Pop l)
+    (pick (eqb c char.curlyOpen) (oneByte (tokenOf curlyOpen) (Push (modeCode templateExpr 0)) l)
     (consumeStringLiteral look quote cs l))
 
 -- `_ => match next_char`

@@ -17,7 +17,7 @@ use Rattle.text.specs.Tests.{doubleQuote, singleQuote, hashTest, idContinueTest
 use Rattle.text.specs.Count.{lenUtf8, countWhile, runTest}
 use Rattle.text.specs.Follow.{nextIs}
 use Rattle.state.specs.Modes.{rawStart, modeCode, hashCountOf}
-use Rattle.state.specs.Lexer.{reachOf, advancedLine, tokenOf, tokenTo}
+use Rattle.state.specs.Lexer.{reachOf, advancedLine, tokenAlong, tokenTo}
 use Rattle.state.specs.declared.Change.the-variants.{Push}
 use Rattle.state.specs.declared.Lexer.{Lexer}
 use Rattle.state.specs.declared.Taken.{Taken}
@@ -65,7 +65,7 @@ unfoldable pub keywordOrId : List ℕ → Reach → Lexer → Taken
 keywordOrId cs end l =
     let kind = keywordOf (take (nameBytes l end) (remaining cs)) in
     pick (eqb (l .«previous_token») dot) (tokenTo id end l)
-    (pick (eqb kind id) (tokenTo id end l) (tokenOf kind (nameBytes l end) l))
+    (pick (eqb kind id) (tokenTo id end l) (tokenAlong kind (nameBytes l end) l))
 
 -- a raw string, or else the token that follows
 abbrev pub orElse : RawStart → Lexer → Taken → Taken
@@ -80,7 +80,7 @@ rawOrName cs end l = orElse (parseRawStringStart (drop 1 cs)) l (keywordOrId cs 
 unfoldable pub nameToken : List ℕ → Reach → Lexer → Taken
 nameToken cs end l =
     let name = take (nameBytes l end) (remaining cs) in
-    pick (isWord elseWord name) (pick (startsWith elseIfWord (remaining cs)) (tokenOf elseIf 7 l) (tokenOf else 4 l))
+    pick (isWord elseWord name) (pick (startsWith elseIfWord (remaining cs)) (tokenAlong elseIf 7 l) (tokenAlong else 4 l))
     (pick (isWord rWord name) (rawOrName cs end l) (keywordOrId cs end l))
 
 abbrev pub consumeIdOrKeyword : (ℕ → ℕ) → List ℕ → Lexer → Taken

@@ -38,7 +38,7 @@ use Rattle.text.specs.Stands.{Stands, charsFrom}
 use Rattle.text.specs.Chars.{LenIs}
 use Rattle.text.specs.FollowLaws.{here, next-is, ascii-read, ascii-head}
 use Rattle.text.specs.CountLaws.{skip-run, along-stands, run-stands}
-use Rattle.state.specs.Lexer.{reachOf, tokenOf, tokenTo}
+use Rattle.state.specs.Lexer.{reachOf, tokenAlong, tokenTo}
 use Rattle.state.specs.declared.Lexer.{Lexer}
 use Rattle.numbers.specs.Places.{PlaceIn, GoesOn}
 use Rattle.numbers.specs.PlaceLaws.{place-of, runEnd, skip-next, next-place}
@@ -114,13 +114,13 @@ module _ (s : List ℕ) (l : Lexer) (end : Reach) (o : Stands s (reachOf l)) (q 
   pub keyword-at : (kind : ℕ) → kind ≡ keywordOf (take (end .byte .0 - q .byte .0) (drop (q .byte .0) s))
       → keywordOrId (charsFrom s (reachOf l)) end l
       ≡ pick (eqb (l .«previous_token») dot) (tokenTo id end l)
-      (pick (eqb kind id) (tokenTo id end l) (tokenOf kind (end .byte .0 - q .byte .0) l))
+      (pick (eqb kind id) (tokenTo id end l) (tokenAlong kind (end .byte .0 - q .byte .0) l))
   unfolding keywordOrId
   keyword-at kind k = rw (left-at o e, name-bytes, ← k)
 
   pub name-token-at : nameToken (charsFrom s (reachOf l)) end l
       ≡ pick (isWord elseWord (take (end .byte .0 - q .byte .0) (drop (q .byte .0) s)))
-      (pick (startsWith elseIfWord (drop (q .byte .0) s)) (tokenOf elseIf 7 l) (tokenOf else 4 l))
+      (pick (startsWith elseIfWord (drop (q .byte .0) s)) (tokenAlong elseIf 7 l) (tokenAlong else 4 l))
       (pick (isWord rWord (take (end .byte .0 - q .byte .0) (drop (q .byte .0) s))) (rawOrName (charsFrom s (reachOf l)) end l)
       (keywordOrId (charsFrom s (reachOf l)) end l))
   unfolding nameToken

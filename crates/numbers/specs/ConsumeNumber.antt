@@ -10,7 +10,7 @@ use Rattle.token.specs.Kind.{number}
 use Rattle.text.specs.Tests.{plus, minus, dot, zeroDigit, letterB, letterE, letterO, letterX, isDigit, isBinaryDigit, isOctalDigit, isDecimalDigit, isHexDigit}
 use Rattle.text.specs.Count.{countWhile}
 use Rattle.text.specs.Follow.{nextIs}
-use Rattle.state.specs.Lexer.{tokenOf}
+use Rattle.state.specs.Lexer.{tokenAlong}
 use Rattle.state.specs.declared.Lexer.{Lexer}
 use Rattle.state.specs.declared.Taken.{Taken}
 
@@ -57,4 +57,4 @@ numberBytes cs =
     whole + pick (nextIs zeroDigit cs && eqb whole 1) (zeroBytes (drop whole cs)) (tailBytes (drop whole cs))
 
 abbrev pub consumeNumber : List ℕ → Lexer → Taken
-consumeNumber cs l = tokenOf number (numberBytes cs) l
+consumeNumber cs l = tokenAlong number (numberBytes cs) l

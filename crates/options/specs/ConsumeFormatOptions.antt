@@ -11,7 +11,8 @@ use Rattle.cluster.specs.First.{firstEnd, secondIs}
 use Rattle.text.specs.Tests.{less, caret, greater, curlyClose}
 use Rattle.text.specs.Count.{lenUtf8}
 use Rattle.text.specs.Follow.{dropBytes}
-use Rattle.state.specs.Lexer.{reachOf, advancedLine, plainToken, stuckAt}
+use Rattle.token.specs.Token.{tokenOf}
+use Rattle.state.specs.Lexer.{reachOf, advancedLine, stuckAt}
 use Rattle.state.specs.declared.Change.the-variants.{Pop}
 use Rattle.state.specs.declared.Lexer.{Lexer}
 use Rattle.state.specs.declared.Taken.{Taken}
@@ -34,7 +35,7 @@ findBrace i (c ∷ cs) = pick (eqb c curlyClose) (At i) (findBrace (i + lenUtf8 
 -- the token up to the brace, or the Error that stands still
 abbrev pub optionsToken : Lexer → Brace → Taken
 optionsToken l (At end) =
-    record { token = plainToken stringLiteral; lexer = advancedLine (end - reachOf l .byte .0) l; change = Pop }
+    record { token = tokenOf stringLiteral; lexer = advancedLine (end - reachOf l .byte .0) l; change = Pop }
 optionsToken l Nowhere = stuckAt l
 
 -- cs are the characters that are left

@@ -20,7 +20,8 @@ use Rattle.rows.specs.Row.{room, Packs, putRow, rowFits}
 use Rattle.rows.specs.RowLaws.{put-length, fits-packs}
 use Rattle.token.specs.declared.Token.{Token}
 use Rattle.rows.specs.declared.Row.{Row}
-use Rattle.state.specs.Lexer.{reachOf, plainToken}
+use Rattle.token.specs.Token.{tokenOf}
+use Rattle.state.specs.Lexer.{reachOf}
 use Rattle.state.specs.State.{stateOf, changedBy}
 use Rattle.state.specs.Stack.{Agrees}
 use Rattle.state.specs.StackLaws.{state-is}
@@ -75,15 +76,15 @@ row-same t before l m e =
 
 -- ---- an Error that stands still
 
-pub error-packs : (before after : Lexer) {t : Token} {row : Row} → t ≡ plainToken error → row ≡ rowOf t before after → Packs row
+pub error-packs : (before after : Lexer) {t : Token} {row : Row} → t ≡ tokenOf error → row ≡ rowOf t before after → Packs row
 error-packs before after e q =
     subst Packs (sym (q ∙ ap (λ (u : Token). rowOf u before after) e)) (record { kind-fits = omega arith; detail-fits = omega arith })
 
 module _ (l : List ℕ) (k : ℕ) (before after : Lexer) where
-  pub stuck-written : k < room l → {t : Token} {row : Row} {new : List ℕ} → t ≡ plainToken error → row ≡ rowOf t before after → new ≡ putRow l k row
+  pub stuck-written : k < room l → {t : Token} {row : Row} {new : List ℕ} → t ≡ tokenOf error → row ≡ rowOf t before after → new ≡ putRow l k row
       → Fills l k (reachOf after .byte .0) (stuckReading before after) (Stuck (k + 1) (reachOf after .byte .0)) new
   stuck-written h {t} {row} {new} e q p =
-      let last : Row = rowOf (plainToken error) before after in
+      let last : Row = rowOf (tokenOf error) before after in
       let written : new ≡ putRow l k last = p ∙ ap (putRow l k) (q ∙ ap (λ (u : Token). rowOf u before after) e) in
       fills-row l k (reachOf after .byte .0) last (stopped stuck) (Stuck (k + 1) (reachOf after .byte .0)) new h
       (subst (λ (m : List ℕ). Fills (putRow l k last) (k + 1) (last .end) (stopped stuck) (Stuck (k + 1) (last .end)) m) (sym written)
@@ -163,7 +164,7 @@ module _ {s table : List ℕ} {edition : ℕ} {st₀ : State} {k₀ : ℕ} {l₀
       let b : reachOf (found .lexer) .byte .0 ≡ byte =
       ap (λ (p : Place). p .«current_byte» .0) (sym (same .place) ∙ stuck-stays s table edition (g .fit) st (g .ok) (found-is e)) in
       let r : stuckReading (st .lexer) (found .lexer) ≡ stuckReading (st .lexer) (next .lexer) =
-      ap (λ (row : Row). onto row (stopped stuck)) (sym (row-same (plainToken error) (st .lexer) (next .lexer) (found .lexer) same)) in
+      ap (λ (row : Row). onto row (stopped stuck)) (sym (row-same (tokenOf error) (st .lexer) (next .lexer) (found .lexer) same)) in
       comes (left-is what.Stuck e)
       (subst (λ (i : ℕ). Fills l k i (stuckReading (st .lexer) (next .lexer)) x new) b
       (subst (λ (q : Reading). Fills l k (reachOf (found .lexer) .byte .0) q x new) r

@@ -32,7 +32,8 @@ use Rattle.text.specs.Stands.{Stands, charsFrom}
 use Rattle.text.specs.FollowLaws.{ascii-head}
 use Rattle.text.specs.Follow.{nextIs, Followed, Closed, Open, Stopped, follow, dropBytes}
 use Rattle.state.specs.Modes.{literal, templateExpr, templateExprInlineMap, templateExprFormat, rawStart, rawEnd, modeCode, tagOf, delimiterOf, quoteOf}
-use Rattle.state.specs.Lexer.{reachOf, plainToken}
+use Rattle.token.specs.Token.{tokenOf}
+use Rattle.state.specs.Lexer.{reachOf}
 use Rattle.state.specs.declared.Change.{Change}
 use Rattle.state.specs.declared.Change.the-variants.{Keep, Push, Pop, Replace}
 use Rattle.state.specs.declared.Lexer.{Lexer}
@@ -194,13 +195,13 @@ module _ (s : List ℕ) (l : Lexer) where
   unfolding encodeAll encode startsWith
   brace-starts e = rw (ascii-head s (reachOf l .byte .0) curlyClose e (omega arith) .step)
 
-  brace-pops : l .mode ≡ modeCode templateExpr 0 → symbolToken (symbol.Is kind.curlyClose 1) l ≡ oneByte (plainToken kind.curlyClose) Pop l
+  brace-pops : l .mode ≡ modeCode templateExpr 0 → symbolToken (symbol.Is kind.curlyClose 1) l ≡ oneByte (tokenOf kind.curlyClose) Pop l
   unfolding symbolChange
   brace-pops m = rw m
 
   pub take-closes : (table : List ℕ) (edition : ℕ) → FitTable table → l .mode ≡ modeCode templateExpr 0
       → byteAt s (reachOf l .byte .0) ≡ curlyClose
-      → takeToken (propertiesAt table) edition (charsFrom s (reachOf l)) l ≡ oneByte (plainToken kind.curlyClose) Pop l
+      → takeToken (propertiesAt table) edition (charsFrom s (reachOf l)) l ≡ oneByte (tokenOf kind.curlyClose) Pop l
   take-closes table edition fit m e =
       take-code (propertiesAt table) edition (charsFrom s (reachOf l)) l (λ f. omega arith) (λ f. omega arith) (λ f. omega arith)
       (λ f. omega arith)

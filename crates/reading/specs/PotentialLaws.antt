@@ -19,7 +19,8 @@ use Rattle.fitness.specs.Fit.{FitTable}
 use Rattle.token.specs.Kind.{curlyClose}
 use Rattle.token.specs.declared.Token.{Token}
 use Rattle.text.specs.Stands.{Stands}
-use Rattle.state.specs.Lexer.{reachOf, plainToken, settled}
+use Rattle.token.specs.Token.{tokenOf}
+use Rattle.state.specs.Lexer.{reachOf, settled}
 use Rattle.state.specs.State.{startState}
 use Rattle.state.specs.Stack.{top, changed, codesOf, stackOf}
 use Rattle.state.specs.declared.Change.the-variants.{Keep, Pop}
@@ -84,7 +85,7 @@ module _ (s table : List ℕ) (edition : ℕ) (fit : FitTable table) (st : State
     nested : NestedIn (changed (x .change) ms)
 
   module _ (t : Taken) (h : i < length s) (g : Goes s (settled l) t) (p : Paid s (settled l) t) (f : Falls (settled l) t)
-      (z : closes s i (top ms) ≡ true → t ≡ oneByte (plainToken curlyClose) Pop (settled l)) where
+      (z : closes s i (top ms) ≡ true → t ≡ oneByte (tokenOf curlyClose) Pop (settled l)) where
     abbrev j : ℕ
     j = reachOf (t .lexer) .byte .0
 

@@ -6,7 +6,7 @@ use mathlib.Core.List.{List, [], _∷_}
 use Rattle.token.specs.Kind.{error}
 use Rattle.token.specs.declared.Token.{Token}
 use Rattle.rows.specs.declared.Row.{Row}
-use Rattle.state.specs.Lexer.{plainToken}
+use Rattle.token.specs.Token.{tokenOf}
 use Rattle.state.specs.State.{startState}
 use Rattle.state.specs.declared.Lexer.{Lexer}
 use Rattle.state.specs.declared.State.{State}
@@ -54,7 +54,7 @@ onto row r = record { rows = row ∷ r .rows; stop = r .stop }
 
 -- an Error that advanced nothing is the last record; l is the lexer after it
 abbrev pub stuckReading : Lexer → Lexer → Reading
-stuckReading before l = record { rows = rowOf (plainToken error) before l ∷ []; stop = stuck }
+stuckReading before l = record { rows = rowOf (tokenOf error) before l ∷ []; stop = stuck }
 
 -- nothing more is read
 abbrev pub stopped : Stop → Reading

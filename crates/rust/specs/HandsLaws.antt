@@ -22,7 +22,8 @@ use Rattle.fitness.specs.Fit.{FitTable}
 use Rattle.token.specs.Kind.{error}
 use Rattle.token.specs.declared.Token.{Token}
 use Rattle.rows.specs.declared.Row.{Row}
-use Rattle.state.specs.Lexer.{settled, remembered, atPlace, plainToken}
+use Rattle.token.specs.Token.{tokenOf}
+use Rattle.state.specs.Lexer.{settled, remembered, atPlace}
 use Rattle.state.specs.State.{startState}
 use Rattle.state.specs.Stack.{top, changed, codesOf, stackOf, Agrees}
 use Rattle.state.specs.declared.Change.{Change}
@@ -146,8 +147,8 @@ module _ (look : ℕ → ℕ) (edition : ℕ) (s : List ℕ) where
           }
 
     module _ (t : StandsStill look edition s x) (k : height (next x .after) ≤ modesMost) (b l : Lexer)
-        (e : lexed look edition s x ≡ some (rowOf (plainToken error) b l)) where
-      same-row : (i : ℕ) → handed look edition s i x ≡ some (rowOf (plainToken error) b l)
+        (e : lexed look edition s x ≡ some (rowOf (tokenOf error) b l)) where
+      same-row : (i : ℕ) → handed look edition s i x ≡ some (rowOf (tokenOf error) b l)
       same-row i = for-ever look edition s x (still-again look edition s x t) i ∙ e
 
       each-one : (i : ℕ) → i < 1 → handed look edition s i x ≡ get (stuckReading b l .rows) i
@@ -297,11 +298,11 @@ module _ (s table : List ℕ) (edition : ℕ) (fit : FitTable table) where
             let z = and-eq-true-iff (eqb (t .token .kind) error) (eqb (t .lexer .place .«current_byte» .0) (st .lexer .place .«current_byte» .0)) .1 (k, o) in
             let y : _≡_ {A = ℕ} 0 1 = cc in omega arith
 
-        stuck-row : StandsStill look edition s x → lexed look edition s x ≡ some (rowOf (plainToken error) (st .lexer) (stepped st .lexer))
+        stuck-row : StandsStill look edition s x → lexed look edition s x ≡ some (rowOf (tokenOf error) (st .lexer) (stepped st .lexer))
         stuck-row h =
-            let v : t .token ≡ plainToken error =
-            some-is (t .token) (plainToken error) (sym (ap (λ (g : Given). g .token) e) ∙ still-token look edition s x h) in
-            answered ∙ ap (λ (u : Token). some (rowOf u (st .lexer) (t .lexer))) v ∙ ap some (sym (row-is (plainToken error)))
+            let v : t .token ≡ tokenOf error =
+            some-is (t .token) (tokenOf error) (sym (ap (λ (g : Given). g .token) e) ∙ still-token look edition s x h) in
+            answered ∙ ap (λ (u : Token). some (rowOf u (st .lexer) (t .lexer))) v ∙ ap some (sym (row-is (tokenOf error)))
 
         found : (q : Bool) → stoodStill (st .lexer) t ≡ q → Goal (whatOf (st .lexer) t)
         found true q =

@@ -32,7 +32,8 @@ use Rattle.symbols.specs.declared.SymbolAt.the-variants as symbol
 use Rattle.text.specs.Tests.{cr, lf, minus, isWhitespace, isLineEnd, isDigit}
 use Rattle.text.specs.Follow.{nextIs, Followed, Closed, Open, Stopped, follow, dropBytes}
 use Rattle.state.specs.Modes.{literal, templateExprFormat, rawStart, rawEnd, tagOf, delimiterOf, quoteOf}
-use Rattle.state.specs.Lexer.{reachOf, stuckAt, settled, remembered, plainToken}
+use Rattle.token.specs.Token.{tokenOf}
+use Rattle.state.specs.Lexer.{reachOf, stuckAt, settled, remembered}
 use Rattle.state.specs.declared.Lexer.{Lexer}
 use Rattle.state.specs.declared.Taken.{Taken}
 use Rattle.newlines.specs.ConsumeNewline.{lineFeed, consumeNewline}
@@ -207,12 +208,12 @@ module _ (look : ℕ → ℕ) (edition : ℕ) (s : List ℕ) where
 
     taken-again : Again l t (takeToken look edition (c ∷ cs) (remembered error l)) → t .token .kind ≡ error
         → t .lexer .place .«current_byte» .0 ≡ x .«current_byte» .0
-        → (next (given t (x .«string_mode_stack») .after) ≡ given t (x .«string_mode_stack»)) × (t .token ≡ plainToken error)
+        → (next (given t (x .«string_mode_stack») .after) ≡ given t (x .«string_mode_stack»)) × (t .token ≡ tokenOf error)
     taken-again (Other n) k b = absurd (n k)
     taken-again (On h) k b = absurd (omega arith)
     taken-again (Still q r) k b = (
       ap (λ (v : Taken). next (given v (x .«string_mode_stack») .after)) q
-          ∙ ap (λ (a : List ℕ). givenAt look edition a (withFields l (some (plainToken error)) (x .«string_mode_stack»))) e
+          ∙ ap (λ (a : List ℕ). givenAt look edition a (withFields l (some (tokenOf error)) (x .«string_mode_stack»))) e
           ∙ ap (λ (v : Taken). given v (x .«string_mode_stack»)) r
           ∙ ap (λ (v : Taken). given v (x .«string_mode_stack»)) (sym q),
       ap (λ (v : Taken). v .token) q,
@@ -220,7 +221,7 @@ module _ (look : ℕ → ℕ) (edition : ℕ) (s : List ℕ) where
 
   at-again : (x : TokenLexer) (cs : List ℕ) → remainingAt s (x .«current_byte» .0) ≡ cs → (u : Token) → givenAt look edition cs x .token ≡ some u
       → u .kind ≡ error → givenAt look edition cs x .after .«current_byte» .0 ≡ x .«current_byte» .0
-      → (next (givenAt look edition cs x .after) ≡ givenAt look edition cs x) × (givenAt look edition cs x .token ≡ some (plainToken error))
+      → (next (givenAt look edition cs x .after) ≡ givenAt look edition cs x) × (givenAt look edition cs x .token ≡ some (tokenOf error))
   at-again x [] e u a k b = absurd (let z : _≡_ {A = ℕ} 0 1 = cc in omega arith)
   at-again x (c ∷ cs) e u a k b =
       let q = some-is (t x c cs e .token) u a in
@@ -228,13 +229,13 @@ module _ (look : ℕ → ℕ) (edition : ℕ) (s : List ℕ) where
       (p .0, ap some (p .1))
 
   module _ (x : TokenLexer) (h : StandsStill look edition s x) where
-    both : (next (next x .after) ≡ next x) × (next x .token ≡ some (plainToken error))
+    both : (next (next x .after) ≡ next x) × (next x .token ≡ some (tokenOf error))
     both = at-again x (remainingAt s (x .«current_byte» .0)) refl (h .token) (h .answered) (h .kind) (h .byte)
 
     pub still-again : Repeats x
     still-again = both .0
 
-    pub still-token : next x .token ≡ some (plainToken error)
+    pub still-token : next x .token ≡ some (tokenOf error)
     still-token = both .1
 
   at-none : (x : TokenLexer) (cs : List ℕ) → remainingAt s (x .«current_byte» .0) ≡ cs → givenAt look edition cs x .token ≡ none

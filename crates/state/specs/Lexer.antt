@@ -9,7 +9,7 @@ use Rattle.position.specs.Place as place
 use Rattle.position.specs.declared.Place.{Place}
 use Rattle.position.specs.declared.Reach.{Reach}
 use Rattle.token.specs.Kind.{error, newLine, noToken}
-use Rattle.token.specs.declared.Token.{Token}
+use Rattle.token.specs.Token.{tokenOf}
 use Rattle.state.specs.declared.Change.{Change}
 use Rattle.state.specs.declared.Change.the-variants.{Keep}
 use Rattle.state.specs.declared.Lexer.{Lexer}
@@ -57,18 +57,14 @@ remembered kind l = record { place = l .place; indent = l .indent; «previous_to
 
 -- ---- what a `consume_*` makes
 
--- a token with no detail
-abbrev pub plainToken : ℕ → Token
-plainToken kind = record { kind = kind; detail = 0 }
-
 -- the token reaches to `end`
 abbrev pub tokenTo : ℕ → Reach → Lexer → Taken
-tokenTo kind end l = record { token = plainToken kind; lexer = advancedTo end l; change = Keep }
+tokenTo kind end l = record { token = tokenOf kind; lexer = advancedTo end l; change = Keep }
 
 -- the token has so many ASCII bytes
-abbrev pub tokenOf : ℕ → ℕ → Lexer → Taken
-tokenOf kind bytes l = record { token = plainToken kind; lexer = advancedLine bytes l; change = Keep }
+abbrev pub tokenAlong : ℕ → ℕ → Lexer → Taken
+tokenAlong kind bytes l = record { token = tokenOf kind; lexer = advancedLine bytes l; change = Keep }
 
 -- an Error that advances nothing
 abbrev pub stuckAt : Lexer → Taken
-stuckAt l = record { token = plainToken error; lexer = l; change = Keep }
+stuckAt l = record { token = tokenOf error; lexer = l; change = Keep }

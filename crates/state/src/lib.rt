@@ -6,7 +6,7 @@ ghost use Prim.Native.Nat.{_≤_, _<_};
 ghost use Rattle.base.specs.Refusal.{sourceMost};
 ghost use Rattle.position.specs.Position.{columnMost};
 ghost use Rattle.state.specs.Modes.{quoteOf, hashCountOf};
-ghost use Rattle.state.specs.Lexer.{startLexer, atPlace, advancedLine, advancedLineUtf8, advancedTo, reachOf, settled, indented, remembered, tokenTo, tokenOf, stuckAt};
+ghost use Rattle.state.specs.Lexer.{startLexer, atPlace, advancedLine, advancedLineUtf8, advancedTo, reachOf, settled, indented, remembered, tokenTo, tokenAlong, stuckAt};
 ghost use Rattle.state.specs.State.{startState, stateOf, pushed, popped, replaced, changedBy, Fits};
 use position::Place;
 use position::Reach;
@@ -179,7 +179,7 @@ impl Lexer {
     pub fn token(self, kind: u8, char_bytes: usize) -> Taken
         requires { ⌜ (reachOf self .byte .0 ≤ sourceMost) × («char_bytes» ≤ sourceMost) ⌝ }
         requires { ⌜ reachOf self .position .column .0 ≤ columnMost ⌝ }
-        ensures { λ r. ⌜ r ≡ tokenOf kind «char_bytes» self ⌝ }
+        ensures { λ r. ⌜ r ≡ tokenAlong kind «char_bytes» self ⌝ }
     {
         Taken {
             token: token_of(kind),

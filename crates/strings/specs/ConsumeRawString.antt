@@ -13,7 +13,8 @@ use Rattle.text.specs.Follow.{Followed, Closed, Open, Stopped, follow}
 use Rattle.text.specs.declared.Turn.{Turn}
 use Rattle.text.specs.declared.Turn.the-variants.{Pass, Close}
 use Rattle.state.specs.Modes.{rawEnd, modeCode, quoteOf, hashCountOf}
-use Rattle.state.specs.Lexer.{reachOf, advancedLine, advancedTo, plainToken, stuckAt}
+use Rattle.token.specs.Token.{tokenOf}
+use Rattle.state.specs.Lexer.{reachOf, advancedLine, advancedTo, stuckAt}
 use Rattle.state.specs.declared.Change.the-variants.{Pop, Replace}
 use Rattle.state.specs.declared.Lexer.{Lexer}
 use Rattle.state.specs.declared.Taken.{Taken}
@@ -40,7 +41,7 @@ rawTurn look delimiter c rest =
 -- the mode RawStart gives way to RawEnd
 abbrev pub rawClosed : ℕ → Lexer → Reach → Taken
 rawClosed delimiter l end =
-    record { token = plainToken stringLiteral; lexer = advancedTo end l; change = Replace (modeCode rawEnd delimiter) }
+    record { token = tokenOf stringLiteral; lexer = advancedTo end l; change = Replace (modeCode rawEnd delimiter) }
 
 abbrev pub rawToken : ℕ → Lexer → Followed → Taken
 rawToken delimiter l (Closed end) = rawClosed delimiter l end
@@ -54,4 +55,4 @@ consumeRawStringContents look delimiter cs l = rawToken delimiter l (follow (raw
 -- the end delimiter has already been matched with the contents
 abbrev pub consumeRawStringEnd : ℕ → Lexer → Taken
 consumeRawStringEnd delimiter l =
-    record { token = plainToken stringEnd; lexer = advancedLine (1 + hashCountOf delimiter) l; change = Pop }
+    record { token = tokenOf stringEnd; lexer = advancedLine (1 + hashCountOf delimiter) l; change = Pop }

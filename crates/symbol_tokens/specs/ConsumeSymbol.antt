@@ -11,7 +11,8 @@ use Rattle.symbols.specs.Symbols.{symbolOf}
 use Rattle.symbols.specs.declared.SymbolAt.{SymbolAt}
 use Rattle.symbols.specs.declared.SymbolAt.the-variants.{Is, Nothing}
 use Rattle.state.specs.Modes.{templateExpr, templateExprInlineMap, templateExprFormat, modeCode}
-use Rattle.state.specs.Lexer.{advancedLine, plainToken, tokenOf}
+use Rattle.token.specs.Token.{tokenOf}
+use Rattle.state.specs.Lexer.{advancedLine, tokenAlong}
 use Rattle.state.specs.declared.Change.{Change}
 use Rattle.state.specs.declared.Change.the-variants.{Keep, Push, Pop}
 use Rattle.state.specs.declared.Lexer.{Lexer}
@@ -31,8 +32,8 @@ symbolChange mode kind =
 
 abbrev pub symbolToken : SymbolAt → Lexer → Taken
 symbolToken (Is kind len) l =
-    record { token = plainToken kind; lexer = advancedLine len l; change = symbolChange (l .mode) kind }
-symbolToken Nothing l = tokenOf error 1 l
+    record { token = tokenOf kind; lexer = advancedLine len l; change = symbolChange (l .mode) kind }
+symbolToken Nothing l = tokenAlong error 1 l
 
 -- cs are the characters that are left
 abbrev pub consumeSymbol : List ℕ → Lexer → Taken

@@ -5,7 +5,7 @@ use native.Mathlib.Omega.{arith}
 use Prim.Native.Nat.{ℕ}
 use mathlib.Core.Path.{ap, _∙_}
 use Rattle.token.specs.Kind.{number}
-use Rattle.state.specs.Lexer.{tokenOf}
+use Rattle.state.specs.Lexer.{tokenAlong}
 use Rattle.numbers.specs.PlaceLaws.{place-of, token-fits, bytes-read, read-place}
 use Rattle.numbers.specs.ConsumeNumber.{numberBytes}
 use Rattle.numbers.specs.NumberLaws.{number-place}
@@ -32,7 +32,7 @@ token-requires c κs =
 returns : tie.Need-returns
 returns c =
     c .token .ensures
-    ∙ ap (λ (n : ℕ). tokenOf number n (c .before .before .before .before .args .lexer))
+    ∙ ap (λ (n : ℕ). tokenAlong number n (c .before .before .before .before .args .lexer))
     (bytes-read numberBytes _ (c .before .before .reach .ensures) (c .before .number-end .ensures))
 
 pub consume-number-spec : {M : Type 1} → statement M

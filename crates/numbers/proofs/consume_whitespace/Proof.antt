@@ -7,7 +7,7 @@ use mathlib.Core.Path.{ap, _∙_}
 use Rattle.token.specs.Kind.{whitespace}
 use Rattle.text.specs.Tests.{testOf}
 use Rattle.text.specs.Count.{countWhile}
-use Rattle.state.specs.Lexer.{indented, tokenOf}
+use Rattle.state.specs.Lexer.{indented, tokenAlong}
 use Rattle.numbers.specs.PlaceLaws.{place-of, run-place, token-fits, bytes-read, read-place}
 use Rattle.numbers.proofs.consume_whitespace.Statement.{statement}
 use Rattle.numbers.proofs.consume_whitespace.Tie as tie
@@ -43,8 +43,8 @@ returns c =
     let d = c .before .before in
     let l = d .before .before .before .args .lexer in
     c .token .ensures
-    ∙ ap (tokenOf whitespace _) (c .before .indent-by .ensures)
-    ∙ ap (λ (n : ℕ). tokenOf whitespace n (indented n l)) (bytes-read (countWhile (testOf 0)) _ (d .before .reach .ensures) (d .run-end .ensures))
+    ∙ ap (tokenAlong whitespace _) (c .before .indent-by .ensures)
+    ∙ ap (λ (n : ℕ). tokenAlong whitespace n (indented n l)) (bytes-read (countWhile (testOf 0)) _ (d .before .reach .ensures) (d .run-end .ensures))
 
 pub consume-whitespace-spec : {M : Type 1} → statement M
 consume-whitespace-spec =
