@@ -1,2 +1,4 @@
 pub mod Call
+pub mod Plan
 pub mod CallLaws
+pub mod PlanLaws

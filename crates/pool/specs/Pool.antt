@@ -148,6 +148,12 @@ bytesAfter string counts r bytes = pick (isNew counts r) (written bytes (counts 
 unfoldable pub entriesAfter : List ℕ → Counts → Added → List ℕ → List ℕ
 entriesAfter string counts r entries = pick (isNew counts r) (entered entries (counts .entries) (counts .bytes) (length string)) entries
 
+-- what `add_to_fit` ensures, for a string that is well formed and a pool that is fit: its answer r, and the rows that it leaves
+pub record AddsToFit (string : List ℕ) (counts : Counts) (bytes entries newBytes newEntries : List ℕ) (r : Added) : Type 0 where
+  pub answer : r ≡ addedToFit string bytes entries counts
+  pub bytes-left : newBytes ≡ bytesAfter string counts r bytes
+  pub entries-left : newEntries ≡ entriesAfter string counts r entries
+
 -- what `add_string` ensures: its answer r, and the rows that it leaves
 pub record AddsString (string : List ℕ) (counts : Counts) (bytes entries newBytes newEntries : List ℕ) (r : Added) : Type 0 where
   pub answer : r ≡ added string bytes entries counts

@@ -9,7 +9,7 @@ ghost use mathlib.Core.Bool.{true};
 ghost use Prim.Native.Nat.{_+_, _*_, _≤_, _<_};
 ghost use lib.ListN.{length, take, drop};
 ghost use Rattle.pool.specs.Pool.{same, indexOf, stringsOf, roomOf, runsTo, Within, fitIn, fitPool};
-ghost use Rattle.pool.specs.Pool.{placed, addedToFit, isNew, written, entered, bytesAfter, entriesAfter, AddsString};
+ghost use Rattle.pool.specs.Pool.{placed, isNew, written, entered, AddsToFit, AddsString};
 
 // How many entries and how many bytes of a pool are in use. C may hold it.
 #[repr(C)]
@@ -188,12 +188,16 @@ fn put_entry(entries: &mut [u32], n: usize, start: u32, long: u32)
     entries[2 * n + 1] = long;
 }
 
-// Adds a well-formed string to a fit pool. Only where it was not there, and has room, is anything written.
-fn add_to_fit(string: &[u8], bytes: &mut [u8], entries: &mut [u32], counts: Counts) -> Added
+// Adds a well-formed string to a fit pool, and asks neither: whoever knows both calls this. Only where it was not there, and has room, is anything written.
+pub fn add_to_fit(
+    string: &[u8],
+    bytes: &mut [u8],
+    entries: &mut [u32],
+    counts: Counts,
+) -> Added
     requires { ⌜ fitPool (now bytes) (now entries) counts ≡ true ⌝ }
-    ensures { λ r. ⌜ (r ≡ addedToFit (now (string .entry)) (now (bytes .entry)) (now (entries .entry)) counts)
-        × (now (bytes .exit) ≡ bytesAfter (now (string .entry)) counts r (now (bytes .entry)))
-        × (now (entries .exit) ≡ entriesAfter (now (string .entry)) counts r (now (entries .entry))) ⌝ }
+    ensures { λ r. ⌜ AddsToFit (now (string .entry)) counts (now (bytes .entry)) (now (entries .entry))
+        (now (bytes .exit)) (now (entries .exit)) r ⌝ }
 {
     let n = counts.entries as usize;
     let used = counts.bytes;

@@ -1,9 +1,9 @@
--- `parse_lent::string_of` meets its contract: a fill is a part of the format string, and no fill is none of it. Assumes nothing.
+-- `parse::string_of` meets its contract: a fill is a part of the format string, and no fill is none of it. Assumes nothing.
 use native.Mathlib.Omega.{arith}
-use Rattle.parse_lent.specs.LentLaws.{string-is, part-in}
+use Rattle.parse.specs.PlanLaws.{string-is, part-in}
 use borrow.Author.Needs.{needs}
-use Rattle.parse_lent.proofs.string_of.Statement.{statement}
-use Rattle.parse_lent.proofs.string_of.Tie as tie
+use Rattle.parse.proofs.string_of.Statement.{statement}
+use Rattle.parse.proofs.string_of.Tie as tie
 
 enum-known-fill : tie.Need-enum-known-fill
 enum-known-fill c = search needs
