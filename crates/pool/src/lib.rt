@@ -189,12 +189,7 @@ fn put_entry(entries: &mut [u32], n: usize, start: u32, long: u32)
 }
 
 // Adds a well-formed string to a fit pool, and asks neither: whoever knows both calls this. Only where it was not there, and has room, is anything written.
-pub fn add_to_fit(
-    string: &[u8],
-    bytes: &mut [u8],
-    entries: &mut [u32],
-    counts: Counts,
-) -> Added
+pub fn add_to_fit(string: &[u8], bytes: &mut [u8], entries: &mut [u32], counts: Counts) -> Added
     requires { ⌜ fitPool (now bytes) (now entries) counts ≡ true ⌝ }
     ensures { λ r. ⌜ AddsToFit (now (string .entry)) counts (now (bytes .entry)) (now (entries .entry))
         (now (bytes .exit)) (now (entries .exit)) r ⌝ }

@@ -35,6 +35,7 @@ use Rattle.reading.specs.Scan.{endOf, scanned, written}
 use Rattle.pool.specs.Pool.{stringsFrom, indexOf, roomOf, runsTo, fitIn, placed, added, bytesAfter, entriesAfter}
 use Rattle.pool.specs.Pool as pool
 use Rattle.format.specs.Parse.{peeked, isSign, isDigit, charToAlignment, digitsFrom, consumeU32, representationOf, letterOf, lastArm, armOf, parseFrom}
+use Rattle.input.specs.Input.{inputCheck}
 use Rattle.parse.specs.Call.{addTo, parsed, call}
 use Rattle.promises.specs.Cases.{ran, want, cases}
 
@@ -52,7 +53,7 @@ reads-computed = tt
 -- and every definition of a parse
 unfoldable formats-computed : Unit {0}
 unfolding reads-computed stringsFrom pool.same indexOf roomOf runsTo fitIn placed added bytesAfter entriesAfter peeked isSign isDigit charToAlignment
-    digitsFrom consumeU32 representationOf letterOf lastArm armOf parseFrom addTo parsed call
+    digitsFrom consumeU32 representationOf letterOf lastArm armOf parseFrom inputCheck addTo parsed call
 formats-computed = tt
 
 pub all-cases : map ran cases ≡ map want cases

@@ -213,7 +213,7 @@ module _ {M : Type 1} (𝓤 : URA M) (H : Heap 𝓤) (A : Atoms 𝓤) (W : Given
       owned ! bool (Is bool) (bool-makes 𝓤 H A W) t _ refl $ fjoin ! $ move ! (1 ∷ 0 ∷ []) $ fjoin ! $ move ! (2 ∷ 0 ∷ []) $ fjoin ! $
       nothing ! $ move ! (5 ∷ 0 ∷ []) $ join ! $ move ! (4 ∷ 0 ∷ []) $ join ! $
       use2 W (raw (ReadOf 𝓤 H A at-mem run .pre to-read)) (no-ask 𝓤 H A W (onEntry 𝓤 H A read-of.signature (κ₀, (κ₁, tt))
-        (q₀, (q₁, tt)) read-args read-at)) $
+      (q₀, (q₁, tt)) read-args read-at)) $
       frame ! $ move ! (1 ∷ 0 ∷ []) $ frame ! $ done !
 
   asked-plan : (q : FormatInput) (w : Val) → Is FormatInput.the-row q (w ∷ []) → ent 𝓤 (emp 𝓤) (PlanOf 𝓤 H A at-mem run .pre (to-plan q w))
@@ -222,7 +222,7 @@ module _ {M : Type 1} (𝓤 : URA M) (H : Heap 𝓤) (A : Atoms 𝓤) (W : Given
       nothing ! $ owned ! Counts.the-row (Is Counts.the-row) (counts .makes 𝓤 H A) c _ gc $ fjoin ! $
       owned ! FormatInput.the-row (Is FormatInput.the-row) (input .makes 𝓤 H A) q _ is $ fjoin ! $ nothing ! $
       use2 W (raw (PlanOf 𝓤 H A at-mem run .pre (to-plan q w))) (no-ask 𝓤 H A W (onEntry 𝓤 H A plan-of.signature tt tt (plan-args q)
-        (plan-at w))) $
+      (plan-at w))) $
       done !
 
   abbrev Adds-from : List (Item 𝓤)
@@ -237,7 +237,7 @@ module _ {M : Type 1} (𝓤 : URA M) (H : Heap 𝓤) (A : Atoms 𝓤) (W : Given
       fjoin ! $ move ! (1 ∷ 0 ∷ []) $ fjoin ! $ nothing ! $ move ! (5 ∷ 0 ∷ []) $ join ! $ move ! (4 ∷ 0 ∷ []) $ join ! $
       move ! (3 ∷ 0 ∷ []) $ join ! $
       use2 W (raw (AddBoth 𝓤 H A at-mem run .pre (to-add p w))) (asks 𝓤 H A W (onEntry 𝓤 H A add-both.signature (κ₀, (κ₂, (κ₃, tt)))
-        (q₀, (q₂, (q₃, tt))) (add-args p) (add-at w)) v) $
+      (q₀, (q₂, (q₃, tt))) (add-args p) (add-at w)) v) $
       frame ! $ done !
 
   asked-end : (q : FormatInput) (two : Adding) (w u : Val) → Is FormatInput.the-row q (w ∷ []) → Is Adding.the-row two (u ∷ [])
@@ -247,7 +247,7 @@ module _ {M : Type 1} (𝓤 : URA M) (H : Heap 𝓤) (A : Atoms 𝓤) (W : Given
       nothing ! $ owned ! Adding.the-row (Is Adding.the-row) (adding .makes 𝓤 H A) two _ is₂ $ fjoin ! $
       owned ! FormatInput.the-row (Is FormatInput.the-row) (input .makes 𝓤 H A) q _ is $ fjoin ! $ nothing ! $
       use2 W (raw (EndBy 𝓤 H A at-mem run .pre (to-end q two w u))) (no-ask 𝓤 H A W (onEntry 𝓤 H A end-by.signature tt tt
-        (end-args q two) (end-at w u))) $
+      (end-args q two) (end-at w u))) $
       done !
 
   module _ (C : Calls 𝓤 H) (Λ : Loops 𝓤 H) (fm : FmC 𝓤 H (W .laws) C) (known-read : Triple 𝓤 (C #parse·read)
