@@ -9,7 +9,7 @@ use format::Shown;
 use libc::STDOUT_FILENO;
 use parse::Parsed;
 use parse::answer;
-use pool::Counts;
+use pool_rows::Counts;
 
 // Format strings over this many bytes are refused.
 const TEXT_MOST: usize = 1024;

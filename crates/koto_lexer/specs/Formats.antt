@@ -12,7 +12,7 @@ use Rattle.format.specs.declared.Shown.the-variants.{As, Plain}
 use Rattle.format.specs.declared.Fill.{Fill}
 use Rattle.format.specs.declared.Fill.the-variants.{Is, NoFill}
 use Rattle.format.specs.declared.Options.{Options}
-use Rattle.pool.specs.declared.Counts.{Counts}
+use Rattle.pool_rows.specs.declared.Counts.{Counts}
 use Rattle.pool_lent.specs.Entries as row
 use Rattle.pool_lent.specs.declared.Entry.{Entry}
 use Rattle.parse.specs.Call.{Comes, lent, call, numberOf, valueOf}

@@ -8,8 +8,8 @@ use format::Options;
 use format::Shown;
 use parse::Parsed;
 use parse::answer;
-use pool::Counts;
 use pool_lent::Entry;
+use pool_rows::Counts;
 
 // No number: every option's own number is smaller.
 pub const NONE: u64 = 18446744073709551615;

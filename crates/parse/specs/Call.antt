@@ -14,8 +14,9 @@ use Rattle.input.specs.Input.{inputCheck, onInput}
 use Rattle.input.specs.declared.Refusal.{Refusal}
 use Rattle.input.specs.declared.Refusal.the-variants as refusal
 use Rattle.cluster.specs.Call.{baseEdition}
-use Rattle.pool.specs.Pool.{added, bytesAfter, entriesAfter, fitPool}
-use Rattle.pool.specs.declared.Counts.{Counts}
+use Rattle.pool_rows.specs.Rows.{fitPool}
+use Rattle.pool.specs.Pool.{added, bytesAfter, entriesAfter}
+use Rattle.pool_rows.specs.declared.Counts.{Counts}
 use Rattle.pool.specs.declared.Added.{Added}
 use Rattle.pool.specs.declared.Added.the-variants as pool
 use Rattle.format.specs.Parse as form

@@ -23,9 +23,10 @@ use Rattle.input.specs.Input.{inputCheck}
 use Rattle.input.specs.declared.Refusal.{Refusal}
 use Rattle.input.specs.declared.Input.the-variants as input
 use Rattle.cluster.specs.Call.{baseEdition}
-use Rattle.pool.specs.Pool.{added, bytesAfter, entriesAfter, fitPool, AddsString}
+use Rattle.pool_rows.specs.Rows.{fitPool}
+use Rattle.pool.specs.Pool.{added, bytesAfter, entriesAfter, AddsString}
 use Rattle.pool.specs.PoolLaws.{old-bytes, old-entries, grows, added-again}
-use Rattle.pool.specs.declared.Counts.{Counts}
+use Rattle.pool_rows.specs.declared.Counts.{Counts}
 use Rattle.pool.specs.declared.Added.{Added}
 use Rattle.pool.specs.declared.Added.the-variants as pool
 use Rattle.format.specs.Read.{addBoth}

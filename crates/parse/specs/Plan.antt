@@ -12,8 +12,8 @@ use Rattle.property.specs.Table.{propertiesAt}
 use Rattle.input.specs.Input.{inputCheck, onInput}
 use Rattle.input.specs.declared.Refusal.{Refusal}
 use Rattle.cluster.specs.Call.{baseEdition}
-use Rattle.pool.specs.Pool.{fitPool}
-use Rattle.pool.specs.declared.Counts.{Counts}
+use Rattle.pool_rows.specs.Rows.{fitPool}
+use Rattle.pool_rows.specs.declared.Counts.{Counts}
 use Rattle.format.specs.Parse.{addFill, stringOf}
 use Rattle.format.specs.ParseLaws.{PartIn}
 use Rattle.format.specs.Read.{readFormat}

@@ -24,9 +24,10 @@ use Rattle.input.specs.declared.Refusal.{Refusal}
 use Rattle.input.specs.declared.Input.{Input}
 use Rattle.input.specs.declared.Input.the-variants as check
 use Rattle.cluster.specs.Call.{baseEdition}
-use Rattle.pool.specs.Pool.{fitPool, AddsToFit}
+use Rattle.pool_rows.specs.Rows.{fitPool}
+use Rattle.pool.specs.Pool.{AddsToFit}
 use Rattle.pool.specs.PoolLaws.{adds-fine}
-use Rattle.pool.specs.declared.Counts.{Counts}
+use Rattle.pool_rows.specs.declared.Counts.{Counts}
 use Rattle.pool.specs.declared.Added.{Added}
 use Rattle.format.specs.Parse as form
 use Rattle.format.specs.Parse.{addFill}

@@ -20,7 +20,7 @@ use input::FORMAT_MOST;
 use input::Input;
 use input::Refusal;
 use pool::Added;
-use pool::Counts;
+use pool_rows::Counts;
 
 // The edition of the cluster rules: with GB9c.
 const EDITION: u32 = 2;
@@ -257,7 +257,7 @@ pub fn parse(
     ensures { λ r. ⌜ Parses (now (format .entry)) (now (table .entry)) (now (bytes .entry)) (now (entries .entry)) counts
         (now (bytes .exit)) (now (entries .exit)) r ⌝ }
 {
-    let fit = pool::is_pool_fit(bytes, entries, counts);
+    let fit = pool_rows::is_pool_fit(bytes, entries, counts);
     let input = read(format, table, fit);
     let plan = plan_of(input, counts);
     let two = add_both(format, plan, bytes, entries);

@@ -20,8 +20,8 @@ use denote.Struct.Laws as S
 use denote.Enum.Declared as Enum
 use denote.Enum.Enum.{Few, Plainss}
 use denote.Enum.Laws as E
-use Rattle.pool.proofs.Counts as Counts
-use Rattle.pool.proofs.Counts.Laws as Counts′
+use Rattle.pool_rows.proofs.Counts as Counts
+use Rattle.pool_rows.proofs.Counts.Laws as Counts′
 use Rattle.pool.proofs.Added as Added
 use Rattle.pool.proofs.Added.Laws as Added′
 use Rattle.format.proofs.Fill as Fill

@@ -8,7 +8,7 @@ use mathlib.Core.Path.{_≡_, ap}
 use mathlib.Core.Bool.{Bool, true, false, not}
 use mathlib.Core.List.{List}
 use Rattle.pool.specs.Pool.{AddsString}
-use Rattle.pool.specs.declared.Counts.{Counts}
+use Rattle.pool_rows.specs.declared.Counts.{Counts}
 use Rattle.pool.specs.declared.Added.{Added}
 use Rattle.pool_lent.specs.EntriesLaws.{same-numbers}
 use Rattle.pool_lent.specs.declared.Entry.{Entry}

@@ -4,7 +4,7 @@
 ghost use mathlib.Core.Path.{_≡_};
 ghost use Rattle.format.specs.Parse.{addFill};
 ghost use Rattle.format.specs.ReadLaws.{addPart};
-ghost use Rattle.pool.specs.Pool.{fitPool};
+ghost use Rattle.pool_rows.specs.Rows.{fitPool};
 ghost use Rattle.pool_lent.specs.Entries.{numbersOf};
 ghost use Rattle.parse.specs.Call.{pooled, addTo, Parses};
 ghost use Rattle.parse.specs.Plan.{CanAdd, CanPlan, addPlan};
@@ -14,8 +14,8 @@ use parse::Adding;
 use parse::After;
 use parse::Parsed;
 use parse::Plan;
-use pool::Counts;
 use pool_lent::Entry;
+use pool_rows::Counts;
 
 // Adds a fill, if there is one and all before it had room.
 fn add_fill(

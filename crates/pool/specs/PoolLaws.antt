@@ -27,12 +27,12 @@ use Rattle.utf8.specs.Chars.{checkFrom}
 use Rattle.utf8.specs.CharsLaws.{fine-of-well}
 use Rattle.utf8.specs.declared.Utf8Check.{Utf8Check}
 use Rattle.utf8.specs.declared.Utf8Check.the-variants as utf8
-use Rattle.pool.specs.Pool.{startOf, lengthOf, stringAt, stringsOf, indexOf, roomMost, byteRoom, entryRoom, runsTo, fitPool}
+use Rattle.pool_rows.specs.Rows.{startOf, lengthOf, stringAt, stringsOf, indexOf, roomMost, byteRoom, entryRoom, runsTo, fitPool}
 use Rattle.pool.specs.Pool.{oneMore, placed, onUtf8, addedToFit, added, isNew, written, entered, bytesAfter, entriesAfter}
 use Rattle.pool.specs.Pool.{AddsToFit, AddsString, Grown, numberOf}
-use Rattle.pool.specs.StringsLaws.{index-most, kept-with, shown-with, index-with, strings-long, strings-more, strings-same}
-use Rattle.pool.specs.FitLaws.{room-within, entry-room, Fit, fit-of, fit-by, runs-more, runs-same, within}
-use Rattle.pool.specs.declared.Counts.{Counts}
+use Rattle.pool_rows.specs.StringsLaws.{index-most, kept-with, shown-with, index-with, strings-long, strings-more, strings-same}
+use Rattle.pool_rows.specs.FitLaws.{room-within, entry-room, Fit, fit-of, fit-by, runs-more, runs-same, within}
+use Rattle.pool_rows.specs.declared.Counts.{Counts}
 use Rattle.pool.specs.declared.Added.{Added}
 use Rattle.pool.specs.declared.Added.the-variants.{Index, BadUtf8, BadState, PoolFull}
 

@@ -16,11 +16,12 @@ use Rattle.base.specs.PickLaws.{split-lt}
 use Rattle.utf8.specs.Chars.{checkFrom}
 use Rattle.utf8.specs.declared.Utf8Check.{Utf8Check}
 use Rattle.utf8.specs.declared.Utf8Check.the-variants as utf8
-use Rattle.pool.specs.Pool.{indexOf, stringsOf, roomOf, byteRoom, entryRoom, runsTo, fitIn, fitPool, onUtf8, placed, addedToFit, added}
+use Rattle.pool_rows.specs.Rows.{indexOf, stringsOf, roomOf, byteRoom, entryRoom, runsTo, fitIn, fitPool}
+use Rattle.pool.specs.Pool.{onUtf8, placed, addedToFit, added}
 use Rattle.pool.specs.Pool.{isNew, entered, bytesAfter, AddsString}
-use Rattle.pool.specs.FitLaws.{room-within, fit-of}
+use Rattle.pool_rows.specs.FitLaws.{room-within, fit-of}
 use Rattle.pool.specs.PoolLaws.{settled, placed-same, old-entries, new-entries}
-use Rattle.pool.specs.declared.Counts.{Counts}
+use Rattle.pool_rows.specs.declared.Counts.{Counts}
 use Rattle.pool.specs.declared.Added.{Added}
 use Rattle.pool.specs.declared.Added.the-variants.{BadState}
 use Rattle.pool_lent.specs.Entries.{numbersOf, entryOf}

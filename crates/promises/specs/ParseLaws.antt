@@ -10,8 +10,8 @@ use Rattle.input.specs.Input.{inputCheck}
 use Rattle.input.specs.InputLaws.{is-long, is-table, is-ill, is-fine, fine-of}
 use Rattle.input.specs.declared.Input.{Input}
 use Rattle.input.specs.declared.Input.the-variants.{Fine, Refused}
-use Rattle.pool.specs.Pool.{fitPool}
-use Rattle.pool.specs.declared.Counts.{Counts}
+use Rattle.pool_rows.specs.Rows.{fitPool}
+use Rattle.pool_rows.specs.declared.Counts.{Counts}
 use Rattle.format.specs.declared.Outcome.{Outcome}
 use Rattle.parse.specs.Call.{lent, answerOf, answer, parsed, Comes, comes, call, Parses, numberOf, valueOf}
 use Rattle.parse.specs.CallLaws.{called, one-answer, parses-refused, parses-unfit}

@@ -5,7 +5,7 @@ use Prim.Native.Nat.{ℕ}
 use mathlib.Core.Path.{_≡_, sym, ap, _∙_}
 use mathlib.Core.List.{List}
 use lib.ListN.{replicate}
-use Rattle.pool.specs.declared.Counts.{Counts}
+use Rattle.pool_rows.specs.declared.Counts.{Counts}
 use Rattle.replay_format.specs.Pools.{byteMark, numberMark, Rows, rowsOf, poolIn, poolAt, PoolAgrees}
 use Rattle.replay_format.specs.declared.pools.Loaded.{Loaded}
 

@@ -10,7 +10,7 @@ use Rattle.base.specs.Pick.{pick}
 use Rattle.lines.specs.Fields.{pastFrom, numberFrom, bytesAt}
 use Rattle.lines.specs.Turns.{turned}
 use Rattle.pool.specs.Pool.{written, entered, oneMore}
-use Rattle.pool.specs.declared.Counts.{Counts}
+use Rattle.pool_rows.specs.declared.Counts.{Counts}
 use Rattle.replay_format.specs.declared.pools.Loaded.{Loaded}
 
 -- what stands in a row of bytes before, and in a row of entries

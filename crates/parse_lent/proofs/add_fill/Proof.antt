@@ -20,9 +20,9 @@ use denote.Slice.{shr-slice-lawful}
 use Rattle.pool_lent.proofs.Places.{local, member, sets}
 use denote.Struct.Laws as S
 use Rattle.pool.specs.Pool.{AddsString}
-use Rattle.pool.specs.declared.Counts.{Counts}
+use Rattle.pool_rows.specs.declared.Counts.{Counts}
 use Rattle.pool.specs.declared.Added.{Added}
-use Rattle.pool.proofs.Counts as Counts
+use Rattle.pool_rows.proofs.Counts as Counts
 use Rattle.pool.proofs.Added as Added
 use Rattle.pool_lent.specs.Entries.{numbersOf}
 use Rattle.pool_lent.specs.declared.Entry.{Entry}

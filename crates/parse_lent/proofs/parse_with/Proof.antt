@@ -13,9 +13,9 @@ use Rattle.pool_lent.proofs.Walk.{walked, walk-meets, gave-slice, goes-gave-sli
 use Rattle.pool_lent.proofs.Walk.{Bool}
 use Rattle.pool_lent.proofs.Places.{local, member, sets}
 use denote.Plain.{bool-vals, bool-tells}
-use Rattle.pool.specs.Pool.{fitPool}
-use Rattle.pool.specs.declared.Counts.{Counts}
-use Rattle.pool.proofs.Counts as Counts
+use Rattle.pool_rows.specs.Rows.{fitPool}
+use Rattle.pool_rows.specs.declared.Counts.{Counts}
+use Rattle.pool_rows.proofs.Counts as Counts
 use Rattle.pool_lent.specs.Entries.{numbersOf}
 use Rattle.pool_lent.specs.declared.Entry.{Entry}
 use Rattle.pool_lent.proofs.Entry as E

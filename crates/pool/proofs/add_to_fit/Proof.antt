@@ -7,7 +7,7 @@ use denote.Ref.{now}
 use borrow.Author.Needs.{needs}
 use borrow.Author.Tests.{not-true, not-false}
 use Rattle.pool.specs.Pool.{addedToFit, isNew}
-use Rattle.pool.specs.FitLaws.{searchable, fit-of}
+use Rattle.pool_rows.specs.FitLaws.{searchable, fit-of}
 use Rattle.pool.specs.PoolLaws.{placed-same, old-bytes, old-entries, new-bytes, new-entries, HasRoom, new-has-room}
 use Rattle.pool.proofs.add_to_fit.Statement.{statement}
 use Rattle.pool.proofs.add_to_fit.Tie as tie

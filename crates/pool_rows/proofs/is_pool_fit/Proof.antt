@@ -1,11 +1,11 @@
--- `pool::is_pool_fit` meets its contract: `is_fit` is asked with the room of the rows. Assumes nothing.
+-- `pool_rows::is_pool_fit` meets its contract: `is_fit` is asked with the room of the rows. Assumes nothing.
 use mathlib.Core.Path.{_∙_}
 use native.Mathlib.Omega.{arith}
 use denote.Ref.{now}
 use borrow.Author.Needs.{needs}
-use Rattle.pool.specs.FitLaws.{entry-room}
-use Rattle.pool.proofs.is_pool_fit.Statement.{statement}
-use Rattle.pool.proofs.is_pool_fit.Tie as tie
+use Rattle.pool_rows.specs.FitLaws.{entry-room}
+use Rattle.pool_rows.proofs.is_pool_fit.Statement.{statement}
+use Rattle.pool_rows.proofs.is_pool_fit.Tie as tie
 
 room-of-requires : tie.Need-room-of-requires
 room-of-requires c κs = search needs

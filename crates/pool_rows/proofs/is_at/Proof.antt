@@ -1,10 +1,10 @@
--- `pool::is_at` meets its contract: the part that is compared is the entry's string. Assumes nothing.
+-- `pool_rows::is_at` meets its contract: the part that is compared is the entry's string. Assumes nothing.
 use mathlib.Core.Path.{refl, _∙_}
 use denote.Ref.{now}
 use borrow.Author.Needs.{needs}
-use Rattle.pool.proofs.Loops.{cut-out}
-use Rattle.pool.proofs.is_at.Statement.{statement}
-use Rattle.pool.proofs.is_at.Tie as tie
+use Rattle.pool_rows.proofs.Loops.{cut-out}
+use Rattle.pool_rows.proofs.is_at.Statement.{statement}
+use Rattle.pool_rows.proofs.is_at.Tie as tie
 
 add-end : tie.Need-add-end
 add-end c = search needs

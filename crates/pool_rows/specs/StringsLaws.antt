@@ -16,7 +16,7 @@ use lib.ListN.{length, getD, List·getD-append, length-append}
 use lib.Seq.{getD-append-seam}
 use borrow.Author.Tests.{eq-eqb}
 use Rattle.base.specs.PickLaws.{by-test, by-lt, by-eq, split-lt}
-use Rattle.pool.specs.Pool.{stringAt, stringsFrom, same, indexOf, withString}
+use Rattle.pool_rows.specs.Rows.{stringAt, stringsFrom, same, indexOf, withString}
 
 -- ---- equal strings
 

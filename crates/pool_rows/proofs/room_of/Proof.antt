@@ -1,10 +1,10 @@
--- `pool::room_of` meets its contract: both answers are cases of `roomOf`. Assumes nothing.
+-- `pool_rows::room_of` meets its contract: both answers are cases of `roomOf`. Assumes nothing.
 use mathlib.Core.Path.{sym}
 use borrow.Author.Needs.{needs}
 use Rattle.base.specs.Cases.{cases}
-use Rattle.pool.specs.Pool.{roomOf}
-use Rattle.pool.proofs.room_of.Statement.{statement}
-use Rattle.pool.proofs.room_of.Tie as tie
+use Rattle.pool_rows.specs.Rows.{roomOf}
+use Rattle.pool_rows.proofs.room_of.Statement.{statement}
+use Rattle.pool_rows.proofs.room_of.Tie as tie
 
 cast-if1 : tie.Need-cast-if1
 cast-if1 c = search needs

@@ -1,11 +1,11 @@
--- `pool::runs_to` meets its contract: `Running` is what the loop keeps. Each start is the end before it, a number of 32 bits, so that no sum
+-- `pool_rows::runs_to` meets its contract: `Running` is what the loop keeps. Each start is the end before it, a number of 32 bits, so that no sum
 -- of it and a length passes 8,589,934,590. Assumes nothing.
 use Prim.Native.Nat.{_+_, _*_, _-_, _≤_}
 use native.Mathlib.Omega.{arith}
 use borrow.Author.Needs.{needs}
-use Rattle.pool.proofs.Loops.{Running, run, broken, one-run, all-run}
-use Rattle.pool.proofs.runs_to.Statement.{statement}
-use Rattle.pool.proofs.runs_to.Tie as tie
+use Rattle.pool_rows.proofs.Loops.{Running, run, broken, one-run, all-run}
+use Rattle.pool_rows.proofs.runs_to.Statement.{statement}
+use Rattle.pool_rows.proofs.runs_to.Tie as tie
 
 abbrev Inv-loop : tie.InvT-loop
 Inv-loop entries n end next₀ i₀ next i = (i ≤ n) × (next ≤ 8589934590) × Running entries n end next i

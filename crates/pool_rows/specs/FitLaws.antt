@@ -13,8 +13,8 @@ use mathlib.Core.List.{List}
 use lib.ListN.{length}
 use borrow.Author.Tests.{eqb-true, eq-eqb, le-ltb}
 use Rattle.base.specs.PickLaws.{by-lt, by-eq, split-eq}
-use Rattle.pool.specs.Pool.{startOf, lengthOf, roomMost, roomOf, byteRoom, entryRoom, runsTo, Within, fitIn, fitPool}
-use Rattle.pool.specs.declared.Counts.{Counts}
+use Rattle.pool_rows.specs.Rows.{startOf, lengthOf, roomMost, roomOf, byteRoom, entryRoom, runsTo, Within, fitIn, fitPool}
+use Rattle.pool_rows.specs.declared.Counts.{Counts}
 
 -- ---- room
 

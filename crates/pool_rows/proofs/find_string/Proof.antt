@@ -1,11 +1,11 @@
--- `pool::find_string` meets its contract: `Searching` is what the loop keeps. Assumes nothing.
+-- `pool_rows::find_string` meets its contract: `Searching` is what the loop keeps. Assumes nothing.
 use Prim.Native.Nat.{_-_, _≤_}
 use mathlib.Core.Path.{sym, _∙_}
 use native.Mathlib.Omega.{arith}
 use borrow.Author.Needs.{needs}
-use Rattle.pool.proofs.Loops.{Searching, seek, found-here, not-here, none-left}
-use Rattle.pool.proofs.find_string.Statement.{statement}
-use Rattle.pool.proofs.find_string.Tie as tie
+use Rattle.pool_rows.proofs.Loops.{Searching, seek, found-here, not-here, none-left}
+use Rattle.pool_rows.proofs.find_string.Statement.{statement}
+use Rattle.pool_rows.proofs.find_string.Tie as tie
 
 abbrev Inv-loop : tie.InvT-loop
 Inv-loop string bytes entries n i₀ i = (i ≤ n) × Searching string bytes entries n i

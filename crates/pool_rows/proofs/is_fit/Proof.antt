@@ -1,10 +1,10 @@
--- `pool::is_fit` meets its contract: the code takes the tests of `fitIn` in its order. Assumes nothing.
+-- `pool_rows::is_fit` meets its contract: the code takes the tests of `fitIn` in its order. Assumes nothing.
 use mathlib.Core.Path.{sym}
 use borrow.Author.Needs.{needs}
 use Rattle.base.specs.Cases.{cases}
-use Rattle.pool.specs.Pool.{fitIn}
-use Rattle.pool.proofs.is_fit.Statement.{statement}
-use Rattle.pool.proofs.is_fit.Tie as tie
+use Rattle.pool_rows.specs.Rows.{fitIn}
+use Rattle.pool_rows.proofs.is_fit.Statement.{statement}
+use Rattle.pool_rows.proofs.is_fit.Tie as tie
 
 returns : tie.Need-returns
 unfolding fitIn

@@ -1,12 +1,12 @@
--- `pool::is_same` meets its contract: what is left from i on is the same exactly where the whole is. Assumes nothing.
+-- `pool_rows::is_same` meets its contract: what is left from i on is the same exactly where the whole is. Assumes nothing.
 use Prim.Native.Nat.{_≤_, _-_}
 use mathlib.Core.Path.{_≡_, refl, sym, _∙_}
 use native.Mathlib.Omega.{arith}
 use lib.ListN.{length, drop}
-use Rattle.pool.specs.Pool.{same}
-use Rattle.pool.proofs.Loops.{unlike, differs, goes-on, all-same}
-use Rattle.pool.proofs.is_same.Statement.{statement}
-use Rattle.pool.proofs.is_same.Tie as tie
+use Rattle.pool_rows.specs.Rows.{same}
+use Rattle.pool_rows.proofs.Loops.{unlike, differs, goes-on, all-same}
+use Rattle.pool_rows.proofs.is_same.Statement.{statement}
+use Rattle.pool_rows.proofs.is_same.Tie as tie
 
 abbrev Inv-loop : tie.InvT-loop
 Inv-loop a b i₀ i = (i ≤ length a) × (length a ≡ length b) × (same (drop i a) (drop i b) ≡ same a b)
