@@ -10,7 +10,7 @@ use libc::STDOUT_FILENO;
 use parse::After;
 use parse::Parsed;
 use parse::answer;
-use pool::Counts;
+use pool_rows::Counts;
 
 // Format strings over this many bytes are refused.
 const TEXT_MOST: usize = 1024;

@@ -4,7 +4,7 @@
 use Prim.Native.Nat.{ℕ}
 use mathlib.Core.Path.{_≡_, sym, _∙_}
 use mathlib.Core.List.{List}
-use Rattle.pool.specs.declared.Counts.{Counts}
+use Rattle.pool_rows.specs.declared.Counts.{Counts}
 use Rattle.pool_lent.specs.EntriesLaws.{same-numbers}
 use Rattle.pool_lent.specs.declared.Entry.{Entry}
 use Rattle.koto_pool.specs.Pools.{AddStringIs}

@@ -3,7 +3,7 @@
 use Prim.Native.Nat.{ℕ}
 use mathlib.Core.Path.{_≡_}
 use mathlib.Core.List.{List}
-use Rattle.pool.specs.declared.Counts.{Counts}
+use Rattle.pool_rows.specs.declared.Counts.{Counts}
 use Rattle.pool_lent.specs.Entries as row
 use Rattle.pool_lent.specs.declared.Entry.{Entry}
 use Rattle.parse.specs.Call.{Comes, lent, call, numberOf, valueOf}

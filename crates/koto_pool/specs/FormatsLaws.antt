@@ -3,7 +3,7 @@
 use Prim.Native.Nat.{ℕ}
 use mathlib.Core.Path.{_≡_, subst}
 use mathlib.Core.List.{List}
-use Rattle.pool.specs.declared.Counts.{Counts}
+use Rattle.pool_rows.specs.declared.Counts.{Counts}
 use Rattle.parse.specs.declared.Parsed.{Parsed}
 use Rattle.pool_lent.specs.declared.Entry.{Entry}
 use Rattle.parse_lent.specs.Lent.{ParsesEntries}

@@ -3,8 +3,8 @@ ghost use Rattle.koto_pool.specs.Formats.{ParsedTold, ParseIs};
 use parse::Parsed;
 use parse::answer;
 use parse::numbers;
-use pool::Counts;
 use pool_lent::Entry;
+use pool_rows::Counts;
 
 // Writes an answer's numbers, and hands its refusal on.
 fn tell(parsed: Parsed, options: &mut [u64; 7], value: &mut u64) -> u32

@@ -1,9 +1,9 @@
 // Adding a string to a pool, for C.
 ghost use Rattle.koto_pool.specs.Pools.{AddedTold, AddStringIs};
 use pool::Added;
-use pool::Counts;
 use pool::answer;
 use pool_lent::Entry;
+use pool_rows::Counts;
 
 // Writes an answer's numbers, and hands its refusal on.
 fn tell(added: Added, index: &mut u32, place: &mut usize) -> u32

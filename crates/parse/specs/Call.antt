@@ -6,35 +6,28 @@ use Prim.Native.Nat.{ℕ}
 use mathlib.Core.Path.{_≡_}
 use mathlib.Core.Bool.{Bool, true, false}
 use mathlib.Core.List.{List}
-use lib.Dec.{ltb}
-use lib.ListN.{length}
 use Rattle.base.specs.Pick.{pick}
 use Rattle.base.specs.Refusal.{none, tooLong, badTable, badUtf8, badState, expectedNumber, formatNumberIsTooLarge, unexpectedToken, poolFull, formatMost}
-use Rattle.utf8.specs.Chars.{chars, checkFrom}
-use Rattle.utf8.specs.declared.Utf8Check.{Utf8Check}
-use Rattle.utf8.specs.declared.Utf8Check.the-variants as utf8
+use Rattle.utf8.specs.Chars.{chars}
 use Rattle.property.specs.Table.{propertiesAt}
-use Rattle.fitness.specs.Fit.{tableCheck}
-use Rattle.fitness.specs.declared.TableCheck.{TableCheck}
-use Rattle.fitness.specs.declared.TableCheck.the-variants as table
+use Rattle.input.specs.Input.{inputCheck, onInput}
+use Rattle.input.specs.declared.Refusal.{Refusal}
+use Rattle.input.specs.declared.Refusal.the-variants as refusal
 use Rattle.input.specs.Input.{baseEdition}
-use Rattle.pool.specs.Pool.{added, bytesAfter, entriesAfter, fitPool}
-use Rattle.pool.specs.declared.Counts.{Counts}
+use Rattle.pool_rows.specs.Rows.{fitPool}
+use Rattle.pool.specs.Pool.{added, bytesAfter, entriesAfter}
+use Rattle.pool_rows.specs.declared.Counts.{Counts}
 use Rattle.pool.specs.declared.Added.{Added}
 use Rattle.pool.specs.declared.Added.the-variants as pool
 use Rattle.format.specs.Parse as form
 use Rattle.format.specs.Parse.{parseWith, stringOf}
-use Rattle.format.specs.Read.{readFormat}
 use Rattle.format.specs.declared.Given.{Given}
 use Rattle.format.specs.declared.Given.the-variants.{Number, Nothing}
-use Rattle.format.specs.declared.FormatRead.{FormatRead}
 use Rattle.format.specs.declared.Options.{Options}
 use Rattle.format.specs.declared.Outcome.{Outcome}
 use Rattle.format.specs.declared.Outcome.the-variants as outcome
 use Rattle.parse.specs.declared.Adding.{Adding}
 use Rattle.parse.specs.declared.After.{After}
-use Rattle.parse.specs.declared.Reading.{Reading}
-use Rattle.parse.specs.declared.Reading.the-variants as reading
 use Rattle.parse.specs.declared.Parsed.{Parsed}
 use Rattle.parse.specs.declared.Parsed.the-variants.{Read, TooLong, BadTable, BadUtf8, BadState, ExpectedNumber, FormatNumberIsTooLarge, UnexpectedToken, PoolFull}
 
@@ -109,24 +102,17 @@ pub record Comes : Type 0 where
 abbrev pub comes : Parsed → Pool → Comes
 comes r p = record { answer = r; pool = p }
 
--- r, where the table is fit; else the pool p stays
-abbrev pub onTable : TableCheck → Pool → Comes → Comes
-onTable table.Fit p r = r
-onTable (table.BadTable i) p r = comes (BadTable i) p
+-- a refusal that comes before any work, as an answer
+abbrev pub refusedAs : Refusal → Parsed
+refusedAs refusal.TooLong = TooLong
+refusedAs (refusal.BadTable i) = BadTable i
+refusedAs (refusal.BadUtf8 i) = BadUtf8 i
 
--- r, where the bytes are well formed; wrong bytes and cut ones are one refusal
-abbrev pub onUtf8 : Utf8Check → Pool → Comes → Comes
-onUtf8 utf8.Fine p r = r
-onUtf8 (utf8.BadAt i) p r = comes (BadUtf8 i) p
-onUtf8 (utf8.CutAt i) p r = comes (BadUtf8 i) p
-
--- refusals 1, 2, 3, 8 in this order, and then the parse
+-- refusals 1, 2, 3, 8 in this order, each of which leaves the pool, and then the parse
 unfoldable pub call : List ℕ → List ℕ → Pool → Comes
 call format table p =
-    pick (ltb formatMost (length format)) (comes TooLong p)
-    (onTable (tableCheck table) p
-    (onUtf8 (checkFrom 0 format) p
-    (pick (fitPool (p .bytes) (p .entries) (p .counts)) (comes (answer (parsed format table p)) (parsed format table p .pool)) (comes BadState p))))
+    onInput (λ (x : Refusal). comes (refusedAs x) p) (inputCheck formatMost format table)
+    (pick (fitPool (p .bytes) (p .entries) (p .counts)) (comes (answer (parsed format table p)) (parsed format table p .pool)) (comes BadState p))
 
 -- what `parse` ensures: its answer, and the counts and every word of both rows after it
 pub record Parses (format table bytes entries : List ℕ) (counts : Counts) (newBytes newEntries : List ℕ) (r : After) : Type 0 where
@@ -134,28 +120,6 @@ pub record Parses (format table bytes entries : List ℕ) (counts : Counts) (new
   pub counts-left : r .counts ≡ call format table (lent bytes entries counts) .pool .counts
   pub bytes-left : newBytes ≡ call format table (lent bytes entries counts) .pool .bytes
   pub entries-left : newEntries ≡ call format table (lent bytes entries counts) .pool .entries
-
--- ---- what stands before the pool is looked at
-
--- the reading without a pool
-abbrev pub readOf : List ℕ → List ℕ → FormatRead
-readOf format table = readFormat baseEdition (propertiesAt table) (chars format)
-
-abbrev pub byTable : TableCheck → Reading → Reading
-byTable table.Fit r = r
-byTable (table.BadTable i) r = reading.Refused (BadTable i)
-
-abbrev pub byUtf8 : Utf8Check → Reading → Reading
-byUtf8 utf8.Fine r = r
-byUtf8 (utf8.BadAt i) r = reading.Refused (BadUtf8 i)
-byUtf8 (utf8.CutAt i) r = reading.Refused (BadUtf8 i)
-
--- what `read` answers: refusals 1, 2, 3 in this order, and then the reading
-unfoldable pub readingOf : List ℕ → List ℕ → Reading
-readingOf format table =
-    pick (ltb formatMost (length format)) (reading.Refused TooLong)
-    (byTable (tableCheck table)
-    (byUtf8 (checkFrom 0 format) (reading.Read (readOf format table))))
 
 -- ---- document 01's numbers of an answer
 

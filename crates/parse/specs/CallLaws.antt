@@ -1,56 +1,44 @@
 -- Laws of the call.
 --     adds-full, adds-after   an addition to the pool of a parse: none where one found no room; else by what `add_string` answers
+--     adds-fit                the pool stays fit
 --     again                   adding a string twice in a row is adding it once
 --     two-stages              the one pass is the reading without a pool, and then its two strings added
---     is-long, is-table, is-bad, is-cut, is-read    what `read` answers, by its tests
---     Reads, reads            what it says of a format string that it has read
---     added-read              the strings that it adds are parts of the format string
---     parses-refused          a call that one of refusals 1, 2, 3 meets, which `read` answers
---     read-unfit              a call that refusal 8 meets
---     parses-fine             a call that none of them meets, from the two stages
---     parses-long, parses-table, parses-bad, parses-cut, parses-unfit, called    the same, by the tests of `call`
+--     parses-by               the contract, from what the call comes to
+--     parses-refused          a call that refusal 1, 2 or 3 meets
+--     parses-unfit            a call that refusal 8 meets
+--     called                  what a call comes to that none of them meets
 --     one-answer              no second answer, counts and rows fit
 -- Assumes nothing.
-use Prim.Native.Nat.{ℕ, _<_, _≤_}
+use Prim.Native.Nat.{ℕ}
 use native.Mathlib.Omega.{arith}
-use mathlib.Core.Path.{_≡_, refl, sym, ap, subst, _∙_}
+use mathlib.Core.Path.{_≡_, refl, sym, ap, _∙_}
 use mathlib.Core.Bool.{Bool, true, false}
 use mathlib.Core.List.{List}
-use lib.Dec.{ltb}
-use lib.ListN.{length}
-use borrow.Author.Tests.{lt-ltb, le-ltb, ne-eqb}
-use Rattle.base.specs.Pick.{pick}
+use borrow.Author.Tests.{ne-eqb}
+use Rattle.base.specs.PickLaws.{by-test}
 use Rattle.base.specs.Refusal.{formatMost}
 use Rattle.utf8.specs.Encode.{WellFormed}
-use Rattle.utf8.specs.Chars.{chars, checkFrom}
-use Rattle.utf8.specs.CharsLaws.{fine-of-well, well-of-fine}
-use Rattle.utf8.specs.declared.Utf8Check.{Utf8Check}
-use Rattle.utf8.specs.declared.Utf8Check.the-variants as utf8
 use Rattle.property.specs.Table.{propertiesAt}
-use Rattle.fitness.specs.Fit.{tableCheck}
-use Rattle.fitness.specs.declared.TableCheck.{TableCheck}
-use Rattle.fitness.specs.declared.TableCheck.the-variants as property
+use Rattle.input.specs.Input.{inputCheck}
+use Rattle.input.specs.declared.Refusal.{Refusal}
+use Rattle.input.specs.declared.Input.the-variants as input
 use Rattle.input.specs.Input.{baseEdition}
-use Rattle.pool.specs.Pool.{added, bytesAfter, entriesAfter, fitPool, AddsString}
-use Rattle.pool.specs.PoolLaws.{old-bytes, old-entries, added-again}
-use Rattle.pool.specs.declared.Counts.{Counts}
+use Rattle.pool_rows.specs.Rows.{fitPool}
+use Rattle.pool.specs.Pool.{added, bytesAfter, entriesAfter, AddsString}
+use Rattle.pool.specs.PoolLaws.{old-bytes, old-entries, grows, added-again}
+use Rattle.pool_rows.specs.declared.Counts.{Counts}
 use Rattle.pool.specs.declared.Added.{Added}
 use Rattle.pool.specs.declared.Added.the-variants as pool
-use Rattle.format.specs.Parse as form
-use Rattle.format.specs.Parse.{addFill}
 use Rattle.format.specs.Read.{addBoth}
-use Rattle.format.specs.ReadLaws.{addPart, parse-two-stages, AddedIn, added-in}
+use Rattle.format.specs.ReadLaws.{addPart, parse-two-stages}
 use Rattle.format.specs.declared.Given.{Given}
 use Rattle.format.specs.declared.Given.the-variants.{Number}
-use Rattle.format.specs.declared.FormatRead.{FormatRead}
-use Rattle.parse.specs.Call.{Pool, pooled, addingAfter, onAdded, addTo, lent, answerOf, answer, parsed, Comes, comes, onTable, onUtf8, call, Parses}
-use Rattle.parse.specs.Call.{readOf, byTable, byUtf8, readingOf}
+use Rattle.parse.specs.Call.{Pool, pooled, addingAfter, onAdded, addTo, lent, answer, parsed, refusedAs, Comes, comes, call, Parses}
+use Rattle.parse.specs.Plan.{readOf}
 use Rattle.parse.specs.declared.Adding.{Adding}
 use Rattle.parse.specs.declared.After.{After}
-use Rattle.parse.specs.declared.Reading.{Reading}
-use Rattle.parse.specs.declared.Reading.the-variants.{Refused, Read}
 use Rattle.parse.specs.declared.Parsed.{Parsed}
-use Rattle.parse.specs.declared.Parsed.the-variants.{TooLong, BadTable, BadUtf8, BadState}
+use Rattle.parse.specs.declared.Parsed.the-variants.{BadState}
 
 -- ---- one addition
 
@@ -118,6 +106,29 @@ pub adds-after : (a : Adding) (x : List ℕ) {bytes entries newBytes newEntries 
 adds-after a x {bytes} {entries} {newBytes} {newEntries} {r} f s e =
     ap (λ (y : Adding). pooled newBytes newEntries y) e ∙ adds-after-by a x r r refl f s
 
+-- ---- a fit pool stays fit
+
+module _ (p : Pool) (x : List ℕ) (f : fitPool (p .bytes) (p .entries) (p .counts) ≡ true) where
+  -- the addition that answered so
+  abbrev FitAfter : Pool → Type 0
+  FitAfter q = fitPool (q .bytes) (q .entries) (q .counts) ≡ true
+
+  fit-by : (a : Added) → added x (p .bytes) (p .entries) (p .counts) ≡ a → FitAfter (onAdded p x a)
+  fit-by (pool.Index i counts) e =
+      grows x (p .bytes) (p .entries) (p .counts) _ _ (pool.Index i counts)
+      (record {
+        answer = sym e;
+        bytes-left = ap (λ (y : Added). bytesAfter x (p .counts) y (p .bytes)) (sym e);
+        entries-left = ap (λ (y : Added). entriesAfter x (p .counts) y (p .entries)) (sym e);
+      }) i counts refl .fit
+  fit-by pool.PoolFull e = f
+  fit-by (pool.BadUtf8 n) e = f
+  fit-by pool.BadState e = f
+
+  pub adds-fit : FitAfter (addTo p x)
+  unfolding addTo
+  adds-fit = by-test FitAfter (p .full) (λ _. f) (λ _. fit-by (added x (p .bytes) (p .entries) (p .counts)) refl)
+
 -- ---- twice in a row
 
 module _ (p : Pool) (x : List ℕ) where
@@ -167,86 +178,9 @@ two-stages format table p w = parse-two-stages format addTo again baseEdition (p
 
 -- ---- the call
 
--- what `read` answers: the tests of `call` down to refusal 3, in its order
-module _ (format table : List ℕ) where
-  pub is-long : formatMost < length format → readingOf format table ≡ Refused TooLong
-  unfolding readingOf
-  is-long h = rw (lt-ltb formatMost (length format) h)
-
-  module _ (h : length format ≤ formatMost) where
-    pub is-table : {i : ℕ} → tableCheck table ≡ property.BadTable i → readingOf format table ≡ Refused (BadTable i)
-    unfolding readingOf
-    is-table {i} e = rw (le-ltb formatMost (length format) h, e)
-
-    module _ (t : tableCheck table ≡ property.Fit) where
-      pub is-bad : {i : ℕ} → checkFrom 0 format ≡ utf8.BadAt i → readingOf format table ≡ Refused (BadUtf8 i)
-      unfolding readingOf
-      is-bad {i} e = rw (le-ltb formatMost (length format) h, t, e)
-
-      pub is-cut : {i : ℕ} → checkFrom 0 format ≡ utf8.CutAt i → readingOf format table ≡ Refused (BadUtf8 i)
-      unfolding readingOf
-      is-cut {i} e = rw (le-ltb formatMost (length format) h, t, e)
-
-      pub is-read : checkFrom 0 format ≡ utf8.Fine → {r : FormatRead} → r ≡ readOf format table → readingOf format table ≡ Read r
-      unfolding readingOf
-      is-read e {r} q = rw (le-ltb formatMost (length format) h, t, e, q)
-
--- a format string that `read` has read: it is well formed, and this is its reading
-pub record Reads (format table : List ℕ) (r : FormatRead) : Type 0 where
-  pub well : WellFormed format
-  pub is : r ≡ readOf format table
-
-reads-by : (format table : List ℕ) {r : FormatRead} (b : Bool) (t : TableCheck) (u : Utf8Check) → checkFrom 0 format ≡ u
-    → pick b (Refused TooLong) (byTable t (byUtf8 u (Read (readOf format table)))) ≡ Read r → Reads format table r
-reads-by format table true t u w e = absurd (let z : _≡_ {A = ℕ} 0 1 = cc in omega arith)
-reads-by format table false (property.BadTable i) u w e = absurd (let z : _≡_ {A = ℕ} 0 1 = cc in omega arith)
-reads-by format table false property.Fit (utf8.BadAt i) w e = absurd (let z : _≡_ {A = ℕ} 0 1 = cc in omega arith)
-reads-by format table false property.Fit (utf8.CutAt i) w e = absurd (let z : _≡_ {A = ℕ} 0 1 = cc in omega arith)
-reads-by format table false property.Fit utf8.Fine w e = record { well = well-of-fine 0 format w; is = cc }
-
-pub reads : {format table : List ℕ} {r : FormatRead} → readingOf format table ≡ Read r → Reads format table r
-unfolding readingOf
-reads {format} {table} e = reads-by format table (ltb formatMost (length format)) (tableCheck table) (checkFrom 0 format) refl e
-
--- its strings are parts of it
-pub added-read : (format table : List ℕ) {r : FormatRead} → readingOf format table ≡ Read r → AddedIn format (r .added)
-added-read format table {r} e =
-    let s : Reads format table r = reads e in
-    subst (λ (x : FormatRead). AddedIn format (x .added)) (sym (s .is)) (added-in format baseEdition (propertiesAt table) (s .well))
-
--- ---- the call
-
--- what a call comes to, by what `read` answers: x where the pool is fit
-abbrev byReading : Reading → Bool → Pool → Comes → Comes
-byReading (Refused a) fit p x = comes a p
-byReading (Read r) fit p x = pick fit x (comes BadState p)
-
-same-tests : (b : Bool) (t : TableCheck) (u : Utf8Check) (r : FormatRead) (fit : Bool) (p : Pool) (x : Comes)
-    → pick b (comes TooLong p) (onTable t p (onUtf8 u p (pick fit x (comes BadState p))))
-    ≡ byReading (pick b (Refused TooLong) (byTable t (byUtf8 u (Read r)))) fit p x
-same-tests true t u r fit p x = refl
-same-tests false (property.BadTable i) u r fit p x = refl
-same-tests false property.Fit (utf8.BadAt i) r fit p x = refl
-same-tests false property.Fit (utf8.CutAt i) r fit p x = refl
-same-tests false property.Fit utf8.Fine r fit p x = refl
-
-call-by : (format table : List ℕ) (p : Pool)
-    → call format table p
-    ≡ byReading (readingOf format table) (fitPool (p .bytes) (p .entries) (p .counts)) p (comes (answer (parsed format table p)) (parsed format table p .pool))
-unfolding call readingOf
-call-by format table p =
-    same-tests (ltb formatMost (length format)) (tableCheck table) (checkFrom 0 format) (readOf format table)
-    (fitPool (p .bytes) (p .entries) (p .counts)) p (comes (answer (parsed format table p)) (parsed format table p .pool))
-
--- what it comes to where `read` answered so, and the pool is fit or not
-call-of : (format table bytes entries : List ℕ) (counts : Counts) {q : Reading} {fit : Bool} → readingOf format table ≡ q → fitPool bytes entries counts ≡ fit
-    → call format table (lent bytes entries counts)
-    ≡ byReading q fit (lent bytes entries counts) (comes (answer (parsed format table (lent bytes entries counts))) (parsed format table (lent bytes entries counts) .pool))
-call-of format table bytes entries counts e f = call-by format table (lent bytes entries counts) ∙ rw (e, f)
-
 module _ {format table bytes entries : List ℕ} {counts : Counts} where
   -- from what the call comes to
-  parses-by : {x : Comes} {newBytes newEntries : List ℕ} {r : After} → call format table (lent bytes entries counts) ≡ x → r .answer ≡ x .answer
+  pub parses-by : {x : Comes} {newBytes newEntries : List ℕ} {r : After} → call format table (lent bytes entries counts) ≡ x → r .answer ≡ x .answer
       → r .counts ≡ x .pool .counts → newBytes ≡ x .pool .bytes → newEntries ≡ x .pool .entries
       → Parses format table bytes entries counts newBytes newEntries r
   parses-by e a c b n =
@@ -257,63 +191,29 @@ module _ {format table bytes entries : List ℕ} {counts : Counts} where
         entries-left = n ∙ ap (λ (y : Comes). y .pool .entries) (sym e);
       }
 
-  pub parses-refused : {a : Parsed} → readingOf format table ≡ Refused a
-      → Parses format table bytes entries counts bytes entries (record { answer = a; counts = counts })
-  parses-refused {a} e = parses-by {x = comes a (lent bytes entries counts)} (call-of format table bytes entries counts e refl) refl refl refl refl
+  -- refusals 1, 2, 3
+  pub parses-refused : {x : Refusal} → inputCheck formatMost format table ≡ input.Refused x
+      → Parses format table bytes entries counts bytes entries (record { answer = refusedAs x; counts = counts })
+  unfolding call
+  parses-refused {x} e =
+      let c : call format table (lent bytes entries counts) ≡ comes (refusedAs x) (lent bytes entries counts) = rw e in
+      parses-by {x = comes (refusedAs x) (lent bytes entries counts)} c refl refl refl refl
 
-  module _ {read : FormatRead} (e : readingOf format table ≡ Read read) where
-    pub read-unfit : fitPool bytes entries counts ≡ false → Parses format table bytes entries counts bytes entries (record { answer = BadState; counts = counts })
-    read-unfit f = parses-by {x = comes BadState (lent bytes entries counts)} (call-of format table bytes entries counts e f) refl refl refl refl
+  module _ (e : inputCheck formatMost format table ≡ input.Fine) where
+    -- refusal 8
+    pub parses-unfit : fitPool bytes entries counts ≡ false
+        → Parses format table bytes entries counts bytes entries (record { answer = BadState; counts = counts })
+    unfolding call
+    parses-unfit f =
+        let c : call format table (lent bytes entries counts) ≡ comes BadState (lent bytes entries counts) = rw (e, f) in
+        parses-by {x = comes BadState (lent bytes entries counts)} c refl refl refl refl
 
-    pub parses-fine : fitPool bytes entries counts ≡ true → {one two : Adding} {b₁ e₁ b₂ e₂ : List ℕ} {r : Parsed}
-        → pooled b₁ e₁ one ≡ addFill (addPart format addTo) (lent bytes entries counts) (read .added .first)
-        → pooled b₂ e₂ two ≡ addFill (addPart format addTo) (pooled b₁ e₁ one) (read .added .second)
-        → r ≡ answerOf (read .options) (read .outcome) (two .index) (two .full)
-        → Parses format table bytes entries counts b₂ e₂ (record { answer = r; counts = two .counts })
-    parses-fine f {one} {two} {b₁} {e₁} {b₂} {e₂} {r} s v a =
-        let q : read ≡ readOf format table = reads e .is in
-        let end : pooled b₂ e₂ two ≡ addBoth (addPart format addTo) (lent bytes entries counts) (readOf format table .added) =
-        v ∙ ap (λ (p : Pool). addFill (addPart format addTo) p (read .added .second)) s
-        ∙ ap (λ (x : FormatRead). addBoth (addPart format addTo) (lent bytes entries counts) (x .added)) q in
-        let whole : parsed format table (lent bytes entries counts) ≡ record { options = read .options; outcome = read .outcome; pool = pooled b₂ e₂ two } =
-        two-stages format table (lent bytes entries counts) (reads e .well)
-        ∙ sym (ap (λ (x : FormatRead). record {
-          options = x .options;
-          outcome = x .outcome;
-          pool = addBoth (addPart format addTo) (lent bytes entries counts) (readOf format table .added);
-        }) q)
-        ∙ ap (λ (p : Pool). record { options = read .options; outcome = read .outcome; pool = p }) (sym end) in
-        parses-by
-        {x = comes (answerOf (read .options) (read .outcome) (two .index) (two .full)) (pooled b₂ e₂ two)}
-        (call-of format table bytes entries counts e f ∙ ap (λ (y : form.Parsed Pool). comes (answer y) (y .pool)) whole) a refl refl refl
-
--- ---- the same, by the tests
-
-pub called : (format table bytes entries : List ℕ) (counts : Counts) → length format ≤ formatMost → tableCheck table ≡ property.Fit → WellFormed format
-    → fitPool bytes entries counts ≡ true
+-- none of them
+pub called : (format table bytes entries : List ℕ) (counts : Counts) → inputCheck formatMost format table ≡ input.Fine → fitPool bytes entries counts ≡ true
     → call format table (lent bytes entries counts)
     ≡ comes (answer (parsed format table (lent bytes entries counts))) (parsed format table (lent bytes entries counts) .pool)
-called format table bytes entries counts h t w f = call-of format table bytes entries counts (is-read format table h t (fine-of-well 0 format w) refl) f
-
-module _ {format table bytes entries : List ℕ} {counts : Counts} where
-  pub parses-long : formatMost < length format → Parses format table bytes entries counts bytes entries (record { answer = TooLong; counts = counts })
-  parses-long h = parses-refused (is-long format table h)
-
-  module _ (h : length format ≤ formatMost) where
-    pub parses-table : {i : ℕ} → tableCheck table ≡ property.BadTable i
-        → Parses format table bytes entries counts bytes entries (record { answer = BadTable i; counts = counts })
-    parses-table e = parses-refused (is-table format table h e)
-
-    module _ (t : tableCheck table ≡ property.Fit) where
-      pub parses-bad : {i : ℕ} → checkFrom 0 format ≡ utf8.BadAt i → Parses format table bytes entries counts bytes entries (record { answer = BadUtf8 i; counts = counts })
-      parses-bad e = parses-refused (is-bad format table h t e)
-
-      pub parses-cut : {i : ℕ} → checkFrom 0 format ≡ utf8.CutAt i → Parses format table bytes entries counts bytes entries (record { answer = BadUtf8 i; counts = counts })
-      parses-cut e = parses-refused (is-cut format table h t e)
-
-      pub parses-unfit : WellFormed format → fitPool bytes entries counts ≡ false
-          → Parses format table bytes entries counts bytes entries (record { answer = BadState; counts = counts })
-      parses-unfit w f = read-unfit (is-read format table h t (fine-of-well 0 format w) refl) f
+unfolding call
+called format table bytes entries counts e f = rw (e, f)
 
 -- no second answer, counts and rows fit
 pub one-answer : {format table bytes entries newBytes newEntries newBytes′ newEntries′ : List ℕ} {counts : Counts} {r q : After}

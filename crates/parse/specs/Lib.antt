@@ -1,3 +1,5 @@
 pub mod Call
+pub mod Plan
 pub mod Numbers
 pub mod CallLaws
+pub mod PlanLaws

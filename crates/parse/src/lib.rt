@@ -1,32 +1,28 @@
 // Format options with their pool: string_format_options.rs, `StringFormatOptions::parse`, over lent rows.
 //
 // The Rust adds strings to its pool while it reads. Here the format string is read first (the crate `format`), and then its strings are added,
-// of which there are at most two; an addition that finds no room ends the parse before anything else that was wrong, as in the Rust, where
+// of which there are at most two: UTF-8 and the pool's fitness are asked once, before. An addition that finds no room ends the parse before anything else that was wrong, as in the Rust, where
 // it comes first. What the one pass does is the definition (specs/), and that the two stages are the same is proved.
 pub mod answer;
 pub mod numbers;
 
 ghost use mathlib.Core.Path.{_≡_};
-ghost use Prim.Native.Nat.{_+_, _≤_};
-ghost use lib.ListN.{length};
-ghost use Rattle.format.specs.Parse.{addFill, stringOf};
+ghost use Rattle.format.specs.Parse.{addFill};
 ghost use Rattle.format.specs.ReadLaws.{addPart, FillIn};
-ghost use Rattle.parse.specs.Call.{pooled, addingAfter, addTo, answerOf, readingOf, Parses};
+ghost use Rattle.parse.specs.Call.{pooled, addingAfter, addTo, refusedAs, answerOf, Parses};
+ghost use Rattle.parse.specs.Plan.{inputOf, planWith, planOf, CanAdd, isAdding, fillString, CanPlan, addPlan, endBy};
 use format::Fill;
 use format::FormatRead;
 use format::Given;
 use format::Options;
 use format::Outcome;
-use format::Part;
 use format::read_format;
+use input::EDITION;
+use input::FORMAT_MOST;
+use input::Input;
+use input::Refusal;
 use pool::Added;
-use pool::Counts;
-
-// Format strings over this many bytes are refused.
-const FORMAT_MOST: usize = 65_535;
-
-// The edition of the cluster rules: with GB9c.
-const EDITION: u32 = 2;
+use pool_rows::Counts;
 
 // What a parse answers (document 01, "Refusal numbers").
 pub enum Parsed {
@@ -63,26 +59,99 @@ pub struct Adding {
     pub full: bool,
 }
 
-// What stands before the pool is looked at: one of refusals 1, 2, 3, or the reading of the format string.
-pub enum Reading {
+// What is known before the pool is written to: one of refusals 1, 2, 3, 8, or the reading of the format string.
+pub enum FormatInput {
     Refused(Parsed),
     Read(FormatRead),
 }
 
-// Reads a format string without its pool. Refused are one that is too long, then a table that is unfit, then bytes that are ill-formed.
-pub fn read(format: &[u8], table: &[u32]) -> Reading
-    ensures { λ r. ⌜ r ≡ readingOf (now (format .entry)) (now (table .entry)) ⌝ }
+// What is to be added: at most two strings, one after the other, to a pool to which none is added yet.
+pub struct Plan {
+    pub first: Fill,
+    pub second: Fill,
+    pub none: Adding,
+}
+
+// A refusal that comes before any work, as an answer.
+fn refused(refusal: Refusal) -> Parsed
+    ensures { λ r. ⌜ r ≡ refusedAs refusal ⌝ }
 {
-    if FORMAT_MOST < format.len() {
-        return Reading::Refused(Parsed::TooLong);
+    match refusal {
+        Refusal::TooLong => Parsed::TooLong,
+        Refusal::BadTable(i) => Parsed::BadTable(i),
+        Refusal::BadUtf8(i) => Parsed::BadUtf8(i),
     }
-    match fitness::check_table(table) {
-        fitness::TableCheck::BadTable(i) => Reading::Refused(Parsed::BadTable(i)),
-        fitness::TableCheck::Fit => match utf8::check_utf8(format) {
-            utf8::Utf8Check::BadAt(i) => Reading::Refused(Parsed::BadUtf8(i)),
-            utf8::Utf8Check::CutAt(i) => Reading::Refused(Parsed::BadUtf8(i)),
-            utf8::Utf8Check::Fine => Reading::Read(read_format(format, table, EDITION)),
-        },
+}
+
+// Reads a format string, for a pool that is fit or not. Refused are a format string that is too long, then a table that is unfit, then bytes
+// that are ill-formed, then a pool that is unfit.
+pub fn read(format: &[u8], table: &[u32], fit: bool) -> FormatInput
+    ensures { λ r. ⌜ r ≡ inputOf (now (format .entry)) (now (table .entry)) fit ⌝ }
+{
+    match input::check_input(format, table, FORMAT_MOST) {
+        Input::Refused(refusal) => FormatInput::Refused(refused(refusal)),
+        Input::Fine => {
+            if fit {
+                return FormatInput::Read(read_format(format, table, EDITION));
+            }
+            FormatInput::Refused(Parsed::BadState)
+        }
+    }
+}
+
+// A plan with these strings.
+fn plan_with(first: Fill, second: Fill, counts: Counts) -> Plan
+    ensures { λ r. ⌜ r ≡ planWith first second counts ⌝ }
+{
+    let none = Adding {
+        counts,
+        index: Given::Nothing,
+        full: false,
+    };
+    Plan {
+        first,
+        second,
+        none,
+    }
+}
+
+// The plan: the strings of the reading. A refusal adds nothing.
+pub fn plan_of(input: FormatInput, counts: Counts) -> Plan
+    ensures { λ r. ⌜ r ≡ planOf input counts ⌝ }
+{
+    match input {
+        FormatInput::Refused(_) => plan_with(Fill::NoFill, Fill::NoFill, counts),
+        FormatInput::Read(read) => {
+            let added = read.added;
+            let first = added.first;
+            let second = added.second;
+            plan_with(first, second, counts)
+        }
+    }
+}
+
+// Whether a fill is to be added: not after an addition without room.
+pub fn is_adding(fill: Fill, adding: Adding) -> bool
+    ensures { λ r. ⌜ r ≡ isAdding fill adding ⌝ }
+{
+    match fill {
+        Fill::Is(_) => !adding.full,
+        Fill::NoFill => false,
+    }
+}
+
+// The string of a fill.
+pub fn string_of<'a>(format: &'a [u8], fill: Fill) -> &'a [u8]
+    requires { ⌜ FillIn (now format) fill ⌝ }
+    ensures { λ r. ⌜ now r ≡ fillString (now (format .entry)) fill ⌝ }
+{
+    match fill {
+        Fill::Is(part) => {
+            let place = part.place;
+            let end = place + part.len;
+            &format[place..end]
+        }
+        Fill::NoFill => &format[0..0],
     }
 }
 
@@ -108,29 +177,7 @@ pub fn after_added(adding: Adding, added: Added) -> Adding
     }
 }
 
-// Adds a part of the format string to the pool, if all before it had room.
-fn add_part(
-    format: &[u8],
-    part: Part,
-    bytes: &mut [u8],
-    entries: &mut [u32],
-    adding: Adding,
-) -> Adding
-    requires { ⌜ part .place + part .len ≤ length (now format) ⌝ }
-    ensures { λ r. ⌜ pooled (now (bytes .exit)) (now (entries .exit)) r
-        ≡ addTo (pooled (now (bytes .entry)) (now (entries .entry)) adding) (stringOf (now (format .entry)) part) ⌝ }
-{
-    if adding.full {
-        return adding;
-    }
-    let counts = adding.counts;
-    let place = part.place;
-    let end = place + part.len;
-    let added = pool::add_string(&format[place..end], bytes, entries, counts);
-    after_added(adding, added)
-}
-
-// Adds a fill, if there is one.
+// Adds a fill, if there is one and all before it had room.
 fn add_fill(
     format: &[u8],
     fill: Fill,
@@ -138,14 +185,28 @@ fn add_fill(
     entries: &mut [u32],
     adding: Adding,
 ) -> Adding
-    requires { ⌜ FillIn (now format) fill ⌝ }
+    requires { ⌜ CanAdd (now format) (pooled (now bytes) (now entries) adding) fill ⌝ }
     ensures { λ r. ⌜ pooled (now (bytes .exit)) (now (entries .exit)) r
         ≡ addFill (addPart (now (format .entry)) addTo) (pooled (now (bytes .entry)) (now (entries .entry)) adding) fill ⌝ }
 {
-    match fill {
-        Fill::Is(part) => add_part(format, part, bytes, entries, adding),
-        Fill::NoFill => adding,
+    if is_adding(fill, adding) {
+        let counts = adding.counts;
+        let added = pool::add_to_fit(string_of(format, fill), bytes, entries, counts);
+        return after_added(adding, added);
     }
+    adding
+}
+
+// Adds the strings of a plan, one after the other.
+fn add_both(format: &[u8], plan: Plan, bytes: &mut [u8], entries: &mut [u32]) -> Adding
+    requires { ⌜ CanPlan (now format) plan (now bytes) (now entries) ⌝ }
+    ensures { λ r. ⌜ pooled (now (bytes .exit)) (now (entries .exit)) r ≡ addPlan (now (format .entry)) plan (now (bytes .entry)) (now (entries .entry)) ⌝ }
+{
+    let first = plan.first;
+    let second = plan.second;
+    let none = plan.none;
+    let one = add_fill(format, first, &mut *bytes, &mut *entries, none);
+    add_fill(format, second, bytes, entries, one)
 }
 
 // The answer, from how the reading ended and what was added.
@@ -163,6 +224,25 @@ pub fn answer_of(options: Options, outcome: Outcome, index: Given, full: bool) -
     }
 }
 
+// The answer and the counts, once all is added.
+pub fn end_by(input: FormatInput, two: Adding) -> After
+    ensures { λ r. ⌜ r ≡ endBy input two ⌝ }
+{
+    let counts = two.counts;
+    let index = two.index;
+    match input {
+        FormatInput::Refused(answer) => After { answer, counts },
+        FormatInput::Read(read) => {
+            let options = read.options;
+            let outcome = read.outcome;
+            After {
+                answer: answer_of(options, outcome, index, two.full),
+                counts,
+            }
+        }
+    }
+}
+
 // Parses a format string: its options, with the fill's index in the pool. Refused are a format string that is too long, then a table that is
 // unfit, then bytes that are ill-formed, then a pool that is unfit, each before a word is written; then what the Rust refuses, and a string
 // without room. Strings added before that stay.
@@ -176,33 +256,9 @@ pub fn parse(
     ensures { λ r. ⌜ Parses (now (format .entry)) (now (table .entry)) (now (bytes .entry)) (now (entries .entry)) counts
         (now (bytes .exit)) (now (entries .exit)) r ⌝ }
 {
-    match read(format, table) {
-        Reading::Refused(answer) => After { answer, counts },
-        Reading::Read(read) => {
-            if !pool::is_pool_fit(bytes, entries, counts) {
-                return After {
-                    answer: Parsed::BadState,
-                    counts,
-                };
-            }
-            let options = read.options;
-            let outcome = read.outcome;
-            let added = read.added;
-            let first = added.first;
-            let second = added.second;
-            let none = Adding {
-                counts,
-                index: Given::Nothing,
-                full: false,
-            };
-            let one = add_fill(format, first, &mut *bytes, &mut *entries, none);
-            let two = add_fill(format, second, &mut *bytes, &mut *entries, one);
-            let index = two.index;
-            let left = two.counts;
-            After {
-                answer: answer_of(options, outcome, index, two.full),
-                counts: left,
-            }
-        }
-    }
+    let fit = pool_rows::is_pool_fit(bytes, entries, counts);
+    let input = read(format, table, fit);
+    let plan = plan_of(input, counts);
+    let two = add_both(format, plan, bytes, entries);
+    end_by(input, two)
 }

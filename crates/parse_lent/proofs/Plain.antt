@@ -20,8 +20,8 @@ use denote.Struct.Laws as S
 use denote.Enum.Declared as Enum
 use denote.Enum.Enum.{Few, Plainss}
 use denote.Enum.Laws as E
-use Rattle.pool.proofs.Counts as Counts
-use Rattle.pool.proofs.Counts.Laws as Counts′
+use Rattle.pool_rows.proofs.Counts as Counts
+use Rattle.pool_rows.proofs.Counts.Laws as Counts′
 use Rattle.pool.proofs.Added as Added
 use Rattle.pool.proofs.Added.Laws as Added′
 use Rattle.format.proofs.Fill as Fill
@@ -32,10 +32,10 @@ use Rattle.parse.proofs.After as After
 use Rattle.parse.proofs.After.Laws as After′
 use Rattle.parse.proofs.Parsed as Parsed
 use Rattle.parse.proofs.Parsed.Laws as Parsed′
-use Rattle.parse.proofs.Reading as Reading
-use Rattle.parse.proofs.Reading.Laws as Reading′
-use Rattle.parse_lent.proofs.Plan as Plan
-use Rattle.parse_lent.proofs.Plan.Laws as Plan′
+use Rattle.parse.proofs.FormatInput as FormatInput
+use Rattle.parse.proofs.FormatInput.Laws as FormatInput′
+use Rattle.parse.proofs.Plan as Plan
+use Rattle.parse.proofs.Plan.Laws as Plan′
 
 pub record Plain (R : RattleType) : Type 2 where
   pub val : R .Denot → Val
@@ -67,8 +67,8 @@ after = struct After.the-type After′.the-laws After′.the-plain
 abbrev pub parsed : Plain Parsed.the-row
 parsed = enum Parsed.the-type Parsed′.the-laws tt Parsed′.the-plain
 
-abbrev pub reading : Plain Reading.the-row
-reading = enum Reading.the-type Reading′.the-laws tt Reading′.the-plain
+abbrev pub input : Plain FormatInput.the-row
+input = enum FormatInput.the-type FormatInput′.the-laws tt FormatInput′.the-plain
 
 abbrev pub plan : Plain Plan.the-row
 plan = struct Plan.the-type Plan′.the-laws Plan′.the-plain

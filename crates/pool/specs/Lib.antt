@@ -1,4 +1,2 @@
 pub mod Pool
-pub mod StringsLaws
-pub mod FitLaws
 pub mod PoolLaws

@@ -3,6 +3,7 @@
 --     old-bytes, old-entries, new-bytes, new-entries    the rows after an answer
 --     new-has-room                where a new index is handed out, the rows have room
 --     wrong, cut, unfit, unrefused                      the answer, from what the checks of the string and of the pool say
+--     settled, adds-fine          what `add_string` ensures, by the answer, and by `AddsToFit` where no check refuses
 --     grows                       an index answered leaves a pool that has grown so
 --     there-costs-nothing, refused-writes-nothing       when counts and rows stay
 --     index-kept, index-shows     no addition changes what an index means, and the string stands at the index answered
@@ -26,12 +27,12 @@ use Rattle.utf8.specs.Chars.{checkFrom}
 use Rattle.utf8.specs.CharsLaws.{fine-of-well}
 use Rattle.utf8.specs.declared.Utf8Check.{Utf8Check}
 use Rattle.utf8.specs.declared.Utf8Check.the-variants as utf8
-use Rattle.pool.specs.Pool.{startOf, lengthOf, stringAt, stringsOf, indexOf, roomMost, byteRoom, entryRoom, runsTo, fitPool}
+use Rattle.pool_rows.specs.Rows.{startOf, lengthOf, stringAt, stringsOf, indexOf, roomMost, byteRoom, entryRoom, runsTo, fitPool}
 use Rattle.pool.specs.Pool.{oneMore, placed, onUtf8, addedToFit, added, isNew, written, entered, bytesAfter, entriesAfter}
-use Rattle.pool.specs.Pool.{AddsString, Grown, numberOf}
-use Rattle.pool.specs.StringsLaws.{index-most, kept-with, shown-with, index-with, strings-long, strings-more, strings-same}
-use Rattle.pool.specs.FitLaws.{room-within, entry-room, Fit, fit-of, fit-by, runs-more, runs-same, within}
-use Rattle.pool.specs.declared.Counts.{Counts}
+use Rattle.pool.specs.Pool.{AddsToFit, AddsString, Grown, numberOf}
+use Rattle.pool_rows.specs.StringsLaws.{index-most, kept-with, shown-with, index-with, strings-long, strings-more, strings-same}
+use Rattle.pool_rows.specs.FitLaws.{room-within, entry-room, Fit, fit-of, fit-by, runs-more, runs-same, within}
+use Rattle.pool_rows.specs.declared.Counts.{Counts}
 use Rattle.pool.specs.declared.Added.{Added}
 use Rattle.pool.specs.declared.Added.the-variants.{Index, BadUtf8, BadState, PoolFull}
 
@@ -246,6 +247,15 @@ module _ (string bytes entries : List ℕ) (counts : Counts) where
       → added string bytes entries counts ≡ addedToFit string bytes entries counts
   unfolding added
   unrefused e f = rw (e, f)
+
+  -- an addition by what it answered, and one of a string and to a pool that both are fine
+  pub settled : {newBytes newEntries : List ℕ} {r : Added} → r ≡ added string bytes entries counts → newBytes ≡ bytesAfter string counts r bytes
+      → newEntries ≡ entriesAfter string counts r entries → AddsString string counts bytes entries newBytes newEntries r
+  settled e f g = record { answer = e; bytes-left = rw (sym e) f; entries-left = rw (sym e) g }
+
+  pub adds-fine : checkFrom 0 string ≡ utf8.Fine → fitPool bytes entries counts ≡ true → {newBytes newEntries : List ℕ} {r : Added}
+      → AddsToFit string counts bytes entries newBytes newEntries r → AddsString string counts bytes entries newBytes newEntries r
+  adds-fine w f a = settled (a .answer ∙ sym (unrefused w f)) (a .bytes-left) (a .entries-left)
 
   -- what an index answered says of the rows
   abbrev Leaves : Added → Type 0

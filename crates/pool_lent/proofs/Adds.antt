@@ -16,14 +16,14 @@ use Rattle.base.specs.PickLaws.{split-lt}
 use Rattle.utf8.specs.Chars.{checkFrom}
 use Rattle.utf8.specs.declared.Utf8Check.{Utf8Check}
 use Rattle.utf8.specs.declared.Utf8Check.the-variants as utf8
-use Rattle.pool.specs.Pool.{indexOf, stringsOf, roomOf, byteRoom, entryRoom, runsTo, fitIn, fitPool, onUtf8, placed, addedToFit, added}
+use Rattle.pool_rows.specs.Rows.{indexOf, stringsOf, roomOf, byteRoom, entryRoom, runsTo, fitIn, fitPool}
+use Rattle.pool.specs.Pool.{onUtf8, placed, addedToFit, added}
 use Rattle.pool.specs.Pool.{isNew, entered, bytesAfter, AddsString}
-use Rattle.pool.specs.FitLaws.{room-within, fit-of}
-use Rattle.pool.specs.PoolLaws.{placed-same, old-entries, new-entries}
-use Rattle.pool.specs.declared.Counts.{Counts}
+use Rattle.pool_rows.specs.FitLaws.{room-within, fit-of}
+use Rattle.pool.specs.PoolLaws.{settled, placed-same, old-entries, new-entries}
+use Rattle.pool_rows.specs.declared.Counts.{Counts}
 use Rattle.pool.specs.declared.Added.{Added}
 use Rattle.pool.specs.declared.Added.the-variants.{BadState}
-use Rattle.pool.proofs.Answers.{settled}
 use Rattle.pool_lent.specs.Entries.{numbersOf, entryOf}
 use Rattle.pool_lent.specs.Decided.{least, EndsAt, fitAt, answerAt}
 use Rattle.pool_lent.specs.EntriesLaws.{numbers-long, numbers-set}
@@ -99,12 +99,12 @@ module _ (bytes : List ℕ) (es : List Entry) (counts : Counts) (n : ℕ) (n-is 
 
       module _ (newBytes : List ℕ) (bytes-as : newBytes ≡ bytesAfter string counts r bytes) where
         pub settled-old : isNew counts r ≡ false → AddsString string counts bytes (numbersOf es) newBytes (numbersOf es) r
-        settled-old e = settled _ _ _ _ _ _ _ answer-is bytes-as (sym (old-entries string counts r e (numbersOf es)))
+        settled-old e = settled _ _ _ _ answer-is bytes-as (sym (old-entries string counts r e (numbersOf es)))
 
         pub settled-new : (ds : List Entry) → ds ≡ set es n (entryOf (counts .bytes) (length string)) → isNew counts r ≡ true
             → AddsString string counts bytes (numbersOf es) newBytes (numbersOf ds) r
         settled-new ds ds-as e =
-            settled _ _ _ _ _ _ _ answer-is bytes-as
+            settled _ _ _ _ answer-is bytes-as
             (ap numbersOf ds-as
             ∙ numbers-set es n (counts .bytes) (length string)
             ∙ ap (λ (m : ℕ). entered (numbersOf es) m (counts .bytes) (length string)) (within-row (parts (new-fit e .0) .0))

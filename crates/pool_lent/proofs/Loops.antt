@@ -11,8 +11,8 @@ use mathlib.Core.List.{List}
 use lib.ListN.{take, drop}
 use borrow.Author.Tests.{ne-eqb}
 use Rattle.base.specs.PickLaws.{by-eq, split-lt}
-use Rattle.pool.specs.Pool.{stringAt, stringsOf, same, indexOf, runsTo}
-use Rattle.pool.proofs.Loops.{Running, run, broken, one-run, all-run, Searching, found-here, not-here}
+use Rattle.pool_rows.specs.Rows.{stringAt, stringsOf, same, indexOf, runsTo}
+use Rattle.pool_rows.proofs.Loops.{Running, run, broken, one-run, all-run, Searching, found-here, not-here}
 use Rattle.pool_lent.specs.Entries.{numbersOf}
 use Rattle.pool_lent.specs.Decided.{nowhere, endOf, EndsAt}
 use Rattle.pool_lent.specs.EntriesLaws.{entryAt, start-is, length-is}

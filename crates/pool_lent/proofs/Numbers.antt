@@ -15,8 +15,9 @@ use borrow.Author.Tests.{eqb-true, lt-ltb, le-ltb}
 use Rattle.base.specs.PickLaws.{by-lt, split-lt}
 use Rattle.utf8.specs.Chars.{checkFrom}
 use Rattle.utf8.specs.declared.Utf8Check.the-variants as utf8
-use Rattle.pool.specs.Pool.{roomOf, byteRoom, placed, isNew}
-use Rattle.pool.specs.declared.Counts.{Counts}
+use Rattle.pool_rows.specs.Rows.{roomOf, byteRoom}
+use Rattle.pool.specs.Pool.{placed, isNew}
+use Rattle.pool_rows.specs.declared.Counts.{Counts}
 use Rattle.pool.specs.declared.Added.{Added}
 use Rattle.pool_lent.specs.Decided.{least, answerAt}
 

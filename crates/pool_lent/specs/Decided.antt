@@ -8,8 +8,9 @@ use lib.Dec.{eqb, ltb}
 use lib.ListN.{length}
 use Rattle.base.specs.Pick.{pick}
 use Rattle.utf8.specs.Chars.{checkFrom}
-use Rattle.pool.specs.Pool.{roomMost, roomOf, byteRoom, runsTo, onUtf8, placed}
-use Rattle.pool.specs.declared.Counts.{Counts}
+use Rattle.pool_rows.specs.Rows.{roomMost, roomOf, byteRoom, runsTo}
+use Rattle.pool.specs.Pool.{onUtf8, placed}
+use Rattle.pool_rows.specs.declared.Counts.{Counts}
 use Rattle.pool.specs.declared.Added.{Added}
 use Rattle.pool.specs.declared.Added.the-variants.{BadState}
 use Rattle.pool_lent.specs.Entries.{numbersOf}

@@ -10,9 +10,10 @@ use native.Mathlib.Omega.{arith}
 use mathlib.Core.Path.{_≡_, refl, sym, ap, _∙_}
 use mathlib.Core.List.{List, [], _∷_}
 use lib.ListN.{length, getD, set}
-use Rattle.pool.specs.Pool.{startOf, lengthOf, entered, countsAfter}
+use Rattle.pool_rows.specs.Rows.{startOf, lengthOf}
+use Rattle.pool.specs.Pool.{entered, countsAfter}
 use Rattle.pool.specs.PoolLaws.{one-answer}
-use Rattle.pool.specs.declared.Counts.{Counts}
+use Rattle.pool_rows.specs.declared.Counts.{Counts}
 use Rattle.pool.specs.declared.Added.{Added}
 use Rattle.pool_lent.specs.Entries.{entryOf, numbersOf, AddsEntry}
 use Rattle.pool_lent.specs.declared.Entry.{Entry}

@@ -5,11 +5,12 @@ ghost use mathlib.Core.Path.{_≡_};
 ghost use mathlib.Core.Bool.{true};
 ghost use Prim.Native.Nat.{_≤_, _<_};
 ghost use lib.ListN.{length, set, take, drop};
-ghost use Rattle.pool.specs.Pool.{same, indexOf, stringsOf, roomOf, byteRoom, fitPool, placed, bytesAfter, countsAfter, AddsString};
+ghost use Rattle.pool_rows.specs.Rows.{same, indexOf, stringsOf, roomOf, byteRoom, fitPool};
+ghost use Rattle.pool.specs.Pool.{placed, bytesAfter, countsAfter, AddsString};
 ghost use Rattle.pool_lent.specs.Entries.{numbersOf, entryOf, AddsEntry};
 ghost use Rattle.pool_lent.specs.Decided.{least, endOf, EndsAt, fitAt, answerAt};
 use pool::Added;
-use pool::Counts;
+use pool_rows::Counts;
 
 // An entry: where its string starts in the row of bytes, and how long it is. C may hold a row of them.
 #[repr(C)]
@@ -47,10 +48,10 @@ fn end_of(end: u64, start: u32, len: u32) -> u64
 fn is_fit_at(bytes: usize, entries: usize, counts: Counts, end: u64) -> bool
     ensures { λ r. ⌜ r ≡ fitAt bytes entries counts end ⌝ }
 {
-    if pool::room_of(entries) < counts.entries {
+    if pool_rows::room_of(entries) < counts.entries {
         return false;
     }
-    if pool::room_of(bytes) < counts.bytes {
+    if pool_rows::room_of(bytes) < counts.bytes {
         return false;
     }
     end == counts.bytes as u64
@@ -62,7 +63,7 @@ fn is_string(string: &[u8], bytes: &[u8], start: u32, len: u32) -> bool
 {
     let first = least(start as usize, bytes.len());
     let end = least(first + len as usize, bytes.len());
-    pool::is_same(&bytes[first..end], string)
+    pool_rows::is_same(&bytes[first..end], string)
 }
 
 // The answer for a well-formed string in a fit pool with a row of so many entries, where the search found it at an index. A new string's
@@ -78,8 +79,8 @@ fn add_to_fit(
     ensures { λ r. ⌜ (r ≡ placed (length (now (string .entry))) found counts (roomOf entries) (byteRoom (now (bytes .entry))))
         × (now (bytes .exit) ≡ bytesAfter (now (string .entry)) counts r (now (bytes .entry))) ⌝ }
 {
-    let entry_room = pool::room_of(entries);
-    let byte_room = pool::room_of(bytes.len());
+    let entry_room = pool_rows::room_of(entries);
+    let byte_room = pool_rows::room_of(bytes.len());
     let answer = pool::place(string.len(), found, counts, entry_room, byte_room);
     if !pool::is_new(counts, answer) {
         return answer;

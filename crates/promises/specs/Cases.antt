@@ -9,7 +9,7 @@ use Rattle.fitness.specs.Small.{smallTable}
 use Rattle.token.specs.Kind.{error, commentMulti, id, stringStart, stringEnd, stringLiteral, dot, else, elseIf}
 use Rattle.rows.specs.declared.Row.{Row}
 use Rattle.words.specs.Words.{bytes}
-use Rattle.pool.specs.Pool.{stringsOf}
+use Rattle.pool_rows.specs.Rows.{stringsOf}
 use Rattle.format.specs.declared.Alignment.the-variants.{Default}
 use Rattle.format.specs.declared.Shown.the-variants.{Plain}
 use Rattle.format.specs.declared.Given.{Given}

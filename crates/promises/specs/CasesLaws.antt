@@ -35,9 +35,11 @@ use Rattle.lexer.specs.GetNextToken.{inLiteral, inCode, takeToken, remainingAt}
 use Rattle.lexer.specs.Step.{stoodStill, half, step}
 use Rattle.reading.specs.Reading.{readIn, readFrom}
 use Rattle.reading.specs.Scan.{endOf, scanned, written}
-use Rattle.pool.specs.Pool.{stringsFrom, indexOf, roomOf, runsTo, fitIn, placed, added, bytesAfter, entriesAfter}
-use Rattle.pool.specs.Pool as pool
+use Rattle.pool_rows.specs.Rows.{stringsFrom, indexOf, roomOf, runsTo, fitIn}
+use Rattle.pool.specs.Pool.{placed, added, bytesAfter, entriesAfter}
+use Rattle.pool_rows.specs.Rows as rows
 use Rattle.format.specs.Parse.{peeked, isSign, isDigit, charToAlignment, digitsFrom, consumeU32, representationOf, letterOf, lastArm, armOf, parseFrom}
+use Rattle.input.specs.Input.{inputCheck}
 use Rattle.parse.specs.Call.{addTo, parsed, call}
 use Rattle.promises.specs.Cases.{ran, want, cases}
 
@@ -54,8 +56,8 @@ reads-computed = tt
 
 -- and every definition of a parse
 unfoldable formats-computed : Unit {0}
-unfolding reads-computed stringsFrom pool.same indexOf roomOf runsTo fitIn placed added bytesAfter entriesAfter peeked isSign isDigit charToAlignment
-    digitsFrom consumeU32 representationOf letterOf lastArm armOf parseFrom addTo parsed call
+unfolding reads-computed stringsFrom rows.same indexOf roomOf runsTo fitIn placed added bytesAfter entriesAfter peeked isSign isDigit charToAlignment
+    digitsFrom consumeU32 representationOf letterOf lastArm armOf parseFrom inputCheck addTo parsed call
 formats-computed = tt
 
 pub all-cases : map ran cases ≡ map want cases

@@ -7,7 +7,7 @@ use mathlib.Core.Path.{_≡_}
 use mathlib.Core.List.{List}
 use Prim.Native.Nat.{ℕ}
 use Rattle.pool.specs.Pool.{countsAfter}
-use Rattle.pool.specs.declared.Counts.{Counts}
+use Rattle.pool_rows.specs.declared.Counts.{Counts}
 use Rattle.pool.specs.declared.Added.{Added}
 use Rattle.pool_lent.specs.Entries.{numbersOf, AddsEntry}
 use Rattle.pool_lent.specs.EntriesLaws as entries

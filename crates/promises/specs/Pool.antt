@@ -9,9 +9,10 @@ use lib.ListN.{length, getD}
 use Rattle.base.specs.Refusal.{none, badUtf8, badState, poolFull}
 use Rattle.utf8.specs.Encode.{WellFormed}
 use Rattle.utf8.specs.Meaning.{Longest}
-use Rattle.pool.specs.Pool.{stringsOf, byteRoom, entryRoom, fitPool, oneMore, written, entered}
+use Rattle.pool_rows.specs.Rows.{stringsOf, byteRoom, entryRoom, fitPool}
+use Rattle.pool.specs.Pool.{oneMore, written, entered}
 use Rattle.pool.specs.Pool.{Grown, numberOf, placeOf, addedIndex, countsAfter}
-use Rattle.pool.specs.declared.Counts.{Counts}
+use Rattle.pool_rows.specs.declared.Counts.{Counts}
 use Rattle.pool.specs.declared.Added.{Added}
 use Rattle.promises.specs.Said.{Said, says}
 

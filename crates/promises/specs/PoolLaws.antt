@@ -13,12 +13,13 @@ use Rattle.utf8.specs.CharsLaws.{fine-of-well}
 use Rattle.utf8.specs.Meaning.{Longest}
 use Rattle.utf8.specs.MeaningLaws.{check-is, ill-formed}
 use Rattle.utf8.specs.declared.Utf8Check.{Utf8Check}
-use Rattle.pool.specs.Pool.{stringsOf, indexOf, byteRoom, entryRoom, oneMore, addedToFit, onUtf8, added, isNew}
+use Rattle.pool_rows.specs.Rows.{stringsOf, indexOf, byteRoom, entryRoom}
+use Rattle.pool.specs.Pool.{oneMore, addedToFit, onUtf8, added, isNew}
 use Rattle.pool.specs.Pool.{AddsString, Grown, countsAfter, numberOf, addedIndex}
-use Rattle.pool.specs.StringsLaws.{index-at, index-none, strings-long}
+use Rattle.pool_rows.specs.StringsLaws.{index-at, index-none, strings-long}
 use Rattle.pool.specs.PoolLaws.{placed-no-entry, placed-few-bytes, placed-new, unfit, unrefused, grows}
 use Rattle.pool.specs.PoolLaws.{new-bytes, new-entries, there-costs-nothing, refused-writes-nothing, index-kept, index-shows, one-answer}
-use Rattle.pool.specs.declared.Counts.{Counts}
+use Rattle.pool_rows.specs.declared.Counts.{Counts}
 use Rattle.pool.specs.declared.Added.{Added}
 use Rattle.pool.specs.declared.Added.the-variants.{Index, BadUtf8, BadState, PoolFull}
 use Rattle.promises.specs.Pool.{addedSays, Taken, StandsAt, Absent, AddStringPromise}

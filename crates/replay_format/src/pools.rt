@@ -1,6 +1,6 @@
 // A pool of a line of recorded answers, `COUNT` and each string in hex, put into rows of marks; and whether the rows and counts that a parse
 // leaves are those of a line.
-use pool::Counts;
+use pool_rows::Counts;
 use std::num::wrapping_add_u32;
 ghost use mathlib.Core.Path.{_≡_};
 ghost use mathlib.Core.Bool.{true};

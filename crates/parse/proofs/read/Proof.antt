@@ -1,85 +1,56 @@
--- `parse::read` meets its contract: the code takes the tests of `readingOf` in its order. Assumes nothing.
-use mathlib.Core.Path.{sym, _∙_}
-use Rattle.utf8.specs.CharsLaws.{well-of-fine}
+-- `parse::read` meets its contract: the code takes the tests of `inputOf` in its order. Assumes nothing.
+use mathlib.Core.Path.{sym, ap, _∙_}
 use Rattle.fitness.specs.FitLaws.{fit-of}
-use Rattle.parse.specs.CallLaws.{is-long, is-table, is-bad, is-cut, is-read}
+use Rattle.input.specs.InputLaws.{fine-of}
+use Rattle.parse.specs.declared.FormatInput.the-variants as FormatInput
+use Rattle.parse.specs.PlanLaws.{is-refused, is-unfit, is-read}
 use borrow.Author.Needs.{needs}
 use Rattle.parse.proofs.read.Statement.{statement}
 use Rattle.parse.proofs.read.Tie as tie
 
-returns : tie.Need-returns
-returns c = sym (is-long _ _ (c .if1 .taken))
+check-input-requires : tie.Need-check-input-requires
+check-input-requires c κs = search needs
 
-check-table-requires : tie.Need-check-table-requires
-check-table-requires c κs = search needs
+enum-known-refusal : tie.Need-enum-known-refusal
+enum-known-refusal c = search needs
 
-enum-known-i : tie.Need-enum-known-i
-enum-known-i c = search needs
+refused-requires : tie.Need-refused-requires
+refused-requires c κs = search needs
 
 enum-told : tie.Need-enum-told
 enum-told c = search needs
 
-check-utf8-requires : tie.Need-check-utf8-requires
-check-utf8-requires c κs = search needs
-
-enum-known-i-2 : tie.Need-enum-known-i-2
-enum-known-i-2 c = search needs
-
-enum-known-i-3 : tie.Need-enum-known-i-3
-enum-known-i-3 c = search needs
-
-enum-told-2 : tie.Need-enum-told-2
-enum-told-2 c = search needs
-
 read-format-requires : tie.Need-read-format-requires
 read-format-requires c κs =
-    let bytes = c .before .before in
-    let table = bytes .before .before .before in (
-      well-of-fine 0 _ (sym (bytes .check-utf8 .ensures) ∙ c .enum-told2 .given .1),
-      table .before .if1 .left,
-      fit-of _ (sym (table .check-table .ensures) ∙ bytes .before .enum-told .given .1) .rises,
-    )
+    let told = c .before in
+    let g = fine-of _ _ _ (sym (told .before .before .check-input .ensures) ∙ told .enum-told .given .1) in
+    (g .well, g .short, fit-of _ (g .fit) .rises)
+
+returns : tie.Need-returns
+returns c =
+    let told = c .before .before in
+    sym (is-read _ _ _ (sym (told .before .before .check-input .ensures) ∙ told .enum-told .given .1) (c .before .if1 .taken) (c .read-format .ensures))
 
 returns-2 : tie.Need-returns-2
 returns-2 c =
-    let table = c .before .before .before in
-    sym (is-table _ _ (table .before .if1 .left) (sym (table .check-table .ensures) ∙ c .before .i .given .1))
+    let told = c .before .before in
+    ap FormatInput.Refused (c .refused .ensures)
+    ∙ sym (is-refused _ _ _ (sym (told .before .before .check-input .ensures) ∙ told .refusal .given .1))
 
 returns-3 : tie.Need-returns-3
 returns-3 c =
-    let bytes = c .before .before .before in
-    let table = bytes .before .before .before in
-    sym (is-bad _ _ (table .before .if1 .left) (sym (table .check-table .ensures) ∙ bytes .before .enum-told .given .1)
-    (sym (bytes .check-utf8 .ensures) ∙ c .before .i2 .given .1))
-
-returns-4 : tie.Need-returns-4
-returns-4 c =
-    let bytes = c .before .before .before in
-    let table = bytes .before .before .before in
-    sym (is-cut _ _ (table .before .if1 .left) (sym (table .check-table .ensures) ∙ bytes .before .enum-told .given .1)
-    (sym (bytes .check-utf8 .ensures) ∙ c .before .i3 .given .1))
-
-returns-5 : tie.Need-returns-5
-returns-5 c =
-    let bytes = c .before .before .before in
-    let table = bytes .before .before .before in
-    sym (is-read _ _ (table .before .if1 .left) (sym (table .check-table .ensures) ∙ bytes .before .enum-told .given .1)
-    (sym (bytes .check-utf8 .ensures) ∙ c .before .enum-told2 .given .1) (c .read-format .ensures))
+    let told = c .before in
+    sym (is-unfit _ _ _ (sym (told .before .before .check-input .ensures) ∙ told .enum-told .given .1) (c .if1 .left))
 
 pub read-spec : {M : Type 1} → statement M
 read-spec =
     tie.close
     (tie.spec
-    returns
-    check-table-requires
-    enum-known-i
+    check-input-requires
+    enum-known-refusal
+    refused-requires
     enum-told
-    check-utf8-requires
-    enum-known-i-2
-    enum-known-i-3
-    enum-told-2
     read-format-requires
+    returns
     returns-2
-    returns-3
-    returns-4
-    returns-5)
+    returns-3)

@@ -1,7 +1,7 @@
 -- `parse_lent::add_both` meets its contract: a walk of its MIR, by hand, with two calls. Both rows are lent again to the first addition, for
 -- lifetimes that are made for the call, and come back at the lists that it leaves (`Again.antt`); they are given to the second for good. All that
 -- the proof knows of `add_fill` is that it meets its contract. Assumes nothing.
-use Rattle.pool_lent.proofs.Walk.{_≡_, refl, ap, _∙_, ℕ, List, [], _∷_, length, URA, fullShare, named, Val, SProp, ent, id⊢, Lft, GName}
+use Rattle.pool_lent.proofs.Walk.{_≡_, refl, sym, ap, subst, _∙_, ℕ, List, [], _∷_, length, URA, fullShare, named, Val, SProp, ent, id⊢, Lft, GName}
 use Rattle.pool_lent.proofs.Walk.{Share, ftrue, flft, Fml, Memory, Routine, Heap, Calls, Loops, WpFn, Tables, Atoms, Fun, fact, givenOf}
 use Rattle.pool_lent.proofs.Walk.{tables, tablesOf, Given, ‵, _⊛_, ⋆, _$_, _∵_, !, qed, by, move, keep, split, join, fsplit, fjoin}
 use Rattle.pool_lent.proofs.Walk.{suffices, frame, done, drop, use1, raw, some, later, pick, await, use2, Item, feqL, whole, sub, look-in}
@@ -19,16 +19,17 @@ use Rattle.pool_lent.specs.declared.Entry.{Entry}
 use Rattle.pool_lent.proofs.Entry as E
 use Rattle.parse_lent.proofs.Again.{LentAgain, lends-again, comes-back}
 use Rattle.format.specs.Parse.{addFill}
-use Rattle.format.specs.ReadLaws.{addPart, FillIn}
+use Rattle.format.specs.ReadLaws.{addPart}
 use Rattle.format.specs.declared.Fill.{Fill}
 use Rattle.format.proofs.Fill as Fill
 use Rattle.parse.specs.Call.{Pool, pooled, addTo}
 use Rattle.parse.specs.declared.Adding.{Adding}
 use Rattle.parse.proofs.Adding as Adding
-use Rattle.parse_lent.specs.Decided.{addPlan}
-use Rattle.parse_lent.specs.declared.Plan.{Plan}
-use Rattle.parse_lent.proofs.Plan as Plan
-use Rattle.parse_lent.proofs.Plan.Laws as Plan′
+use Rattle.parse.specs.Plan.{CanAdd, CanPlan, addPlan}
+use Rattle.parse.specs.PlanLaws.{can-second}
+use Rattle.parse.specs.declared.Plan.{Plan}
+use Rattle.parse.proofs.Plan as Plan
+use Rattle.parse.proofs.Plan.Laws as Plan′
 use Rattle.parse_lent.proofs.Plain.{fill, adding, plan, asks}
 use Rattle.parse_lent.proofs.add_fill as add-fill
 use Rattle.parse_lent.proofs.add_fill.Symbol as add-fill-def
@@ -71,7 +72,7 @@ module _ {M : Type 1} (𝓤 : URA M) (H : Heap 𝓤) (A : Atoms 𝓤) (W : Given
     (κ₀ κ₁ κ₂ : Lft) (q₀ q₁ q₂ : Share) (x₀ : RefT (List ℕ)) (p : Plan) (x₁ : RefT (List ℕ)) (x₂ : RefT (List Entry))
     (g₀ : Room u8 (length (x₀ .now))) (gp : Is Plan.the-row p (plan .val p ∷ [])) (g₁ : Room u8 (length (x₁ .now))) (g₂ : Room E.the-row
     (length (x₂ .now)))
-    (pre : FillIn (x₀ .now) (p .first) × FillIn (x₀ .now) (p .second)) where
+    (pre : CanPlan (x₀ .now) p (x₁ .now) (numbersOf (x₂ .now))) where
   abbrev bs : List ℕ
   bs = x₁ .now
 
@@ -122,6 +123,13 @@ module _ {M : Type 1} (𝓤 : URA M) (H : Heap 𝓤) (A : Atoms 𝓤) (W : Given
   -- what an addition says
   abbrev Made : Adding → List ℕ → List Entry → Fill → Pool → Type 0
   Made r zs ds f y = pooled zs (numbersOf ds) r ≡ addFill (addPart (x₀ .now) addTo) y f
+
+  -- the second string can still be added
+  second-can : (one : Adding) (zs : List ℕ) (ds : List Entry) → Made one zs ds (p .first) (pooled bs (numbersOf es) (p .none))
+      → CanAdd (x₀ .now) (pooled zs (numbersOf ds) one) (p .second)
+  second-can one zs ds e =
+      subst (λ (y : Pool). CanAdd (x₀ .now) y (p .second)) (sym e)
+      (can-second (x₀ .now) (pooled bs (numbersOf es) (p .none)) (p .first) (p .second) (pre .first) (pre .second))
 
   -- what is had at exit
   abbrev Left : List ℕ → List Entry → List (Item 𝓤)
@@ -198,7 +206,7 @@ module _ {M : Type 1} (𝓤 : URA M) (H : Heap 𝓤) (A : Atoms 𝓤) (W : Given
         nothing ! $
         move ! (4 ∷ 0 ∷ []) $ join ! $ move ! (5 ∷ 0 ∷ []) $ join ! $ move ! (5 ∷ 0 ∷ []) $ join ! $
         use2 W (raw (AddFill 𝓤 H A at-mem run .pre (to-one ν ν′ δ δ′))) (asks 𝓤 H A W (onEntry 𝓤 H A add-fill.signature
-        (κ₀, (ν ∷ [], (ν′ ∷ [], tt))) (q₀, (fullShare, (fullShare, tt))) (one-args δ δ′) one-at) (pre .0)) $
+        (κ₀, (ν ∷ [], (ν′ ∷ [], tt))) (q₀, (fullShare, (fullShare, tt))) (one-args δ δ′) one-at) (pre .first)) $
         calls-at ! fm (AddFill 𝓤 H A at-mem run) known (to-one ν ν′ δ δ′) (and-then ! (local ! 28 refl) (and-then ! (member ! 26 refl
         (sub ! 0 refl (whole !))) (and-then ! (local ! 16 refl) (and-then ! (local ! 12 refl) (and-then ! (member ! 26 refl (sub ! 2 refl
         (whole !))) (no-more !)))))) (λ w₁.
@@ -236,7 +244,7 @@ module _ {M : Type 1} (𝓤 : URA M) (H : Heap 𝓤) (A : Atoms 𝓤) (W : Given
         fjoin ! $ move ! (2 ∷ 0 ∷ []) $ fjoin ! $ nothing ! $ move ! (3 ∷ 0 ∷ []) $ join ! $ move ! (3 ∷ 0 ∷ []) $
         join ! $ move ! (3 ∷ 0 ∷ []) $ join ! $
         use2 W (raw (AddFill 𝓤 H A at-mem run .pre (to-two (zs .1 .1 .0) (zs .1 .1 .1 .0) one w₁))) (asks 𝓤 H A W
-        (onEntry 𝓤 H A add-fill.signature κs qs (two-args (zs .1 .1 .0) (zs .1 .1 .1 .0) one) (two-at w₁)) (pre .1)) $
+        (onEntry 𝓤 H A add-fill.signature κs qs (two-args (zs .1 .1 .0) (zs .1 .1 .1 .0) one) (two-at w₁)) (second-can one (zs .1 .1 .0) (zs .1 .1 .1 .0) e₁)) $
         calls-at ! fm (AddFill 𝓤 H A at-mem run) known (to-two (zs .1 .1 .0) (zs .1 .1 .1 .0) one w₁) (and-then ! (local ! 26 refl)
         (and-then ! (member ! 24 refl (sub ! 1 refl (whole !))) (and-then ! (local ! 6 refl) (and-then ! (local ! 2 refl)
         (and-then ! (local ! 18 refl) (no-more !)))))) (λ w₂.

@@ -20,9 +20,9 @@ use denote.Slice.{shr-slice-lawful}
 use Rattle.pool_lent.proofs.Places.{local, member, sets}
 use denote.Struct.Laws as S
 use Rattle.pool.specs.Pool.{AddsString}
-use Rattle.pool.specs.declared.Counts.{Counts}
+use Rattle.pool_rows.specs.declared.Counts.{Counts}
 use Rattle.pool.specs.declared.Added.{Added}
-use Rattle.pool.proofs.Counts as Counts
+use Rattle.pool_rows.proofs.Counts as Counts
 use Rattle.pool.proofs.Added as Added
 use Rattle.pool_lent.specs.Entries.{numbersOf}
 use Rattle.pool_lent.specs.declared.Entry.{Entry}
@@ -30,24 +30,25 @@ use Rattle.pool_lent.proofs.Entry as E
 use Rattle.pool_lent.proofs.Shared.{at-end}
 use Rattle.pool_lent.proofs.Turns.{is-true, is-false}
 use Rattle.format.specs.Parse.{addFill}
-use Rattle.format.specs.ReadLaws.{addPart, FillIn}
+use Rattle.format.specs.ReadLaws.{addPart}
 use Rattle.format.specs.declared.Fill.{Fill}
 use Rattle.format.proofs.Fill as Fill
 use Rattle.parse.specs.Call.{pooled, addingAfter, addTo}
 use Rattle.parse.specs.declared.Adding.{Adding}
 use Rattle.parse.proofs.Adding as Adding
 use Rattle.parse.proofs.Adding.Laws as Adding′
-use Rattle.parse_lent.specs.Decided.{isAdding, fillString}
-use Rattle.parse_lent.specs.LentLaws.{adds-nothing, adds-string}
+use Rattle.parse.specs.Plan.{CanAdd, isAdding, fillString}
+use Rattle.parse.specs.PlanLaws.{can-in, adds-nothing}
+use Rattle.parse_lent.specs.LentLaws.{adds-string}
 use Rattle.parse_lent.proofs.Plain.{counts, added, fill, adding, no-ask, asks}
-use Rattle.parse_lent.proofs.is_adding as is-adding
-use Rattle.parse_lent.proofs.is_adding.Symbol as is-adding-def
-use Rattle.parse_lent.proofs.is_adding.Symbol.{name as #parse-lent·is-adding}
-use Rattle.parse_lent.proofs.is_adding.Met as is-adding-thm
-use Rattle.parse_lent.proofs.string_of as string-of
-use Rattle.parse_lent.proofs.string_of.Symbol as string-of-def
-use Rattle.parse_lent.proofs.string_of.Symbol.{name as #parse-lent·string-of}
-use Rattle.parse_lent.proofs.string_of.Met as string-of-thm
+use Rattle.parse.proofs.is_adding as is-adding
+use Rattle.parse.proofs.is_adding.Symbol as is-adding-def
+use Rattle.parse.proofs.is_adding.Symbol.{name as #parse·is-adding}
+use Rattle.parse.proofs.is_adding.Met as is-adding-thm
+use Rattle.parse.proofs.string_of as string-of
+use Rattle.parse.proofs.string_of.Symbol as string-of-def
+use Rattle.parse.proofs.string_of.Symbol.{name as #parse·string-of}
+use Rattle.parse.proofs.string_of.Met as string-of-thm
 use Rattle.pool_lent.proofs.add_row as add-row
 use Rattle.pool_lent.proofs.add_row.Symbol as add-row-def
 use Rattle.pool_lent.proofs.add_row.Symbol.{name as #pool-lent·add-row}
@@ -97,7 +98,7 @@ module _ {M : Type 1} (𝓤 : URA M) (H : Heap 𝓤) (A : Atoms 𝓤) (W : Given
     (κ₀ κ₁ κ₂ : Lft) (q₀ q₁ q₂ : Share) (x₀ : RefT (List ℕ)) (f : Fill) (x₁ : RefT (List ℕ)) (x₂ : RefT (List Entry)) (a : Adding)
     (g₀ : Room u8 (length (x₀ .now))) (gf : Is Fill.the-row f (fill .val f ∷ [])) (g₁ : Room u8 (length (x₁ .now))) (g₂ : Room E.the-row
     (length (x₂ .now)))
-    (ga : Is Adding.the-row a (adding .val a ∷ [])) (pre : FillIn (x₀ .now) f) where
+    (ga : Is Adding.the-row a (adding .val a ∷ [])) (pre : CanAdd (x₀ .now) (pooled (x₁ .now) (numbersOf (x₂ .now)) a) f) where
   abbrev bs : List ℕ
   bs = x₁ .now
 
@@ -150,7 +151,7 @@ module _ {M : Type 1} (𝓤 : URA M) (H : Heap 𝓤) (A : Atoms 𝓤) (W : Given
       (numbersOf ds) d) e₂ e₃) e₄
 
   said-no : (t : Bool) → Holds (not t) → t ≡ isAdding f a → Said a bs es
-  said-no t skip e₁ = adds-nothing (x₀ .now) f a bs (numbersOf es) (sym e₁ ∙ is-false t skip)
+  said-no t skip e₁ = adds-nothing (x₀ .now) a bs (numbersOf es) f (sym e₁ ∙ is-false t skip)
 
   -- what is had at exit
   abbrev Left : List ℕ → List Entry → List (Item 𝓤)
@@ -205,8 +206,8 @@ module _ {M : Type 1} (𝓤 : URA M) (H : Heap 𝓤) (A : Atoms 𝓤) (W : Given
   abbrev to-after : Added → Val → AfterAdded 𝓤 H A at-mem run .Ghost
   to-after d w = ((tt, tt, tt, after-args d, after-at w), tt)
 
-  module _ (C : Calls 𝓤 H) (Λ : Loops 𝓤 H) (fm : FmC 𝓤 H (W .laws) C) (known-test : Triple 𝓤 (C #parse-lent·is-adding)
-      (IsAdding 𝓤 H A at-mem run)) (known-string : Triple 𝓤 (C #parse-lent·string-of) (StringOf 𝓤 H A at-mem run))
+  module _ (C : Calls 𝓤 H) (Λ : Loops 𝓤 H) (fm : FmC 𝓤 H (W .laws) C) (known-test : Triple 𝓤 (C #parse·is-adding)
+      (IsAdding 𝓤 H A at-mem run)) (known-string : Triple 𝓤 (C #parse·string-of) (StringOf 𝓤 H A at-mem run))
       (known-add : Triple 𝓤 (C #pool-lent·add-row) (AddRow 𝓤 H A at-mem run)) (known-after : Triple 𝓤 (C #parse·after-added)
       (AfterAdded 𝓤 H A at-mem run)) where
     walk : ent 𝓤 (onEntry 𝓤 H A add-fill.signature κs qs x at) (WpFn 𝓤 H C Λ code.function
@@ -245,7 +246,7 @@ module _ {M : Type 1} (𝓤 : URA M) (H : Heap 𝓤) (A : Atoms 𝓤) (W : Given
         nothing ! $ owned ! Fill.the-row (Is Fill.the-row) (fill .makes 𝓤 H A) f _ gf $ fjoin ! $
         move ! (2 ∷ 0 ∷ []) $ fjoin ! $ nothing ! $ move ! (5 ∷ 0 ∷ []) $ join ! $
         use2 W (raw (StringOf 𝓤 H A at-mem run .pre to-string)) (asks 𝓤 H A W (onEntry 𝓤 H A string-of.signature (κ₀, tt)
-        (q₀, tt) string-args string-at) pre) $
+        (q₀, tt) string-args string-at) (can-in (x₀ .now) (pooled bs (numbersOf es) a) f pre)) $
         calls-at ! fm (StringOf 𝓤 H A at-mem run) known-string to-string (and-then ! (local ! 28 refl) (and-then ! (local ! 26 refl)
         (no-more !))) (λ w₂.
         use1 W (later (some (λ (s : RefT (List ℕ)). ((‵ (flft κ₀ q₀) ⊛ ‵ ftrue) ⊛ ‵ ((ShrSlice (named 0) κ₀ u8) .own s (w₂ ∷ []))) ⊛ raw
@@ -319,7 +320,7 @@ module _ {M : Type 1} (𝓤 : URA M) (H : Heap 𝓤) (A : Atoms 𝓤) (W : Given
 
 module _ {M : Type 1} (𝓤 : URA M) (H : Heap 𝓤) (A : Atoms 𝓤) (W : Given 𝓤 H A) (mem : Memory → SProp 𝓤) (run : Routine
     → Fun 𝓤) (𝓣 : Tables 𝓤 H)
-    (known-test : Triple 𝓤 (𝓣 .C #parse-lent·is-adding) (IsAdding 𝓤 H A mem run)) (known-string : Triple 𝓤 (𝓣 .C #parse-lent·string-of)
+    (known-test : Triple 𝓤 (𝓣 .C #parse·is-adding) (IsAdding 𝓤 H A mem run)) (known-string : Triple 𝓤 (𝓣 .C #parse·string-of)
     (StringOf 𝓤 H A mem run))
     (known-add : Triple 𝓤 (𝓣 .C #pool-lent·add-row) (AddRow 𝓤 H A mem run)) (known-after : Triple 𝓤 (𝓣 .C #parse·after-added)
     (AfterAdded 𝓤 H A mem run)) where
@@ -371,10 +372,10 @@ add-fill-spec 𝓤 H 𝓜 𝓖 𝓡 =
     entered 𝓤 H (tripleOf 𝓤 H (𝓖 .A) add-fill.signature (add-fill.spec 𝓤 H (𝓖 .A) (𝓜 .mem) (𝓡 .run)))
     (tables 𝓤 H 𝓜 𝓡 code.env .C) (tables 𝓤 H 𝓜 𝓡 code.env .Λ) #parse-lent·add-fill code.function (code.unfolded 𝓤 H 𝓜 𝓡)
     (add-fill-meets 𝓤 H (𝓖 .A) (givenOf 𝓤 H 𝓜 𝓖) (𝓜 .mem) (𝓡 .run) (tablesOf 𝓤 H 𝓜 (tables 𝓤 H 𝓜 𝓡 code.env))
-    (cited 𝓤 H (IsAdding 𝓤 H (𝓖 .A) (𝓜 .mem) (𝓡 .run)) 𝓜 𝓡 code.env #parse-lent·is-adding is-adding-def.routine
-    code.calls-parse-lent·is-adding (is-adding-thm.met 𝓤 H 𝓜 𝓖 𝓡))
-    (cited 𝓤 H (StringOf 𝓤 H (𝓖 .A) (𝓜 .mem) (𝓡 .run)) 𝓜 𝓡 code.env #parse-lent·string-of string-of-def.routine
-    code.calls-parse-lent·string-of (string-of-thm.met 𝓤 H 𝓜 𝓖 𝓡))
+    (cited 𝓤 H (IsAdding 𝓤 H (𝓖 .A) (𝓜 .mem) (𝓡 .run)) 𝓜 𝓡 code.env #parse·is-adding is-adding-def.routine
+    code.calls-parse·is-adding (is-adding-thm.met 𝓤 H 𝓜 𝓖 𝓡))
+    (cited 𝓤 H (StringOf 𝓤 H (𝓖 .A) (𝓜 .mem) (𝓡 .run)) 𝓜 𝓡 code.env #parse·string-of string-of-def.routine
+    code.calls-parse·string-of (string-of-thm.met 𝓤 H 𝓜 𝓖 𝓡))
     (cited 𝓤 H (AddRow 𝓤 H (𝓖 .A) (𝓜 .mem) (𝓡 .run)) 𝓜 𝓡 code.env #pool-lent·add-row add-row-def.routine code.calls-pool-lent·add-row
     (add-row-thm.met 𝓤 H 𝓜 𝓖 𝓡))
     (cited 𝓤 H (AfterAdded 𝓤 H (𝓖 .A) (𝓜 .mem) (𝓡 .run)) 𝓜 𝓡 code.env #parse·after-added after-added-def.routine

@@ -14,9 +14,9 @@ use Rattle.pool_lent.proofs.Walk.{walk-meets, stay-ref, goes-ref, gave-slice, g
 use Rattle.pool_lent.proofs.Walk.{ensured, lasts, Contract, Triple}
 use Rattle.pool_lent.proofs.Places.{local, member, sets}
 use denote.Struct.Laws as S
-use Rattle.pool.specs.declared.Counts.{Counts}
-use Rattle.pool.proofs.Counts as Counts
-use Rattle.pool.proofs.Counts.Laws as Counts′
+use Rattle.pool_rows.specs.declared.Counts.{Counts}
+use Rattle.pool_rows.proofs.Counts as Counts
+use Rattle.pool_rows.proofs.Counts.Laws as Counts′
 use Rattle.pool_lent.specs.Entries.{numbersOf}
 use Rattle.pool_lent.specs.declared.Entry.{Entry}
 use Rattle.pool_lent.proofs.Entry as E

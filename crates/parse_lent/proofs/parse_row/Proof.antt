@@ -13,9 +13,9 @@ use Rattle.pool_lent.proofs.Walk.{Meets, tripleOf, entered, cited, says, Stays,
 use Rattle.pool_lent.proofs.Walk.{goes-none, Walks, ends-at, walked, walk-meets, gave-slice, goes-gave-slice, yes, mem, calls-at, ensured}
 use Rattle.pool_lent.proofs.Walk.{lasts, Contract, Triple, lft-new, lft-end, Bool}
 use Rattle.pool_lent.proofs.Places.{local, member, sets}
-use Rattle.pool.specs.Pool.{fitPool}
-use Rattle.pool.specs.declared.Counts.{Counts}
-use Rattle.pool.proofs.Counts as Counts
+use Rattle.pool_rows.specs.Rows.{fitPool}
+use Rattle.pool_rows.specs.declared.Counts.{Counts}
+use Rattle.pool_rows.proofs.Counts as Counts
 use Rattle.pool_lent.specs.Entries.{numbersOf}
 use Rattle.pool_lent.specs.declared.Entry.{Entry}
 use Rattle.pool_lent.proofs.Entry as E

@@ -1,6 +1,6 @@
 -- `parse_lent::parse_with` meets its contract: a walk of its MIR, by hand, with four calls. Both rows are given to `add_both` for good. All that
 -- the proof knows of the four is that they meet their contracts; what these come to is `parses-planned`. Assumes nothing.
-use Rattle.pool_lent.proofs.Walk.{_≡_, refl, ℕ, List, [], _∷_, length, URA, named, Val, vbool, SProp, ent, snd∗, exE, id⊢, Lft, Share}
+use Rattle.pool_lent.proofs.Walk.{_≡_, refl, ℕ, List, [], _∷_, length, URA, named, Val, vbool, SProp, ent, emp, use0, cut, snd∗, exE, id⊢, Lft, Share}
 use Rattle.pool_lent.proofs.Walk.{ftrue, flft, Fml, Memory, Routine, Heap, Calls, Loops, WpFn, Tables, Atoms, sem, Fun, fact, givenOf}
 use Rattle.pool_lent.proofs.Walk.{tables, tablesOf, Given, ‵, _⊛_, ⋆, _$_, _∵_, !, qed, by, move, keep, split, join, fsplit, fjoin}
 use Rattle.pool_lent.proofs.Walk.{suffices, frame, done, drop, use1, raw, some, later, pick, await, use2, Item, feqL, whole, sub, look-in}
@@ -13,40 +13,40 @@ use Rattle.pool_lent.proofs.Walk.{walked, walk-meets, gave-slice, goes-gave-sli
 use Rattle.pool_lent.proofs.Walk.{Bool}
 use Rattle.pool_lent.proofs.Places.{local, member, sets}
 use denote.Plain.{bool-vals, bool-tells}
-use Rattle.pool.specs.Pool.{fitPool}
-use Rattle.pool.specs.declared.Counts.{Counts}
-use Rattle.pool.proofs.Counts as Counts
+use Rattle.pool_rows.specs.Rows.{fitPool}
+use Rattle.pool_rows.specs.declared.Counts.{Counts}
+use Rattle.pool_rows.proofs.Counts as Counts
 use Rattle.pool_lent.specs.Entries.{numbersOf}
 use Rattle.pool_lent.specs.declared.Entry.{Entry}
 use Rattle.pool_lent.proofs.Entry as E
-use Rattle.parse.specs.Call.{pooled, readingOf, Parses}
+use Rattle.parse.specs.Call.{pooled, Parses}
 use Rattle.parse.specs.declared.Adding.{Adding}
 use Rattle.parse.specs.declared.After.{After}
-use Rattle.parse.specs.declared.Reading.{Reading}
+use Rattle.parse.specs.declared.FormatInput.{FormatInput}
 use Rattle.parse.proofs.Adding as Adding
 use Rattle.parse.proofs.After as After
-use Rattle.parse.proofs.Reading as Reading
-use Rattle.parse_lent.specs.Decided.{withPool, planOf, addPlan, endBy}
-use Rattle.parse_lent.specs.LentLaws.{plan-in, parses-planned}
-use Rattle.parse_lent.specs.declared.Plan.{Plan}
-use Rattle.parse_lent.proofs.Plan as Plan
-use Rattle.parse_lent.proofs.Plain.{counts, adding, after, reading, plan, no-ask, asks}
-use Rattle.parse_lent.proofs.reading_of as reading-of
-use Rattle.parse_lent.proofs.reading_of.Symbol as reading-of-def
-use Rattle.parse_lent.proofs.reading_of.Symbol.{name as #parse-lent·reading-of}
-use Rattle.parse_lent.proofs.reading_of.Met as reading-of-thm
-use Rattle.parse_lent.proofs.plan_of as plan-of
-use Rattle.parse_lent.proofs.plan_of.Symbol as plan-of-def
-use Rattle.parse_lent.proofs.plan_of.Symbol.{name as #parse-lent·plan-of}
-use Rattle.parse_lent.proofs.plan_of.Met as plan-of-thm
+use Rattle.parse.proofs.FormatInput as FormatInput
+use Rattle.parse.specs.Plan.{inputOf, planOf, CanPlan, addPlan, endBy}
+use Rattle.parse.specs.PlanLaws.{can-plan, parses-planned}
+use Rattle.parse.specs.declared.Plan.{Plan}
+use Rattle.parse.proofs.Plan as Plan
+use Rattle.parse_lent.proofs.Plain.{counts, adding, after, input, plan, no-ask, asks}
+use Rattle.parse.proofs.read as read-of
+use Rattle.parse.proofs.read.Symbol as read-of-def
+use Rattle.parse.proofs.read.Symbol.{name as #parse·read}
+use Rattle.parse.proofs.read.Met as read-of-thm
+use Rattle.parse.proofs.plan_of as plan-of
+use Rattle.parse.proofs.plan_of.Symbol as plan-of-def
+use Rattle.parse.proofs.plan_of.Symbol.{name as #parse·plan-of}
+use Rattle.parse.proofs.plan_of.Met as plan-of-thm
 use Rattle.parse_lent.proofs.add_both as add-both
 use Rattle.parse_lent.proofs.add_both.Symbol as add-both-def
 use Rattle.parse_lent.proofs.add_both.Symbol.{name as #parse-lent·add-both}
 use Rattle.parse_lent.proofs.add_both.Met as add-both-thm
-use Rattle.parse_lent.proofs.end_by as end-by
-use Rattle.parse_lent.proofs.end_by.Symbol as end-by-def
-use Rattle.parse_lent.proofs.end_by.Symbol.{name as #parse-lent·end-by}
-use Rattle.parse_lent.proofs.end_by.Met as end-by-thm
+use Rattle.parse.proofs.end_by as end-by
+use Rattle.parse.proofs.end_by.Symbol as end-by-def
+use Rattle.parse.proofs.end_by.Symbol.{name as #parse·end-by}
+use Rattle.parse.proofs.end_by.Met as end-by-thm
 use Rattle.parse_lent.proofs.parse_with.Key.{name as #parse-lent·parse-with}
 use Rattle.parse_lent.proofs.parse_with as parse-with
 use Rattle.parse_lent.proofs.parse_with.Statement as stated
@@ -77,8 +77,8 @@ stayed = (
 
 -- the contracts that the proof cites
 module _ {M : Type 1} (𝓤 : URA M) (H : Heap 𝓤) (A : Atoms 𝓤) (mem : Memory → SProp 𝓤) (run : Routine → Fun 𝓤) where
-  abbrev ReadingOf : Contract 𝓤
-  ReadingOf = tripleOf 𝓤 H A reading-of.signature (reading-of.spec 𝓤 H A mem run)
+  abbrev ReadOf : Contract 𝓤
+  ReadOf = tripleOf 𝓤 H A read-of.signature (read-of.spec 𝓤 H A mem run)
 
   abbrev PlanOf : Contract 𝓤
   PlanOf = tripleOf 𝓤 H A plan-of.signature (plan-of.spec 𝓤 H A mem run)
@@ -140,6 +140,13 @@ module _ {M : Type 1} (𝓤 : URA M) (H : Heap 𝓤) (A : Atoms 𝓤) (W : Given
   abbrev Own₁ : Fml
   Own₁ = ShrSlice (named 1) κ₁ u32 .own x₁ (v₁ ∷ [])
 
+  -- and of the rows
+  abbrev Own₂ : Fml
+  Own₂ = MutSlice (named 2) κ₂ u8 .own x₂ (v₂ ∷ [])
+
+  abbrev Own₃ : Fml
+  Own₃ = MutSlice (named 3) κ₃ E.the-row .own x₃ (v₃ ∷ [])
+
   -- what is had at exit
   abbrev Left : List ℕ → List Entry → List (Item 𝓤)
   Left zs ds = Toks ∷ ‵ (finally u8 (x₂ .name) zs) ∷ ‵ (finally E.the-row (x₃ .name) ds) ∷ ‵ Own₀ ∷ ‵ Own₁ ∷ []
@@ -161,19 +168,19 @@ module _ {M : Type 1} (𝓤 : URA M) (H : Heap 𝓤) (A : Atoms 𝓤) (W : Given
   abbrev read-args : RefT (List ℕ) × (RefT (List ℕ) × (Bool × Unit {0}))
   read-args = (x₀, (x₁, (t, tt)))
 
-  abbrev read-at : Vals reading-of.signature (κ₀, (κ₁, tt))
+  abbrev read-at : Vals read-of.signature (κ₀, (κ₁, tt))
   read-at = (v₀ ∷ [], (v₁ ∷ [], (vbool t ∷ [], tt)))
 
-  abbrev to-read : ReadingOf 𝓤 H A at-mem run .Ghost
+  abbrev to-read : ReadOf 𝓤 H A at-mem run .Ghost
   to-read = (((κ₀, (κ₁, tt)), (q₀, (q₁, tt)), tt, read-args, read-at), tt)
 
-  abbrev plan-args : Reading → Reading × (Counts × Unit {0})
+  abbrev plan-args : FormatInput → FormatInput × (Counts × Unit {0})
   plan-args q = (q, (c, tt))
 
   abbrev plan-at : Val → Vals plan-of.signature tt
   plan-at w = (w ∷ [], (counts .val c ∷ [], tt))
 
-  abbrev to-plan : Reading → Val → PlanOf 𝓤 H A at-mem run .Ghost
+  abbrev to-plan : FormatInput → Val → PlanOf 𝓤 H A at-mem run .Ghost
   to-plan q w = ((tt, tt, tt, plan-args q, plan-at w), tt)
 
   abbrev add-args : Plan → RefT (List ℕ) × (Plan × (RefT (List ℕ) × (RefT (List Entry) × Unit {0})))
@@ -185,126 +192,154 @@ module _ {M : Type 1} (𝓤 : URA M) (H : Heap 𝓤) (A : Atoms 𝓤) (W : Given
   abbrev to-add : Plan → Val → AddBoth 𝓤 H A at-mem run .Ghost
   to-add p w = (((κ₀, (κ₂, (κ₃, tt))), (q₀, (q₂, (q₃, tt))), tt, add-args p, add-at w), tt)
 
-  abbrev end-args : Reading → Adding → Reading × (Adding × Unit {0})
+  abbrev end-args : FormatInput → Adding → FormatInput × (Adding × Unit {0})
   end-args q two = (q, (two, tt))
 
   abbrev end-at : Val → Val → Vals end-by.signature tt
   end-at w u = (w ∷ [], (u ∷ [], tt))
 
-  abbrev to-end : Reading → Adding → Val → Val → EndBy 𝓤 H A at-mem run .Ghost
+  abbrev to-end : FormatInput → Adding → Val → Val → EndBy 𝓤 H A at-mem run .Ghost
   to-end q two w u = ((tt, tt, tt, end-args q two, end-at w u), tt)
 
-  module _ (C : Calls 𝓤 H) (Λ : Loops 𝓤 H) (fm : FmC 𝓤 H (W .laws) C) (known-read : Triple 𝓤 (C #parse-lent·reading-of)
-      (ReadingOf 𝓤 H A at-mem run))
-      (known-plan : Triple 𝓤 (C #parse-lent·plan-of) (PlanOf 𝓤 H A at-mem run)) (known-add : Triple 𝓤 (C #parse-lent·add-both)
-      (AddBoth 𝓤 H A at-mem run)) (known-end : Triple 𝓤 (C #parse-lent·end-by) (EndBy 𝓤 H A at-mem run)) where
+  -- ---- that each has what it asks
+  abbrev Reads-from : List (Item 𝓤)
+  Reads-from = ‵ (flft κ₀ q₀) ∷ ‵ (flft κ₁ q₁) ∷ ‵ Own₀ ∷ ‵ Own₁ ∷ []
+
+  asked-read : ent 𝓤 (⋆ 𝓤 H A Reads-from) (⋆ 𝓤 H A (raw (ReadOf 𝓤 H A at-mem run .pre to-read) ∷ ‵ Own₀ ∷ ‵ Own₁ ∷ []))
+  asked-read =
+      qed W Reads-from ∵
+      move ! (2 ∷ []) $ use1 W (‵ Own₀ ⊛ ‵ Own₀) (shr-slice-copy 𝓤 H A W (named 0) κ₀ u8 .twice x₀ (v₀ ∷ [])) $ split ! $ move ! (4 ∷ []) $
+      use1 W (‵ Own₁ ⊛ ‵ Own₁) (shr-slice-copy 𝓤 H A W (named 1) κ₁ u32 .twice x₁ (v₁ ∷ [])) $ split ! $ nothing ! $
+      owned ! bool (Is bool) (bool-makes 𝓤 H A W) t _ refl $ fjoin ! $ move ! (1 ∷ 0 ∷ []) $ fjoin ! $ move ! (2 ∷ 0 ∷ []) $ fjoin ! $
+      nothing ! $ move ! (5 ∷ 0 ∷ []) $ join ! $ move ! (4 ∷ 0 ∷ []) $ join ! $
+      use2 W (raw (ReadOf 𝓤 H A at-mem run .pre to-read)) (no-ask 𝓤 H A W (onEntry 𝓤 H A read-of.signature (κ₀, (κ₁, tt))
+      (q₀, (q₁, tt)) read-args read-at)) $
+      frame ! $ move ! (1 ∷ 0 ∷ []) $ frame ! $ done !
+
+  asked-plan : (q : FormatInput) (w : Val) → Is FormatInput.the-row q (w ∷ []) → ent 𝓤 (emp 𝓤) (PlanOf 𝓤 H A at-mem run .pre (to-plan q w))
+  asked-plan q w is =
+      qed W [] ∵
+      nothing ! $ owned ! Counts.the-row (Is Counts.the-row) (counts .makes 𝓤 H A) c _ gc $ fjoin ! $
+      owned ! FormatInput.the-row (Is FormatInput.the-row) (input .makes 𝓤 H A) q _ is $ fjoin ! $ nothing ! $
+      use2 W (raw (PlanOf 𝓤 H A at-mem run .pre (to-plan q w))) (no-ask 𝓤 H A W (onEntry 𝓤 H A plan-of.signature tt tt (plan-args q)
+      (plan-at w))) $
+      done !
+
+  abbrev Adds-from : List (Item 𝓤)
+  Adds-from = ‵ (flft κ₀ q₀) ∷ ‵ (flft κ₂ q₂) ∷ ‵ (flft κ₃ q₃) ∷ ‵ Own₀ ∷ ‵ Own₂ ∷ ‵ Own₃ ∷ []
+
+  asked-add : (p : Plan) (w : Val) → Is Plan.the-row p (w ∷ []) → CanPlan (x₀ .now) p bs (numbersOf es)
+      → ent 𝓤 (⋆ 𝓤 H A Adds-from) (⋆ 𝓤 H A (raw (AddBoth 𝓤 H A at-mem run .pre (to-add p w)) ∷ ‵ Own₀ ∷ []))
+  asked-add p w is v =
+      qed W Adds-from ∵
+      move ! (3 ∷ []) $ use1 W (‵ Own₀ ⊛ ‵ Own₀) (shr-slice-copy 𝓤 H A W (named 0) κ₀ u8 .twice x₀ (v₀ ∷ [])) $ split ! $ nothing ! $
+      move ! (7 ∷ 0 ∷ []) $ fjoin ! $ move ! (6 ∷ 0 ∷ []) $ fjoin ! $ owned ! Plan.the-row (Is Plan.the-row) (plan .makes 𝓤 H A) p _ is $
+      fjoin ! $ move ! (1 ∷ 0 ∷ []) $ fjoin ! $ nothing ! $ move ! (5 ∷ 0 ∷ []) $ join ! $ move ! (4 ∷ 0 ∷ []) $ join ! $
+      move ! (3 ∷ 0 ∷ []) $ join ! $
+      use2 W (raw (AddBoth 𝓤 H A at-mem run .pre (to-add p w))) (asks 𝓤 H A W (onEntry 𝓤 H A add-both.signature (κ₀, (κ₂, (κ₃, tt)))
+      (q₀, (q₂, (q₃, tt))) (add-args p) (add-at w)) v) $
+      frame ! $ done !
+
+  asked-end : (q : FormatInput) (two : Adding) (w u : Val) → Is FormatInput.the-row q (w ∷ []) → Is Adding.the-row two (u ∷ [])
+      → ent 𝓤 (emp 𝓤) (EndBy 𝓤 H A at-mem run .pre (to-end q two w u))
+  asked-end q two w u is is₂ =
+      qed W [] ∵
+      nothing ! $ owned ! Adding.the-row (Is Adding.the-row) (adding .makes 𝓤 H A) two _ is₂ $ fjoin ! $
+      owned ! FormatInput.the-row (Is FormatInput.the-row) (input .makes 𝓤 H A) q _ is $ fjoin ! $ nothing ! $
+      use2 W (raw (EndBy 𝓤 H A at-mem run .pre (to-end q two w u))) (no-ask 𝓤 H A W (onEntry 𝓤 H A end-by.signature tt tt
+      (end-args q two) (end-at w u))) $
+      done !
+
+  module _ (C : Calls 𝓤 H) (Λ : Loops 𝓤 H) (fm : FmC 𝓤 H (W .laws) C) (known-read : Triple 𝓤 (C #parse·read)
+      (ReadOf 𝓤 H A at-mem run))
+      (known-plan : Triple 𝓤 (C #parse·plan-of) (PlanOf 𝓤 H A at-mem run)) (known-add : Triple 𝓤 (C #parse-lent·add-both)
+      (AddBoth 𝓤 H A at-mem run)) (known-end : Triple 𝓤 (C #parse·end-by) (EndBy 𝓤 H A at-mem run)) where
     walk : ent 𝓤 (onEntry 𝓤 H A parse-with.signature κs qs x at) (WpFn 𝓤 H C Λ code.function
         (v₀ ∷ v₁ ∷ vbool t ∷ v₂ ∷ v₃ ∷ counts .val c ∷ []) Post)
     walk =
         qed W (Toks ∷ ‵ (owns (ShrSlice (named 0) κ₀ u8 ∷ ShrSlice (named 1) κ₁ u32 ∷ bool ∷ MutSlice (named 2) κ₂ u8 ∷ MutSlice
         (named 3) κ₃ E.the-row ∷ Counts.the-row ∷ []) x at) ∷ []) ∵ enter ! C Λ code.function
         (v₀ ∷ v₁ ∷ vbool t ∷ v₂ ∷ v₃ ∷ counts .val c ∷ []) _ $
-        alloc1 ! (λ l₀. alloc1 ! (λ l₁. alloc1 ! (λ l₂. alloc1 ! (λ l₃. alloc1 ! (λ l₄. alloc1 ! (λ l₅. alloc1 ! (λ l₆. alloc1 !
-        (λ l₇. alloc1 ! (λ l₈. alloc1 ! (λ l₉. alloc1 ! (λ l₁₀. alloc1 ! (λ l₁₁. alloc1 ! (λ l₁₂. alloc1 ! (λ l₁₃. alloc0 ! $ params1 ! $
+        alloc1 ! (λ l₀. alloc1 ! (λ l₁. alloc1 ! (λ l₂. alloc1 ! (λ l₃. alloc1 ! (λ l₄. alloc1 ! (λ l₅. alloc1 ! (λ l₆. alloc1 ! (λ l₇. alloc1 ! (λ l₈. alloc1 ! (λ l₉. alloc1 ! (λ l₁₀. alloc1 ! (λ l₁₁. alloc1 ! (λ l₁₂. alloc1 ! (λ l₁₃. alloc0 ! $ params1 ! $
         pass1 ! (init ! 24 refl (tt, (tt, (record { fits = g₀ .0 }, tt)))) $
         pass1 ! (init ! 22 refl (tt, (tt, (record { fits = g₁ .0 }, tt)))) $ pass1 ! (init ! 20 refl (tt, tt)) $
         pass1 ! (init ! 18 refl (tt, (tt, (record { fits = g₂ .0 }, tt)))) $
         pass1 ! (init ! 16 refl (tt, (tt, (record { fits = g₃ .0 }, tt)))) $
-        pass1 ! (init ! 14 refl (counts .lawful 𝓤 H A W .typed c _ gc .0)) $ pass0 ! $
-        move ! (29 ∷ []) $ fsplit ! $ move ! (1 ∷ []) $ fsplit ! $ move ! (1 ∷ []) $ fsplit ! $ drop ! $ fsplit ! $ move ! (1 ∷ []) $
-        fsplit ! $ move ! (1 ∷ []) $ fsplit ! $ drop ! $ drop ! $ move ! (32 ∷ []) $ split ! $ move ! (1 ∷ []) $
-        split ! $ move ! (1 ∷ []) $ split ! $ move ! (1 ∷ []) $ split ! $ move ! (1 ∷ []) $ drop ! $
+        pass1 ! (init ! 14 refl (counts .lawful 𝓤 H A W .typed c _ gc .0)) $ pass0 ! $ move ! (29 ∷ []) $ fsplit ! $ move ! (1 ∷ []) $
+        fsplit ! $ move ! (1 ∷ []) $ fsplit ! $ drop ! $ fsplit ! $ move ! (1 ∷ []) $ fsplit ! $ move ! (1 ∷ []) $ fsplit ! $ drop ! $
+        drop ! $ move ! (32 ∷ []) $ split ! $ move ! (1 ∷ []) $ split ! $ move ! (1 ∷ []) $ split ! $ move ! (1 ∷ []) $ split ! $
+        move ! (1 ∷ []) $ drop ! $
         -- the reading, and its plan
-        move ! (7 ∷ []) $ use1 W (‵ Own₀ ⊛ ‵ Own₀) (shr-slice-copy 𝓤 H A W (named 0) κ₀ u8 .twice x₀ (v₀ ∷ [])) $ split ! $
-        move ! (8 ∷ []) $
-        use1 W (‵ Own₁ ⊛ ‵ Own₁) (shr-slice-copy 𝓤 H A W (named 1) κ₁ u32 .twice x₁ (v₁ ∷ [])) $ split ! $ nothing ! $
-        owned ! bool (Is bool) (bool-makes 𝓤 H A W) t _ refl $ fjoin ! $ move ! (2 ∷ 0 ∷ []) $ fjoin ! $ move ! (3 ∷ 0 ∷ []) $
-        fjoin ! $ nothing ! $ move ! (6 ∷ 0 ∷ []) $ join ! $ move ! (6 ∷ 0 ∷ []) $ join ! $
-        use2 W (raw (ReadingOf 𝓤 H A at-mem run .pre to-read)) (no-ask 𝓤 H A W (onEntry 𝓤 H A reading-of.signature (κ₀, (κ₁, tt))
-        (q₀, (q₁, tt)) read-args read-at)) $
-        calls-at ! fm (ReadingOf 𝓤 H A at-mem run) known-read to-read (and-then ! (local ! 31 refl) (and-then ! (local ! 29 refl)
-        (and-then ! (local ! 27 refl) (no-more !)))) (λ w₂.
-        use1 W (later (some (λ (q : Reading). ((‵ (flft κ₀ q₀) ⊛ ‵ (flft κ₁ q₁) ⊛ ‵ ftrue) ⊛ ‵ (Reading.the-row .own q (w₂ ∷ []))) ⊛ raw
-        (ensured 𝓤 H A reading-of.ended (reading-of.clauses 𝓤 H A at-mem run) (κ₀, (κ₁, tt)) read-args tt q)))) (id⊢ 𝓤 _) $ await ! tt $
-        pick ! (λ q.
-        split ! $ move ! (1 ∷ []) $
-        use1 W (raw (fact 𝓤 (q ≡ withPool t (readingOf (x₀ .now) (x₁ .now))))) (exE 𝓤 _ (λ ks. snd∗ 𝓤 (sem 𝓤 H A (lasts reading-of.ended
-        (κ₀, (κ₁, tt)) read-args ks)) (fact 𝓤 (q ≡ withPool t (readingOf (x₀ .now) (x₁ .now)))))) $
-        heard ! (q ≡ withPool t (readingOf (x₀ .now) (x₁ .now))) (λ e₂.
-        split ! $ move ! (1 ∷ []) $ peeks ! Reading.the-row (Is Reading.the-row) (shows 𝓤 H A Reading.the-row) q (w₂ ∷ [])
-        (λ is₂. land ! (from ! (stop !)) (init ! 20 refl (reading .lawful 𝓤 H A W .typed q _ is₂ .0)) $ drop ! $
-        move ! (0 ∷ []) $ split ! $ move ! (1 ∷ []) $ split ! $ move ! (1 ∷ []) $ drop ! $ nothing ! $
-        owned ! Counts.the-row (Is Counts.the-row) (counts .makes 𝓤 H A) c _ gc $ fjoin ! $
-        owned ! Reading.the-row (Is Reading.the-row) (reading .makes 𝓤 H A) q _ is₂ $ fjoin ! $ nothing ! $
-        use2 W (raw (PlanOf 𝓤 H A at-mem run .pre (to-plan q w₂))) (no-ask 𝓤 H A W (onEntry 𝓤 H A plan-of.signature tt tt (plan-args q)
-        (plan-at w₂))) $
-        calls-at ! fm (PlanOf 𝓤 H A at-mem run) known-plan (to-plan q w₂) (and-then ! (local ! 21 refl) (and-then ! (local ! 23 refl)
-        (no-more !))) (λ w₃.
+        move ! (3 ∷ 2 ∷ 7 ∷ 6 ∷ []) $ cut Reads-from (raw (ReadOf 𝓤 H A at-mem run .pre to-read) ∷ ‵ Own₀ ∷ ‵ Own₁ ∷ []) _ asked-read $
+        calls-at ! fm (ReadOf 𝓤 H A at-mem run) known-read to-read (and-then ! (local ! 31 refl) (and-then ! (local ! 29 refl) (and-then ! (local ! 27 refl) (no-more !)))) (λ w₂.
+        use1 W (later (some (λ (q : FormatInput). ((‵ (flft κ₀ q₀) ⊛ ‵ (flft κ₁ q₁) ⊛ ‵ ftrue) ⊛ ‵ (FormatInput.the-row .own q (w₂ ∷ []))) ⊛ raw
+        (ensured 𝓤 H A read-of.ended (read-of.clauses 𝓤 H A at-mem run) (κ₀, (κ₁, tt)) read-args tt q)))) (id⊢ 𝓤 _) $ await ! tt $
+        pick ! (λ q. split ! $ move ! (1 ∷ []) $
+        use1 W (raw (fact 𝓤 (q ≡ inputOf (x₀ .now) (x₁ .now) t))) (exE 𝓤 _ (λ ks. snd∗ 𝓤 (sem 𝓤 H A (lasts read-of.ended
+        (κ₀, (κ₁, tt)) read-args ks)) (fact 𝓤 (q ≡ inputOf (x₀ .now) (x₁ .now) t)))) $
+        heard ! (q ≡ inputOf (x₀ .now) (x₁ .now) t) (λ e₂. split ! $ move ! (1 ∷ []) $
+        peeks ! FormatInput.the-row (Is FormatInput.the-row) (shows 𝓤 H A FormatInput.the-row) q (w₂ ∷ []) (λ is₂.
+        land ! (from ! (stop !)) (init ! 20 refl (input .lawful 𝓤 H A W .typed q _ is₂ .0)) $ drop ! $ split ! $ move ! (1 ∷ []) $ split ! $
+        move ! (1 ∷ []) $ drop ! $ use0 W (raw (PlanOf 𝓤 H A at-mem run .pre (to-plan q w₂))) (asked-plan q w₂ is₂) $
+        calls-at ! fm (PlanOf 𝓤 H A at-mem run) known-plan (to-plan q w₂) (and-then ! (local ! 21 refl) (and-then ! (local ! 23 refl) (no-more !))) (λ w₃.
         use1 W (later (some (λ (p : Plan). (‵ ftrue ⊛ ‵ (Plan.the-row .own p (w₃ ∷ []))) ⊛ raw (ensured 𝓤 H A plan-of.ended
-        (plan-of.clauses 𝓤 H A at-mem run) tt (plan-args q) tt p)))) (id⊢ 𝓤 _) $ await ! tt $ pick ! (λ p. split ! $
-        move ! (1 ∷ []) $ use1 W (raw (fact 𝓤 (p ≡ planOf q c))) (exE 𝓤 _ (λ ks. snd∗ 𝓤 (sem 𝓤 H A (lasts plan-of.ended tt
-        (plan-args q) ks)) (fact 𝓤 (p ≡ planOf q c)))) $ heard ! (p ≡ planOf q c) (λ e₃. split ! $ move ! (1 ∷ []) $
-        peeks ! Plan.the-row (Is Plan.the-row) (shows 𝓤 H A Plan.the-row) p (w₃ ∷ []) (λ is₃. land ! (from ! (stop !)) (init ! 20 refl
-        (plan .lawful 𝓤 H A W .typed p _ is₃ .0)) $ drop ! $ move ! (0 ∷ []) $ drop ! $
+        (plan-of.clauses 𝓤 H A at-mem run) tt (plan-args q) tt p)))) (id⊢ 𝓤 _) $ await ! tt $
+        pick ! (λ p. split ! $ move ! (1 ∷ []) $
+        use1 W (raw (fact 𝓤 (p ≡ planOf q c))) (exE 𝓤 _ (λ ks. snd∗ 𝓤 (sem 𝓤 H A (lasts plan-of.ended tt
+        (plan-args q) ks)) (fact 𝓤 (p ≡ planOf q c)))) $
+        heard ! (p ≡ planOf q c) (λ e₃. split ! $ move ! (1 ∷ []) $
+        peeks ! Plan.the-row (Is Plan.the-row) (shows 𝓤 H A Plan.the-row) p (w₃ ∷ []) (λ is₃.
+        land ! (from ! (stop !)) (init ! 20 refl (plan .lawful 𝓤 H A W .typed p _ is₃ .0)) $ drop ! $ drop ! $
         -- both rows are given to the additions for good
         sets ! (addr ! (from ! (fld ! refl (hop ! (look-in ! 26 (sub ! 0 refl (whole !))) (stop !))))) 14 refl (tt, tt) $
-        sets ! (agg ! (and-then ! (local ! 14 refl) (and-then ! (member ! 26 refl (sub ! 1 refl (whole !))) (no-more !)))) 12 refl
-        (tt, (tt, (record { fits = g₂ .0 }, tt))) $
+        sets ! (agg ! (and-then ! (local ! 14 refl) (and-then ! (member ! 26 refl (sub ! 1 refl (whole !))) (no-more !)))) 12 refl (tt, (tt, (record { fits = g₂ .0 }, tt))) $
         sets ! (addr ! (from ! (fld ! refl (hop ! (look-in ! 24 (sub ! 0 refl (whole !))) (stop !))))) 10 refl (tt, tt) $
-        sets ! (agg ! (and-then ! (local ! 10 refl) (and-then ! (member ! 24 refl (sub ! 1 refl (whole !))) (no-more !)))) 8 refl
-        (tt, (tt, (record { fits = g₃ .0 }, tt))) $ move ! (3 ∷ []) $
-        use1 W (‵ Own₀ ⊛ ‵ Own₀) (shr-slice-copy 𝓤 H A W (named 0) κ₀ u8 .twice x₀ (v₀ ∷ [])) $ split ! $ nothing ! $ move ! (8 ∷ 0 ∷ []) $
-        fjoin ! $ move ! (8 ∷ 0 ∷ []) $ fjoin ! $
-        owned ! Plan.the-row (Is Plan.the-row) (plan .makes 𝓤 H A) p _ is₃ $ fjoin ! $ move ! (2 ∷ 0 ∷ []) $ fjoin ! $ nothing ! $
-        move ! (6 ∷ 0 ∷ []) $ join ! $ move ! (6 ∷ 0 ∷ []) $ join ! $ move ! (4 ∷ 0 ∷ []) $ join ! $
-        use2 W (raw (AddBoth 𝓤 H A at-mem run .pre (to-add p w₃))) (asks 𝓤 H A W (onEntry 𝓤 H A add-both.signature (κ₀, (κ₂, (κ₃, tt)))
-        (q₀, (q₂, (q₃, tt))) (add-args p) (add-at w₃)) (plan-in (x₀ .now) (x₁ .now) c t e₂ e₃)) $
-        calls-at ! fm (AddBoth 𝓤 H A at-mem run) known-add (to-add p w₃) (and-then ! (local ! 28 refl) (and-then ! (local ! 14 refl)
-        (and-then ! (local ! 8 refl) (and-then ! (local ! 4 refl) (no-more !))))) (λ w₄.
+        sets ! (agg ! (and-then ! (local ! 10 refl) (and-then ! (member ! 24 refl (sub ! 1 refl (whole !))) (no-more !)))) 8 refl (tt, (tt, (record { fits = g₃ .0 }, tt))) $
+        move ! (1 ∷ 5 ∷ 4 ∷ 2 ∷ 7 ∷ 6 ∷ []) $
+        cut Adds-from (raw (AddBoth 𝓤 H A at-mem run .pre (to-add p w₃)) ∷ ‵ Own₀ ∷ []) _
+        (asked-add p w₃ is₃ (can-plan (x₀ .now) (x₁ .now) bs (numbersOf es) c pre e₂ e₃)) $
+        calls-at ! fm (AddBoth 𝓤 H A at-mem run) known-add (to-add p w₃) (and-then ! (local ! 28 refl) (and-then ! (local ! 14 refl) (and-then ! (local ! 8 refl) (and-then ! (local ! 4 refl) (no-more !))))) (λ w₄.
         use1 W (later (some (λ (two : Adding). ((‵ (flft κ₀ q₀) ⊛ ‵ (flft κ₂ q₂) ⊛ ‵ (flft κ₃ q₃) ⊛ ‵ ftrue) ⊛ ‵ (Adding.the-row .own two
         (w₄ ∷ []))) ⊛ raw (ensured 𝓤 H A add-both.ended (add-both.clauses 𝓤 H A at-mem run) (κ₀, (κ₂, (κ₃, tt))) (add-args p) tt two))))
-        (id⊢ 𝓤 _) $ await ! tt $ pick ! (λ two.
-        split ! $ move ! (1 ∷ []) $
+        (id⊢ 𝓤 _) $ await ! tt $
+        pick ! (λ two. split ! $ move ! (1 ∷ []) $
         use1 W (some (λ (zs : Unit {0} × (Unit {0} × (List ℕ × (List Entry × Unit {0})))). ‵ (lasts add-both.ended (κ₀, (κ₂, (κ₃, tt)))
         (add-args p) zs) ⊛ raw (fact 𝓤 (pooled (zs .1 .1 .0) (numbersOf (zs .1 .1 .1 .0)) two ≡ addPlan (x₀ .now) p bs (numbersOf es)))))
         (id⊢ 𝓤 _) $ pick ! (λ zs.
-        split ! $ move ! (1 ∷ []) $ heard ! (pooled (zs .1 .1 .0) (numbersOf (zs .1 .1 .1 .0)) two ≡ addPlan (x₀ .now) p bs (numbersOf es))
-        (λ e₄. fsplit ! $ drop ! $ fsplit ! $ drop ! $ fsplit ! $ fsplit ! $ move ! (1 ∷ []) $
-        feqL ! (λ k₁. move ! (1 ∷ []) $ fsplit ! $ fsplit ! $ move ! (1 ∷ []) $ feqL ! (λ k₂. move ! (1 ∷ []) $ drop ! $ move ! (2 ∷ []) $
         split ! $ move ! (1 ∷ []) $
-        peeks ! Adding.the-row (Is Adding.the-row) (shows 𝓤 H A Adding.the-row) two (w₄ ∷ []) (λ is₄. land ! (from ! (stop !))
-        (init ! 15 refl (adding .lawful 𝓤 H A W .typed two _ is₄ .0)) $ drop ! $ move ! (0 ∷ []) $ split ! $
-        move ! (1 ∷ []) $ split ! $ move ! (1 ∷ []) $ split ! $ move ! (1 ∷ []) $ drop ! $
+        heard ! (pooled (zs .1 .1 .0) (numbersOf (zs .1 .1 .1 .0)) two ≡ addPlan (x₀ .now) p bs (numbersOf es))
+        (λ e₄. fsplit ! $
+        drop ! $ fsplit ! $ drop ! $ fsplit ! $ fsplit ! $ move ! (1 ∷ []) $ feqL ! (λ k₁. move ! (1 ∷ []) $ fsplit ! $ fsplit ! $
+        move ! (1 ∷ []) $ feqL ! (λ k₂. move ! (1 ∷ []) $ drop ! $ move ! (2 ∷ []) $ split ! $ move ! (1 ∷ []) $
+        peeks ! Adding.the-row (Is Adding.the-row) (shows 𝓤 H A Adding.the-row) two (w₄ ∷ []) (λ is₄.
+        land ! (from ! (stop !)) (init ! 15 refl (adding .lawful 𝓤 H A W .typed two _ is₄ .0)) $ drop ! $ split ! $ move ! (1 ∷ []) $
+        split ! $ move ! (1 ∷ []) $ split ! $ move ! (1 ∷ []) $ drop ! $
         -- the answer
-        nothing ! $ owned ! Adding.the-row (Is Adding.the-row) (adding .makes 𝓤 H A) two _ is₄ $ fjoin ! $
-        owned ! Reading.the-row (Is Reading.the-row) (reading .makes 𝓤 H A) q _ is₂ $ fjoin ! $ nothing ! $
-        use2 W (raw (EndBy 𝓤 H A at-mem run .pre (to-end q two w₂ w₄))) (no-ask 𝓤 H A W (onEntry 𝓤 H A end-by.signature tt tt
-        (end-args q two) (end-at w₂ w₄))) $
-        calls-at ! fm (EndBy 𝓤 H A at-mem run) known-end (to-end q two w₂ w₄) (and-then ! (local ! 21 refl) (and-then ! (local ! 17 refl)
-        (no-more !))) (λ w₅.
+        use0 W (raw (EndBy 𝓤 H A at-mem run .pre (to-end q two w₂ w₄))) (asked-end q two w₂ w₄ is₂ is₄) $
+        calls-at ! fm (EndBy 𝓤 H A at-mem run) known-end (to-end q two w₂ w₄) (and-then ! (local ! 21 refl) (and-then ! (local ! 17 refl) (no-more !))) (λ w₅.
         use1 W (later (some (λ (r : After). (‵ ftrue ⊛ ‵ (After.the-row .own r (w₅ ∷ []))) ⊛ raw (ensured 𝓤 H A end-by.ended
-        (end-by.clauses 𝓤 H A at-mem run) tt (end-args q two) tt r)))) (id⊢ 𝓤 _) $ await ! tt $ pick ! (λ r. split ! $
-        move ! (1 ∷ []) $ use1 W (raw (fact 𝓤 (r ≡ endBy q two))) (exE 𝓤 _ (λ ks. snd∗ 𝓤 (sem 𝓤 H A (lasts end-by.ended tt
-        (end-args q two) ks)) (fact 𝓤 (r ≡ endBy q two)))) $ heard ! (r ≡ endBy q two) (λ e₅. split ! $ move ! (1 ∷ []) $
-        peeks ! After.the-row (Is After.the-row) (shows 𝓤 H A After.the-row) r (w₅ ∷ []) (λ is₅. land ! (from ! (stop !)) (init ! 36 refl
-        (after .lawful 𝓤 H A W .typed r _ is₅ .0)) $ drop ! $ move ! (0 ∷ []) $ drop ! $
-        returns ! (look ! 34 refl) $
-        forget ! 8 refl $ forget ! 10 refl $ forget ! 12 refl $ forget ! 14 refl $ forget ! 16 refl $ forget ! 18 refl $ forget ! 20 refl $
-        forget ! 22 refl $ forget ! 24 refl $ forget ! 26 refl $ forget ! 28 refl $ forget ! 30 refl $ forget ! 32 refl $ forget ! 34 refl $
+        (end-by.clauses 𝓤 H A at-mem run) tt (end-args q two) tt r)))) (id⊢ 𝓤 _) $ await ! tt $
+        pick ! (λ r. split ! $ move ! (1 ∷ []) $
+        use1 W (raw (fact 𝓤 (r ≡ endBy q two))) (exE 𝓤 _ (λ ks. snd∗ 𝓤 (sem 𝓤 H A (lasts end-by.ended tt
+        (end-args q two) ks)) (fact 𝓤 (r ≡ endBy q two)))) $
+        heard ! (r ≡ endBy q two) (λ e₅. split ! $ move ! (1 ∷ []) $
+        peeks ! After.the-row (Is After.the-row) (shows 𝓤 H A After.the-row) r (w₅ ∷ []) (λ is₅.
+        land ! (from ! (stop !)) (init ! 36 refl (after .lawful 𝓤 H A W .typed r _ is₅ .0)) $ drop ! $ drop ! $ returns ! (look ! 34 refl) $
+        forget ! 8 refl $ forget ! 10 refl $ forget ! 12 refl $ forget ! 14 refl $ forget ! 16 refl $ forget ! 18 refl $ forget ! 20 refl $ forget ! 22 refl $ forget ! 24 refl $ forget ! 26 refl $ forget ! 28 refl $ forget ! 30 refl $ forget ! 32 refl $ forget ! 34 refl $
         move ! (34 ∷ 35 ∷ []) $ free1 ! $ move ! (32 ∷ 33 ∷ []) $ free1 ! $ move ! (30 ∷ 31 ∷ []) $ free1 ! $ move ! (28 ∷ 29 ∷ []) $
-        free1 ! $ move ! (26 ∷ 27 ∷ []) $ free1 ! $ move ! (24 ∷ 25 ∷ []) $ free1 ! $ move ! (22 ∷ 23 ∷ []) $
-        free1 ! $ move ! (20 ∷ 21 ∷ []) $ free1 ! $ move ! (18 ∷ 19 ∷ []) $ free1 ! $ move ! (16 ∷ 17 ∷ []) $ free1 ! $
-        move ! (14 ∷ 15 ∷ []) $ free1 ! $ move ! (12 ∷ 13 ∷ []) $ free1 ! $ move ! (10 ∷ 11 ∷ []) $ free1 ! $
-        move ! (8 ∷ 9 ∷ []) $ free1 ! $ free0 ! $ nothing ! $ move ! (1 ∷ 0 ∷ []) $ join ! $ move ! (1 ∷ 0 ∷ []) $ join ! $
-        move ! (5 ∷ 0 ∷ []) $ join ! $ move ! (1 ∷ 0 ∷ []) $ join ! $
-        keep ! (0 ∷ 2 ∷ 1 ∷ 3 ∷ 4 ∷ []) $ by ! (exits r w₅ (zs .1 .1 .0) (zs .1 .1 .1 .0) k₁ k₂ is₅ (parses-planned (x₀ .now)
-        (x₁ .now) c bs (numbersOf es) pre e₂ e₃ e₄ e₅)))))))))))))))))))))))))))))))))))
+        free1 ! $ move ! (26 ∷ 27 ∷ []) $ free1 ! $ move ! (24 ∷ 25 ∷ []) $ free1 ! $ move ! (22 ∷ 23 ∷ []) $ free1 ! $
+        move ! (20 ∷ 21 ∷ []) $ free1 ! $ move ! (18 ∷ 19 ∷ []) $ free1 ! $ move ! (16 ∷ 17 ∷ []) $ free1 ! $ move ! (14 ∷ 15 ∷ []) $
+        free1 ! $ move ! (12 ∷ 13 ∷ []) $ free1 ! $ move ! (10 ∷ 11 ∷ []) $ free1 ! $ move ! (8 ∷ 9 ∷ []) $ free1 ! $ free0 ! $ nothing ! $
+        move ! (1 ∷ 0 ∷ []) $ join ! $ move ! (1 ∷ 0 ∷ []) $ join ! $ move ! (5 ∷ 0 ∷ []) $ join ! $ move ! (1 ∷ 0 ∷ []) $ join ! $
+        keep ! (0 ∷ 2 ∷ 1 ∷ 3 ∷ 4 ∷ []) $
+        by ! (exits r w₅ (zs .1 .1 .0) (zs .1 .1 .1 .0) k₁ k₂ is₅ (parses-planned (x₀ .now)
+        (x₁ .now) bs (numbersOf es) c pre e₂ e₃ e₄ e₅)))))))))))))))))))))))))))))))))))
 
 module _ {M : Type 1} (𝓤 : URA M) (H : Heap 𝓤) (A : Atoms 𝓤) (W : Given 𝓤 H A) (mem : Memory → SProp 𝓤) (run : Routine
     → Fun 𝓤) (𝓣 : Tables 𝓤 H)
-    (known-read : Triple 𝓤 (𝓣 .C #parse-lent·reading-of) (ReadingOf 𝓤 H A mem run))
-    (known-plan : Triple 𝓤 (𝓣 .C #parse-lent·plan-of) (PlanOf 𝓤 H A mem run)) (known-add : Triple 𝓤 (𝓣 .C #parse-lent·add-both)
-    (AddBoth 𝓤 H A mem run)) (known-end : Triple 𝓤 (𝓣 .C #parse-lent·end-by) (EndBy 𝓤 H A mem run)) where
+    (known-read : Triple 𝓤 (𝓣 .C #parse·read) (ReadOf 𝓤 H A mem run))
+    (known-plan : Triple 𝓤 (𝓣 .C #parse·plan-of) (PlanOf 𝓤 H A mem run)) (known-add : Triple 𝓤 (𝓣 .C #parse-lent·add-both)
+    (AddBoth 𝓤 H A mem run)) (known-end : Triple 𝓤 (𝓣 .C #parse·end-by) (EndBy 𝓤 H A mem run)) where
   parse-with-walks : Walks 𝓤 H A parse-with.ended stayed (WpFn 𝓤 H (𝓣 .C) (𝓣 .Λ) code.function) (parse-with.clauses 𝓤 H A mem run)
   parse-with-walks = walked 𝓤 H A parse-with.ended stayed (parse-with.clauses 𝓤 H A mem run) (WpFn 𝓤 H (𝓣 .C) (𝓣 .Λ) code.function)
       (λ κs. (slice-vals, (slice-vals, (bool-vals, (slice-vals, (slice-vals, ((λ y. counts .val y ∷ []), tt)))))))
@@ -360,11 +395,11 @@ parse-with-spec 𝓤 H 𝓜 𝓖 𝓡 =
     entered 𝓤 H (tripleOf 𝓤 H (𝓖 .A) parse-with.signature (parse-with.spec 𝓤 H (𝓖 .A) (𝓜 .mem) (𝓡 .run)))
     (tables 𝓤 H 𝓜 𝓡 code.env .C) (tables 𝓤 H 𝓜 𝓡 code.env .Λ) #parse-lent·parse-with code.function (code.unfolded 𝓤 H 𝓜 𝓡)
     (parse-with-meets 𝓤 H (𝓖 .A) (givenOf 𝓤 H 𝓜 𝓖) (𝓜 .mem) (𝓡 .run) (tablesOf 𝓤 H 𝓜 (tables 𝓤 H 𝓜 𝓡 code.env))
-    (cited 𝓤 H (ReadingOf 𝓤 H (𝓖 .A) (𝓜 .mem) (𝓡 .run)) 𝓜 𝓡 code.env #parse-lent·reading-of reading-of-def.routine
-    code.calls-parse-lent·reading-of (reading-of-thm.met 𝓤 H 𝓜 𝓖 𝓡))
-    (cited 𝓤 H (PlanOf 𝓤 H (𝓖 .A) (𝓜 .mem) (𝓡 .run)) 𝓜 𝓡 code.env #parse-lent·plan-of plan-of-def.routine code.calls-parse-lent·plan-of
+    (cited 𝓤 H (ReadOf 𝓤 H (𝓖 .A) (𝓜 .mem) (𝓡 .run)) 𝓜 𝓡 code.env #parse·read read-of-def.routine
+    code.calls-parse·read (read-of-thm.met 𝓤 H 𝓜 𝓖 𝓡))
+    (cited 𝓤 H (PlanOf 𝓤 H (𝓖 .A) (𝓜 .mem) (𝓡 .run)) 𝓜 𝓡 code.env #parse·plan-of plan-of-def.routine code.calls-parse·plan-of
     (plan-of-thm.met 𝓤 H 𝓜 𝓖 𝓡))
     (cited 𝓤 H (AddBoth 𝓤 H (𝓖 .A) (𝓜 .mem) (𝓡 .run)) 𝓜 𝓡 code.env #parse-lent·add-both add-both-def.routine code.calls-parse-lent·add-both
     (add-both-thm.met 𝓤 H 𝓜 𝓖 𝓡))
-    (cited 𝓤 H (EndBy 𝓤 H (𝓖 .A) (𝓜 .mem) (𝓡 .run)) 𝓜 𝓡 code.env #parse-lent·end-by end-by-def.routine code.calls-parse-lent·end-by
+    (cited 𝓤 H (EndBy 𝓤 H (𝓖 .A) (𝓜 .mem) (𝓡 .run)) 𝓜 𝓡 code.env #parse·end-by end-by-def.routine code.calls-parse·end-by
     (end-by-thm.met 𝓤 H 𝓜 𝓖 𝓡)))

@@ -2,8 +2,7 @@
 use mathlib.Core.Path.{_≡_, refl, sym, _∙_}
 use borrow.Author.Needs.{needs}
 use borrow.Author.Tests.{not-true, not-false}
-use Rattle.pool.specs.PoolLaws.{wrong, cut, unfit, unrefused, old-bytes, old-entries}
-use Rattle.pool.proofs.Answers.{settled}
+use Rattle.pool.specs.PoolLaws.{wrong, cut, unfit, settled, adds-fine, old-bytes, old-entries}
 use Rattle.pool.proofs.add_string.Statement.{statement}
 use Rattle.pool.proofs.add_string.Tie as tie
 
@@ -33,7 +32,7 @@ returns c =
     let told = c .before .before .before .before in
     let fine = sym (told .before .before .check-utf8 .ensures) ∙ told .enum-told .given .1 in
     let no = sym (c .before .is-pool-fit .ensures) ∙ not-true _ (c .if1 .taken) in
-    settled _ _ _ _ _ _ _ (sym (unfit _ _ _ _ fine no)) (sym (old-bytes _ _ _ refl _)) (sym (old-entries _ _ _ refl _))
+    settled _ _ _ _ (sym (unfit _ _ _ _ fine no)) (sym (old-bytes _ _ _ refl _)) (sym (old-entries _ _ _ refl _))
 
 add-to-fit-requires : tie.Need-add-to-fit-requires
 add-to-fit-requires c κs = sym (c .before .before .before .is-pool-fit .ensures) ∙ not-false _ (c .before .before .if1 .left)
@@ -41,12 +40,12 @@ add-to-fit-requires c κs = sym (c .before .before .before .is-pool-fit .ensures
 returns-2 : tie.Need-returns-2
 returns-2 c =
     let e = sym (c .before .before .before .check-utf8 .ensures) ∙ c .before .i .given .1 in
-    settled _ _ _ _ _ _ _ (sym (wrong _ _ _ _ _ e)) (sym (old-bytes _ _ _ refl _)) (sym (old-entries _ _ _ refl _))
+    settled _ _ _ _ (sym (wrong _ _ _ _ _ e)) (sym (old-bytes _ _ _ refl _)) (sym (old-entries _ _ _ refl _))
 
 returns-3 : tie.Need-returns-3
 returns-3 c =
     let e = sym (c .before .before .before .check-utf8 .ensures) ∙ c .before .i2 .given .1 in
-    settled _ _ _ _ _ _ _ (sym (cut _ _ _ _ _ e)) (sym (old-bytes _ _ _ refl _)) (sym (old-entries _ _ _ refl _))
+    settled _ _ _ _ (sym (cut _ _ _ _ _ e)) (sym (old-bytes _ _ _ refl _)) (sym (old-entries _ _ _ refl _))
 
 same-length-3 : tie.Need-same-length-3
 same-length-3 c = search needs
@@ -61,8 +60,7 @@ returns-4 c =
     let told = fits .before .before .before in
     let fine = sym (told .before .before .check-utf8 .ensures) ∙ told .enum-told .given .1 in
     let yes = sym (fits .is-pool-fit .ensures) ∙ not-false _ (done .before .before .before .if1 .left) in
-    let r = done .add-to-fit .ensures in
-    settled _ _ _ _ _ _ _ (r .0 ∙ sym (unrefused _ _ _ _ fine yes)) (r .1) (r .2)
+    adds-fine _ _ _ _ fine yes (done .add-to-fit .ensures)
 
 pub add-string-spec : {M : Type 1} → statement M
 add-string-spec =

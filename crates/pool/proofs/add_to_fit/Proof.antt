@@ -7,7 +7,7 @@ use denote.Ref.{now}
 use borrow.Author.Needs.{needs}
 use borrow.Author.Tests.{not-true, not-false}
 use Rattle.pool.specs.Pool.{addedToFit, isNew}
-use Rattle.pool.specs.FitLaws.{searchable, fit-of}
+use Rattle.pool_rows.specs.FitLaws.{searchable, fit-of}
 use Rattle.pool.specs.PoolLaws.{placed-same, old-bytes, old-entries, new-bytes, new-entries, HasRoom, new-has-room}
 use Rattle.pool.proofs.add_to_fit.Statement.{statement}
 use Rattle.pool.proofs.add_to_fit.Tie as tie
@@ -63,7 +63,7 @@ returns : tie.Need-returns
 returns c =
     let asked = c .before in
     let old = sym (asked .is-new .ensures) ∙ not-true _ (c .if1 .taken) in
-    (answer-is asked, sym (old-bytes _ _ _ old _), sym (old-entries _ _ _ old _))
+    record { answer = answer-is asked; bytes-left = sym (old-bytes _ _ _ old _); entries-left = sym (old-entries _ _ _ old _) }
 
 cast-copy-in : tie.Need-cast-copy-in
 cast-copy-in c = search needs
@@ -92,11 +92,12 @@ returns-2 c =
     let written = c .before .before in
     let copied = written .before .before .before .before in
     let asked = copied .before .before .before in
-    let new = sym (asked .is-new .ensures) ∙ not-false _ (copied .before .before .if1 .left) in (
-      answer-is asked,
-      copied .copy-in .ensures ∙ sym (new-bytes _ _ _ new _),
-      written .put-entry .ensures ∙ sym (new-entries _ _ _ new _),
-    )
+    let new = sym (asked .is-new .ensures) ∙ not-false _ (copied .before .before .if1 .left) in
+    record {
+      answer = answer-is asked;
+      bytes-left = copied .copy-in .ensures ∙ sym (new-bytes _ _ _ new _);
+      entries-left = written .put-entry .ensures ∙ sym (new-entries _ _ _ new _);
+    }
 
 pub add-to-fit-spec : {M : Type 1} → statement M
 add-to-fit-spec =

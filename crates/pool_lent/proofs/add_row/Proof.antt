@@ -20,11 +20,12 @@ use Rattle.pool_lent.proofs.Walk.{lft-end, Bool, true}
 use Rattle.pool_lent.proofs.Places.{local, member, sets}
 use denote.Struct.Laws as LL
 use denote.Enum.Laws as EL
-use Rattle.pool.specs.Pool.{indexOf, stringsOf, byteRoom, fitPool, isNew, bytesAfter, AddsString}
-use Rattle.pool.specs.declared.Counts.{Counts}
+use Rattle.pool_rows.specs.Rows.{indexOf, stringsOf, byteRoom, fitPool}
+use Rattle.pool.specs.Pool.{isNew, bytesAfter, AddsString}
+use Rattle.pool_rows.specs.declared.Counts.{Counts}
 use Rattle.pool.specs.declared.Added.{Added}
-use Rattle.pool.proofs.Counts as C
-use Rattle.pool.proofs.Counts.Laws as C′
+use Rattle.pool_rows.proofs.Counts as C
+use Rattle.pool_rows.proofs.Counts.Laws as C′
 use Rattle.pool.proofs.Added as Ad
 use Rattle.pool.proofs.Added.Laws as Ad′
 use Rattle.pool_lent.specs.Entries.{numbersOf, entryOf}

@@ -18,10 +18,10 @@ use Rattle.pool_lent.proofs.Places.{local, member, sets}
 use denote.Struct.Laws as LL
 use denote.Enum.Laws as EL
 use Rattle.pool.specs.Pool.{countsAfter, AddsString}
-use Rattle.pool.specs.declared.Counts.{Counts}
+use Rattle.pool_rows.specs.declared.Counts.{Counts}
 use Rattle.pool.specs.declared.Added.{Added}
-use Rattle.pool.proofs.Counts as C
-use Rattle.pool.proofs.Counts.Laws as C′
+use Rattle.pool_rows.proofs.Counts as C
+use Rattle.pool_rows.proofs.Counts.Laws as C′
 use Rattle.pool.proofs.Added as Ad
 use Rattle.pool.proofs.Added.Laws as Ad′
 use Rattle.pool_lent.specs.Entries.{numbersOf, AddsEntry}

@@ -8,8 +8,9 @@ use lib.ListN.{length}
 use denote.Ref.{now}
 use borrow.Author.Needs.{needs}
 use borrow.Author.Tests.{not-true, not-false}
-use Rattle.pool.specs.Pool.{roomOf, byteRoom, placed, isNew}
-use Rattle.pool.specs.FitLaws.{room-within}
+use Rattle.pool_rows.specs.Rows.{roomOf, byteRoom}
+use Rattle.pool.specs.Pool.{placed, isNew}
+use Rattle.pool_rows.specs.FitLaws.{room-within}
 use Rattle.pool.specs.PoolLaws.{placed-same, old-bytes, new-bytes}
 use Rattle.pool_lent.proofs.Numbers.{new-room}
 use Rattle.pool_lent.proofs.add_to_fit.Statement.{statement}

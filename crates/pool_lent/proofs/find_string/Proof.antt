@@ -23,8 +23,8 @@ use Rattle.pool_lent.proofs.Places.{local, member, sets}
 use lib.Dec.{T as Holds, ltb, ltb→lt, nltb→le, lit<}
 use lib.ListN.{take, drop as rest-of}
 use denote.Struct.Laws as LL
-use Rattle.pool.specs.Pool.{same, indexOf, stringsOf}
-use Rattle.pool.proofs.Loops.{Searching, seek, none-left}
+use Rattle.pool_rows.specs.Rows.{same, indexOf, stringsOf}
+use Rattle.pool_rows.proofs.Loops.{Searching, seek, none-left}
 use Rattle.pool_lent.specs.Entries.{numbersOf}
 use Rattle.pool_lent.specs.EntriesLaws.{entryAt}
 use Rattle.pool_lent.specs.declared.Entry.{Entry}

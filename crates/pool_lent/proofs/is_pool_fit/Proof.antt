@@ -15,10 +15,10 @@ use Rattle.pool_lent.proofs.Walk.{walkOf, goes-none-slice, goes-none, W
 use Rattle.pool_lent.proofs.Walk.{lasts, Contract, Triple, Bool}
 use Rattle.pool_lent.proofs.Places.{local, member, sets}
 use denote.Struct.Laws as LL
-use Rattle.pool.specs.Pool.{fitPool}
-use Rattle.pool.specs.declared.Counts.{Counts}
-use Rattle.pool.proofs.Counts as C
-use Rattle.pool.proofs.Counts.Laws as C′
+use Rattle.pool_rows.specs.Rows.{fitPool}
+use Rattle.pool_rows.specs.declared.Counts.{Counts}
+use Rattle.pool_rows.proofs.Counts as C
+use Rattle.pool_rows.proofs.Counts.Laws as C′
 use Rattle.pool_lent.specs.Entries.{numbersOf}
 use Rattle.pool_lent.specs.Decided.{least as smaller, EndsAt, fitAt}
 use Rattle.pool_lent.specs.declared.Entry.{Entry}

@@ -6,7 +6,7 @@ use native.Mathlib.Omega.{arith}
 use lib.ListN.{length, take, drop}
 use denote.Ref.{now}
 use borrow.Author.Needs.{needs}
-use Rattle.pool.specs.Pool.{same}
+use Rattle.pool_rows.specs.Rows.{same}
 use Rattle.pool_lent.proofs.Numbers.{least-within, clipped}
 use Rattle.pool_lent.proofs.is_string.Statement.{statement}
 use Rattle.pool_lent.proofs.is_string.Tie as tie

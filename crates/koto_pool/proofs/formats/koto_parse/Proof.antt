@@ -15,14 +15,14 @@ use Rattle.pool_lent.proofs.Walk.{Walks, ends-at, walked, walk-meets, yes}
 use denote.Triple.Walked.{gave-ref, goes-gave-ref}
 use denote.Enum.Laws as EL
 use denote.Array.{Array}
-use Rattle.pool.specs.declared.Counts.{Counts}
+use Rattle.pool_rows.specs.declared.Counts.{Counts}
 use Rattle.parse.specs.declared.Parsed.{Parsed}
 use Rattle.pool_lent.specs.declared.Entry.{Entry}
 use Rattle.parse_lent.specs.Lent.{ParsesEntries}
 use Rattle.koto_pool.specs.Formats.{ParsedTold}
 use Rattle.koto_pool.specs.FormatsLaws.{parsed-told}
 use Rattle.pool_lent.proofs.Entry as E
-use Rattle.pool.proofs.Counts as C
+use Rattle.pool_rows.proofs.Counts as C
 use Rattle.parse.proofs.Parsed as D
 use Rattle.parse.proofs.Parsed.Laws as D′
 use Rattle.parse_lent.proofs.parse as inner

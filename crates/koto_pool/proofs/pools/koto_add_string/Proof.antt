@@ -14,14 +14,14 @@ use Rattle.pool_lent.proofs.Walk.{entered, cited, says, Stays, gave-slice, stay
 use Rattle.pool_lent.proofs.Walk.{Walks, ends-at, walked, walk-meets, yes}
 use denote.Triple.Walked.{gave-ref, goes-gave-ref}
 use denote.Enum.Laws as EL
-use Rattle.pool.specs.declared.Counts.{Counts}
+use Rattle.pool_rows.specs.declared.Counts.{Counts}
 use Rattle.pool.specs.declared.Added.{Added}
 use Rattle.pool_lent.specs.declared.Entry.{Entry}
 use Rattle.pool_lent.specs.Entries.{AddsEntry}
 use Rattle.koto_pool.specs.Pools.{AddedTold}
 use Rattle.koto_pool.specs.PoolsLaws.{added-told}
 use Rattle.pool_lent.proofs.Entry as E
-use Rattle.pool.proofs.Counts as C
+use Rattle.pool_rows.proofs.Counts as C
 use Rattle.pool.proofs.Added as D
 use Rattle.pool.proofs.Added.Laws as D′
 use Rattle.pool_lent.proofs.add_string as inner
