@@ -3,7 +3,7 @@ ghost use mathlib.Core.Path.{_≡_};
 ghost use Rattle.koto_lexer.specs.Formats.{givenNumber, shownNumber, fillPlace, fillLen, optionsNumbers, noNumbers, numbersOf};
 ghost use Rattle.koto_lexer.specs.Formats.{ParsedTold, ParseIs};
 use format::Fill;
-use format::Given;
+use format::OptionalNumber;
 use format::Options;
 use format::Shown;
 use parse::Parsed;
@@ -23,12 +23,12 @@ fn shown_number(shown: Shown) -> u64
     }
 }
 
-fn given_number(given: Given) -> u64
+fn given_number(given: OptionalNumber) -> u64
     ensures { λ r. ⌜ r ≡ givenNumber given ⌝ }
 {
     match given {
-        Given::Number(n) => n as u64,
-        Given::Nothing => NONE,
+        OptionalNumber::Number(n) => n as u64,
+        OptionalNumber::Nothing => NONE,
     }
 }
 
@@ -51,7 +51,7 @@ fn fill_len(fill: Fill) -> u64
 }
 
 // The seven numbers of options and of their fill's index.
-fn options_numbers(options: Options, index: Given) -> [u64; 7]
+fn options_numbers(options: Options, index: OptionalNumber) -> [u64; 7]
     ensures { λ r. ⌜ r ≡ optionsNumbers options index ⌝ }
 {
     let alignment = options.alignment;

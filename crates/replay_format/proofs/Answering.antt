@@ -8,8 +8,8 @@ use mathlib.Core.List.{List, [], _∷_}
 use denote.Enum.Declared.{tagOf}
 use types.Run.{OneOf, miss}
 use Rattle.format.specs.Options.{representationNumber}
-use Rattle.format.specs.declared.Given.{Given}
-use Rattle.format.specs.declared.Given.the-variants.{Number}
+use Rattle.format.specs.declared.OptionalNumber.{OptionalNumber}
+use Rattle.format.specs.declared.OptionalNumber.the-variants.{Number}
 use Rattle.format.specs.declared.Representation.{Representation}
 use Rattle.format.specs.declared.Shown.{Shown}
 use Rattle.format.specs.declared.Shown.the-variants.{As}
@@ -22,7 +22,7 @@ use Rattle.parse.specs.declared.Parsed.the-variants.{Read, TooLong, BadTable, B
 use Rattle.parse.proofs.Parsed.{the-type}
 use Rattle.replay_format.specs.Answers.{givenNumber, shownNumber, optionsOf, answerOf}
 
-pub number-given : {g : Given} {n : ℕ} → g ≡ Number n → 1 + n ≡ givenNumber g
+pub number-given : {g : OptionalNumber} {n : ℕ} → g ≡ Number n → 1 + n ≡ givenNumber g
 number-given e = rw e
 
 pub shown-as : {s : Shown} {r : Representation} {n : ℕ} → s ≡ As r → n ≡ representationNumber r → 1 + n ≡ shownNumber s
@@ -45,7 +45,7 @@ refused-is PoolFull h = refl
 
 -- n is the answer's number, and the next field stands at next
 module _ (text : List ℕ) (at next n : ℕ) (p : Parsed) (number : n ≡ numberOf p) (first : next ≡ sameAt text at n) {r : ℕ} where
-  pub by-read : (o : Options) (i : Given) → p ≡ Read o i → r ≡ sameAll text next (optionsOf o i) → r ≡ sameAll text at (answerOf p)
+  pub by-read : (o : Options) (i : OptionalNumber) → p ≡ Read o i → r ≡ sameAll text next (optionsOf o i) → r ≡ sameAll text at (answerOf p)
   by-read o i is e =
       fields-of text at answerOf is (first-then text at next 0 (optionsOf o i) (first ∙ ap (sameAt text at) (number ∙ ap numberOf is)) e)
 

@@ -6,8 +6,8 @@ use mathlib.Core.List.{List, [], _∷_}
 use Rattle.format.specs.Options.{alignmentNumber, representationNumber}
 use Rattle.format.specs.declared.Fill.{Fill}
 use Rattle.format.specs.declared.Fill.the-variants.{Is, NoFill}
-use Rattle.format.specs.declared.Given.{Given}
-use Rattle.format.specs.declared.Given.the-variants.{Number, Nothing}
+use Rattle.format.specs.declared.OptionalNumber.{OptionalNumber}
+use Rattle.format.specs.declared.OptionalNumber.the-variants.{Number, Nothing}
 use Rattle.format.specs.declared.Options.{Options}
 use Rattle.format.specs.declared.Shown.{Shown}
 use Rattle.format.specs.declared.Shown.the-variants.{As, Plain}
@@ -16,7 +16,7 @@ use Rattle.parse.specs.declared.Parsed.{Parsed}
 use Rattle.parse.specs.declared.Parsed.the-variants.{Read, TooLong, BadTable, BadUtf8, BadState, ExpectedNumber, FormatNumberIsTooLarge, UnexpectedToken, PoolFull}
 
 -- a width, a precision or an index
-abbrev pub givenNumber : Given → ℕ
+abbrev pub givenNumber : OptionalNumber → ℕ
 givenNumber (Number n) = 1 + n
 givenNumber Nothing = 0
 
@@ -31,7 +31,7 @@ fillOf (Is part) = 1 ∷ part .place ∷ part .len ∷ []
 fillOf NoFill = 0 ∷ []
 
 -- options, with the fill's index before the fill
-abbrev pub optionsOf : Options → Given → List ℕ
+abbrev pub optionsOf : Options → OptionalNumber → List ℕ
 optionsOf o index =
     alignmentNumber (o .alignment)
     ∷ givenNumber (o .width)
