@@ -21,13 +21,13 @@ use Rattle.utf8.specs.Chars.{chars, At}
 use Rattle.utf8.specs.CharsLaws.{Stops, at-char, After, after-chars}
 use Rattle.utf8.specs.declared.Read.the-variants.{Char}
 use Rattle.format.specs.Parse as parse
-use Rattle.format.specs.Parse.{indexMax, peeked, isDigit, digitsFrom, consumeU32, armOf, onConsumed, bodyOf, Parsed, parseFrom, lenUtf8}
+use Rattle.format.specs.Parse.{indexMax, peeked, isDigit, digitsFrom, consumeU32, armOf, onConsumed, bodyOf, OnePass, parseFrom, lenUtf8}
 use Rattle.format.specs.Read.{keep, readingOf, readFormat, isFine, startParsing, ended, goesTo, failsWith, turnOf, bodyAt, turnAt, Here}
 use Rattle.format.specs.declared.Fill.{Fill}
 use Rattle.format.specs.declared.Options.{Options}
 use Rattle.format.specs.declared.Outcome.{Outcome}
 use Rattle.format.specs.declared.Outcome.the-variants.{Fine}
-use Rattle.format.specs.declared.Added.{Added}
+use Rattle.format.specs.declared.Strings.{Strings}
 use Rattle.format.specs.declared.Consumed.{Consumed}
 use Rattle.format.specs.declared.Arm.{Arm}
 use Rattle.format.specs.declared.Arm.the-variants as arm
@@ -71,7 +71,7 @@ body-errs edition look at o c cs arm.Unexpected = refl
 
 module _ (edition : ℕ) (look : ℕ → ℕ) where
   -- from a state on, where cs is left and the last arm took the first k characters of it
-  abbrev from : ℕ → Parsing → List ℕ → Parsed Added
+  abbrev from : ℕ → Parsing → List ℕ → OnePass Strings
   from k p cs = parseFrom keep edition look k (p .at) (p .position) (p .result) (p .added) cs
 
   -- the same state, further on
@@ -81,12 +81,12 @@ module _ (edition : ℕ) (look : ℕ → ℕ) where
   -- what an arm took is passed over
   skips : (k : ℕ) (p : Parsing) (cs : List ℕ) → from k p cs ≡ from 0 (moved p (p .at + length (encodeAll (take k cs)))) (drop k cs)
   unfolding parseFrom encodeAll
-  skips zero p cs = ap {B = Parsed Added} (λ (i : ℕ). from 0 (moved p i) cs) (sym (add-zero (p .at)))
+  skips zero p cs = ap {B = OnePass Strings} (λ (i : ℕ). from 0 (moved p i) cs) (sym (add-zero (p .at)))
   skips (suc k) p [] = refl
   skips (suc k) p (c ∷ cs) =
       let w : p .at + lenUtf8 c + length (encodeAll (take k cs)) ≡ p .at + length (encode c ++ encodeAll (take k cs)) =
       omega (arith, length-append (encode c) (encodeAll (take k cs))) in
-      skips k (moved p (p .at + lenUtf8 c)) cs ∙ ap {B = Parsed Added} (λ (i : ℕ). from 0 (moved p i) (drop k cs)) w
+      skips k (moved p (p .at + lenUtf8 c)) cs ∙ ap {B = OnePass Strings} (λ (i : ℕ). from 0 (moved p i) (drop k cs)) w
 
   module _ (p : Parsing) (c : ℕ) (cs : List ℕ) where
     -- a turn of the definition that goes on, and one that fails

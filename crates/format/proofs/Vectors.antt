@@ -18,7 +18,7 @@ use Rattle.format.specs.declared.Fill.the-variants.{Is, NoFill}
 use Rattle.format.specs.declared.Options.{Options}
 use Rattle.format.specs.declared.Outcome.{Outcome}
 use Rattle.format.specs.declared.Outcome.the-variants.{Fine, ExpectedNumber, TooLarge, UnexpectedToken}
-use Rattle.format.specs.declared.Added.{Added}
+use Rattle.format.specs.declared.Strings.{Strings}
 use Rattle.format.specs.declared.FormatRead.{FormatRead}
 
 abbrev read : List ℕ → FormatRead
@@ -27,13 +27,13 @@ read cs = readFormat 2 (propertiesAt smallTable) cs
 abbrev part : ℕ → ℕ → Part
 part place len = record { place = place; len = len }
 
-abbrev one : Part → Added
+abbrev one : Part → Strings
 one first = record { first = Is first; second = NoFill }
 
-abbrev two : Part → Part → Added
+abbrev two : Part → Part → Strings
 two first second = record { first = Is first; second = Is second }
 
-abbrev is : Outcome → Options → Added → FormatRead
+abbrev is : Outcome → Options → Strings → FormatRead
 is outcome options added = record { options = options; outcome = outcome; added = added }
 
 vectors :

@@ -1,5 +1,5 @@
 pub mod Options
 pub mod Parse
-pub mod ParseLaws
 pub mod Read
+pub mod ParseLaws
 pub mod ReadLaws

@@ -8,7 +8,7 @@ use Rattle.format.specs.declared.Alignment.the-variants as alignment
 use Rattle.format.specs.declared.Representation.{Representation}
 use Rattle.format.specs.declared.Representation.the-variants as representation
 use Rattle.format.specs.declared.Shown.the-variants.{As, Plain}
-use Rattle.format.specs.declared.Given.the-variants.{Number, Nothing}
+use Rattle.format.specs.declared.OptionalNumber.the-variants.{Number, Nothing}
 use Rattle.format.specs.declared.Part.{Part}
 use Rattle.format.specs.declared.Fill.the-variants.{Is, NoFill}
 use Rattle.format.specs.declared.Options.{Options}

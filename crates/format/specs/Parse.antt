@@ -4,13 +4,13 @@
 -- `Read`. An addition cannot fail here: for a pool that can be full, P also says whether it was, and `add` then leaves it as it is.
 -- `match (next, chars.peek(), position)` is told in two halves: `armOf` has the patterns, in their order, and `bodyOf` what stands behind each.
 -- Assumes nothing.
-use Prim.Native.Nat.{ℕ, zero, suc, _+_, _-_, _*_}
+use Prim.Native.Nat.{ℕ, zero, suc, _+_, _-_, _*_, _≤_}
 use mathlib.Core.Bool.{Bool, false, _&&_, _||_}
 use mathlib.Core.List.{List, [], _∷_, _++_}
 use lib.Dec.{eqb, ltb, leb}
 use lib.ListN.{length, take, drop}
 use Rattle.base.specs.Pick.{pick}
-use Rattle.utf8.specs.Encode.{encode}
+use Rattle.utf8.specs.Encode.{encode, WellFormed}
 use Rattle.cluster.specs.First.{firstSize, firstEnd}
 use Rattle.format.specs.Options.{noOptions, withAlignment, withWidth, withPrecision, withRepresentation, withFill}
 use Rattle.format.specs.declared.Alignment.{Alignment}
@@ -198,7 +198,7 @@ bodyOf edition look at o c cs arm.Unexpected = Fails (UnexpectedToken c)
 -- ---- the loop
 
 -- what `parse` comes to: the options so far, how it ends, and the pool
-pub record Parsed (P : Type 0) : Type 0 where
+pub record OnePass (P : Type 0) : Type 0 where
   pub options : Options
   pub outcome : Outcome
   pub pool : P
@@ -210,13 +210,13 @@ addFill add pool NoFill = pool
 
 module _ {P : Type 0} (add : P → Part → P) (edition : ℕ) (look : ℕ → ℕ) where
   -- from the byte `at` on, where the first k characters of what is left were taken by the last arm
-  unfoldable pub parseFrom : ℕ → ℕ → ℕ → Options → P → List ℕ → Parsed P
+  unfoldable pub parseFrom : ℕ → ℕ → ℕ → Options → P → List ℕ → OnePass P
   parseFrom k at position o pool [] = record { options = o; outcome = Fine; pool = pool }
   parseFrom (suc k) at position o pool (c ∷ cs) = parseFrom k (at + lenUtf8 c) position o pool cs
   parseFrom zero at position o pool (c ∷ cs) = elim (bodyOf edition look at o c cs (armOf c (peeked cs) position)) [ Goes result next k fill ↦ parseFrom k (at + lenUtf8 c) next result (addFill add pool fill) cs | Fails e ↦ record { options = o; outcome = e; pool = pool } ]
 
   -- of a whole format string
-  abbrev pub parseWith : P → List ℕ → Parsed P
+  abbrev pub parseWith : P → List ℕ → OnePass P
   parseWith pool cs = parseFrom 0 0 start noOptions pool cs
 
 -- one more string, at the end of a list
@@ -224,12 +224,26 @@ abbrev pub append : List Part → Part → List Part
 append parts part = parts ++ part ∷ []
 
 -- `parse` of a whole format string, with the strings that it adds, in order
-abbrev pub parse : ℕ → (ℕ → ℕ) → List ℕ → Parsed (List Part)
+abbrev pub parse : ℕ → (ℕ → ℕ) → List ℕ → OnePass (List Part)
 parse edition look cs = parseWith append edition look [] cs
 
 -- the string of a part of s
 abbrev pub stringOf : List ℕ → Part → List ℕ
 stringOf s part = take (part .len) (drop (part .place) s)
+
+-- a part that is inside s, and made of whole characters
+pub record PartIn (s : List ℕ) (part : Part) : Type 0 where
+  pub within : part .place + part .len ≤ length s
+  pub well : WellFormed (stringOf s part)
+
+-- a string, if there is one, is a part of s
+abbrev pub FillIn : List ℕ → Fill → Type 0
+FillIn s (Is part) = PartIn s part
+FillIn s NoFill = Unit {0}
+
+-- the string of a part of s added
+abbrev pub addPart : {P : Type 0} → List ℕ → (P → List ℕ → P) → P → Part → P
+addPart s add pool part = add pool (stringOf s part)
 
 -- strings added to a pool, one after the other
 abbrev pub addAll : {P : Type 0} → (P → Part → P) → P → List Part → P

@@ -1,7 +1,7 @@
 -- Laws of `parse`.
 --     ArmIs, arm-is            what each arm of the match says of the characters and the position
 --     parse-adds               a pool of any kind ends as the list of strings says
---     PartIn, ZeroIn           a part that is inside the format string and made of whole characters; one that is a zero
+--     ZeroIn                   a part that is a zero
 --     Keeps, parse-keeps       what is kept by a first fill, by a zero and by every other arm holds at the end: the way to show something of
 --                              all that `parse` adds
 -- Assumes nothing.
@@ -25,7 +25,7 @@ use Rattle.cluster.specs.First.{firstSize, firstEnd}
 use Rattle.format.specs.Options.{noOptions, withWidth, withPrecision}
 use Rattle.format.specs.Parse.{start, alignment, minWidth, precision, type, end, noChar, peeked, lenUtf8, zeroDigit, isSign, consumeU32}
 use Rattle.format.specs.Parse.{isFillSign, isAlign, isZeroFill, isWidth, isPrecision, letterOf, onShown, lastArm, armOf}
-use Rattle.format.specs.Parse.{Body, Goes, Fails, onConsumed, bodyOf, Parsed, addFill, parseFrom, parseWith, append, parse, stringOf, addAll}
+use Rattle.format.specs.Parse.{Body, Goes, Fails, onConsumed, bodyOf, OnePass, addFill, parseFrom, parseWith, append, parse, stringOf, PartIn, addAll}
 use Rattle.format.specs.declared.Shown.{Shown}
 use Rattle.format.specs.declared.Shown.the-variants.{As, Plain}
 use Rattle.format.specs.declared.Part.{Part}
@@ -76,7 +76,7 @@ add-last add pool (q ∷ parts) part = add-last add (add pool q) parts part
 
 module _ {P : Type 0} (add : P → Part → P) (edition : ℕ) (look : ℕ → ℕ) (pool : P) where
   -- what is parsed with a list, as what is parsed with the pool
-  abbrev pub poured : Parsed (List Part) → Parsed P
+  abbrev pub poured : OnePass (List Part) → OnePass P
   poured r = record { options = r .options; outcome = r .outcome; pool = addAll add pool (r .pool) }
 
   add-fill : (parts : List Part) (fill : Fill) → addFill add (addAll add pool parts) fill ≡ addAll add pool (addFill append parts fill)
@@ -98,7 +98,7 @@ module _ {P : Type 0} (add : P → Part → P) (edition : ℕ) (look : ℕ → �
           ≡ poured (parseFrom append edition look 0 at position o parts (c ∷ cs))
       go (Goes r q k fill) e ih =
           rw (e, parseFrom)
-          (ap {B = Parsed P} (λ (x : P). parseFrom add edition look k (at + lenUtf8 c) q r x cs) (add-fill parts fill) ∙ ih k q r (addFill append parts fill))
+          (ap {B = OnePass P} (λ (x : P). parseFrom add edition look k (at + lenUtf8 c) q r x cs) (add-fill parts fill) ∙ ih k q r (addFill append parts fill))
       go (Fails x) e ih = rw (e, parseFrom)
 
   pub parse-adds : (cs : List ℕ) → parseWith add edition look pool cs ≡ poured (parse edition look cs)
@@ -107,12 +107,8 @@ module _ {P : Type 0} (add : P → Part → P) (edition : ℕ) (look : ℕ → �
 -- ---- what is added
 
 module _ (s : List ℕ) where
-  pub record PartIn (part : Part) : Type 0 where
-    pub within : part .place + part .len ≤ length s
-    pub well : WellFormed (stringOf s part)
-
   pub record ZeroIn (part : Part) : Type 0 where
-    pub part-in : PartIn part
+    pub part-in : PartIn s part
     pub zero-is : stringOf s part ≡ zeroDigit ∷ []
 
   -- from the byte `at` on stand the characters cs
@@ -144,7 +140,7 @@ module _ (s : List ℕ) where
   scalars-take (suc k) [] w = tt
   scalars-take (suc k) (c ∷ cs) w = (w .0, scalars-take k cs (w .1))
 
-  part-first : (at : ℕ) (cs : List ℕ) (k : ℕ) → Rest at cs → PartIn (record { place = at; len = length (encodeAll (take k cs)) })
+  part-first : (at : ℕ) (cs : List ℕ) (k : ℕ) → Rest at cs → PartIn s (record { place = at; len = length (encodeAll (take k cs)) })
   part-first at cs k r =
       record {
         within =
@@ -163,8 +159,8 @@ module _ (s : List ℕ) where
   unfolding encodeAll
   one-len c cs = ap length (append-nil (encode c))
 
-  part-one : (at c : ℕ) (cs : List ℕ) → Rest at (c ∷ cs) → PartIn (record { place = at; len = lenUtf8 c })
-  part-one at c cs r = subst (λ (n : ℕ). PartIn (record { place = at; len = n })) (one-len c cs) (part-first at (c ∷ cs) 1 r)
+  part-one : (at c : ℕ) (cs : List ℕ) → Rest at (c ∷ cs) → PartIn s (record { place = at; len = lenUtf8 c })
+  part-one at c cs r = subst (λ (n : ℕ). PartIn s (record { place = at; len = n })) (one-len c cs) (part-first at (c ∷ cs) 1 r)
 
   zero-one : (at c : ℕ) (cs : List ℕ) → c ≡ zeroDigit → Rest at (c ∷ cs) → ZeroIn (record { place = at; len = lenUtf8 c })
   unfolding encodeAll encode
@@ -178,12 +174,12 @@ module _ (s : List ℕ) where
   module _ {P : Type 0} (add : P → Part → P) (I : ℕ → Fill → P → Type 0) where
     -- I, of the position, the options' fill and the pool, is kept
     pub record Keeps : Type 0 where
-      pub by-fill : (q : ℕ) (fill : Fill) (pool : P) (part : Part) → I start fill pool → PartIn part → 0 < q → I q (Is part) (add pool part)
+      pub by-fill : (q : ℕ) (fill : Fill) (pool : P) (part : Part) → I start fill pool → PartIn s part → 0 < q → I q (Is part) (add pool part)
       pub by-zero : (p q : ℕ) (fill : Fill) (pool : P) (part : Part) → I p fill pool → ZeroIn part → 0 < q → I q (Is part) (add pool part)
       pub by-other : (p q : ℕ) (fill : Fill) (pool : P) → I p fill pool → 0 < q → I q fill pool
 
     -- it holds at the end, whatever the position there
-    abbrev pub Kept : Parsed P → Type 0
+    abbrev pub Kept : OnePass P → Type 0
     Kept r = (q : ℕ) × I q (r .options .fill) (r .pool)
 
     module _ (keeps : Keeps) (edition : ℕ) (look : ℕ → ℕ) where
@@ -211,7 +207,7 @@ module _ (s : List ℕ) where
       after at p o pool c cs r i (arm.Represent x) t = keeps .by-other p end (o .fill) pool i (omega arith)
       after at p o pool c cs r i arm.FillCluster t =
           let z : length (encodeAll (take (firstSize edition look (c ∷ cs)) (c ∷ cs))) ≡ firstEnd edition look 0 (c ∷ cs) = omega arith in
-          let part = subst (λ (n : ℕ). PartIn (record { place = at; len = n })) z (part-first at (c ∷ cs) (firstSize edition look (c ∷ cs)) r) in
+          let part = subst (λ (n : ℕ). PartIn s (record { place = at; len = n })) z (part-first at (c ∷ cs) (firstSize edition look (c ∷ cs)) r) in
           keeps .by-fill alignment (o .fill) pool _ (subst (λ (q : ℕ). I q (o .fill) pool) t i) part (omega arith)
       after at p o pool c cs r i arm.Unexpected t = tt
 

@@ -19,26 +19,26 @@ use Rattle.format.specs.declared.Fill.the-variants.{Is, NoFill}
 use Rattle.format.specs.declared.Options.{Options}
 use Rattle.format.specs.declared.Outcome.{Outcome}
 use Rattle.format.specs.declared.Outcome.the-variants.{Fine, ExpectedNumber, TooLarge, UnexpectedToken}
-use Rattle.format.specs.declared.Added.{Added}
+use Rattle.format.specs.declared.Strings.{Strings}
 use Rattle.format.specs.declared.FormatRead.{FormatRead}
 use Rattle.format.specs.declared.Consumed.{Consumed}
 use Rattle.format.specs.declared.Consumed.the-variants.{Value, Wrong}
 use Rattle.format.specs.declared.Parsing.{Parsing}
 
 -- no string
-abbrev pub nothingAdded : Added
+abbrev pub nothingAdded : Strings
 nothingAdded = record { first = NoFill; second = NoFill }
 
 -- the first string stays; a later one takes the place of the one before it
-abbrev pub keepBy : Fill → Added → Part → Added
+abbrev pub keepBy : Fill → Strings → Part → Strings
 keepBy (Is p) a part = record { first = a .first; second = Is part }
 keepBy NoFill a part = record { first = Is part; second = NoFill }
 
-abbrev pub keep : Added → Part → Added
+abbrev pub keep : Strings → Part → Strings
 keep a part = keepBy (a .first) a part
 
 -- the answer, of what `parse` comes to
-abbrev pub readingOf : parse.Parsed Added → FormatRead
+abbrev pub readingOf : parse.OnePass Strings → FormatRead
 readingOf r = record { options = r .options; outcome = r .outcome; added = r .pool }
 
 -- the reading of a format string with these characters
@@ -46,7 +46,7 @@ unfoldable pub readFormat : ℕ → (ℕ → ℕ) → List ℕ → FormatRead
 readFormat edition look cs = readingOf (parse.parseWith keep edition look nothingAdded cs)
 
 -- the strings of a reading added to a pool, one after the other
-abbrev pub addBoth : {P : Type 0} → (P → Part → P) → P → Added → P
+abbrev pub addBoth : {P : Type 0} → (P → Part → P) → P → Strings → P
 addBoth add pool a = parse.addFill add (parse.addFill add pool (a .first)) (a .second)
 
 -- the last of them
@@ -54,7 +54,7 @@ abbrev pub lastBy : Fill → Fill → Fill
 lastBy (Is part) first = Is part
 lastBy NoFill first = first
 
-abbrev pub lastOf : Added → Fill
+abbrev pub lastOf : Strings → Fill
 lastOf a = lastBy (a .second) (a .first)
 
 -- ---- a turn

@@ -10,13 +10,13 @@ use mathlib.Core.Path.{_≡_, refl, sym, ap, subst, _∙_}
 use mathlib.Core.List.{List, [], _∷_}
 use Rattle.utf8.specs.Encode.{WellFormed}
 use Rattle.utf8.specs.Chars.{chars}
-use Rattle.format.specs.Parse.{start, zeroDigit, Parsed, addFill, parseWith, append, parse, stringOf, addAll}
-use Rattle.format.specs.ParseLaws.{parse-adds, PartIn, Keeps, parse-keeps}
+use Rattle.format.specs.Parse.{start, zeroDigit, OnePass, addFill, parseWith, append, parse, stringOf, PartIn, FillIn, addPart, addAll}
+use Rattle.format.specs.ParseLaws.{parse-adds, Keeps, parse-keeps}
 use Rattle.format.specs.Read.{nothingAdded, keep, keepBy, readFormat, addBoth, lastOf}
 use Rattle.format.specs.declared.Part.{Part}
 use Rattle.format.specs.declared.Fill.{Fill}
 use Rattle.format.specs.declared.Fill.the-variants.{Is, NoFill}
-use Rattle.format.specs.declared.Added.{Added}
+use Rattle.format.specs.declared.Strings.{Strings}
 use Rattle.format.specs.declared.FormatRead.{FormatRead}
 
 module _ (s : List ℕ) where
@@ -59,51 +59,45 @@ module _ (s : List ℕ) where
   IsZero NoFill = Unit {0}
 
   module _ {P : Type 0} (add : P → List ℕ → P) where
-    -- the string of a part added
-    abbrev pub addPart : P → Part → P
-    addPart pool part = add pool (stringOf s part)
+    abbrev put : P → Part → P
+    put = addPart s add
 
     module _ (again : (pool : P) (x : List ℕ) → add (add pool x) x ≡ add pool x) where
       -- a zero after a zero adds nothing
-      zero-again : (pool : P) (x : Fill) (part : Part) → IsZero x → stringOf s part ≡ zeroDigit ∷ [] → addPart (addFill addPart pool x) part ≡ addPart pool part
+      zero-again : (pool : P) (x : Fill) (part : Part) → IsZero x → stringOf s part ≡ zeroDigit ∷ [] → put (addFill put pool x) part ≡ put pool part
       zero-again pool (Is z) part v e = rw (v, e) (again pool (zeroDigit ∷ []))
       zero-again pool NoFill part v e = refl
 
       -- zeros after a first string and perhaps a zero
       zeros-last : (pool : P) (first : Part) (x : Fill) (parts : List Part) → IsZero x → Zeros parts
-          → addAll addPart (addFill addPart (addPart pool first) x) parts ≡ addBoth addPart pool (addAll keep (record { first = Is first; second = x }) parts)
+          → addAll put (addFill put (put pool first) x) parts ≡ addBoth put pool (addAll keep (record { first = Is first; second = x }) parts)
       zeros-last pool first x [] v z = refl
       zeros-last pool first x (part ∷ parts) v z =
-          ap (λ (y : P). addAll addPart y parts) (zero-again (addPart pool first) x part v (z .0)) ∙ zeros-last pool first (Is part) parts (z .0) (z .1)
+          ap (λ (y : P). addAll put y parts) (zero-again (put pool first) x part v (z .0)) ∙ zeros-last pool first (Is part) parts (z .0) (z .1)
 
-      same-pool : (pool : P) (parts : List Part) → Tail parts → addAll addPart pool parts ≡ addBoth addPart pool (addAll keep nothingAdded parts)
+      same-pool : (pool : P) (parts : List Part) → Tail parts → addAll put pool parts ≡ addBoth put pool (addAll keep nothingAdded parts)
       same-pool pool [] z = refl
       same-pool pool (part ∷ parts) z = zeros-last pool part NoFill parts tt z
 
       module _ (edition : ℕ) (look : ℕ → ℕ) where
         -- the reading, and then both strings added
-        abbrev pub staged : P → FormatRead → Parsed P
-        staged pool r = record { options = r .options; outcome = r .outcome; pool = addBoth addPart pool (r .added) }
+        abbrev pub staged : P → FormatRead → OnePass P
+        staged pool r = record { options = r .options; outcome = r .outcome; pool = addBoth put pool (r .added) }
 
-        pub parse-two-stages : (pool : P) → WellFormed s → parseWith addPart edition look pool (chars s) ≡ staged pool (readFormat edition look (chars s))
+        pub parse-two-stages : (pool : P) → WellFormed s → parseWith put edition look pool (chars s) ≡ staged pool (readFormat edition look (chars s))
         unfolding readFormat
         parse-two-stages pool w =
             let r = parse edition look (chars s) in
             let i = parse-keeps s append Listed listed edition look [] w (record { none = λ _. refl; tail = tt }) .1 in
-            rw (parse-adds addPart edition look pool (chars s), parse-adds keep edition look nothingAdded (chars s), same-pool pool (r .pool) (i .tail))
+            rw (parse-adds put edition look pool (chars s), parse-adds keep edition look nothingAdded (chars s), same-pool pool (r .pool) (i .tail))
 
   -- ---- the parts
 
-  -- a string, if there is one, is a part of s
-  abbrev pub FillIn : Fill → Type 0
-  FillIn (Is part) = PartIn s part
-  FillIn NoFill = Unit {0}
+  pub record AddedIn (a : Strings) : Type 0 where
+    pub first : FillIn s (a .first)
+    pub second : FillIn s (a .second)
 
-  pub record AddedIn (a : Added) : Type 0 where
-    pub first : FillIn (a .first)
-    pub second : FillIn (a .second)
-
-  keep-in : (a : Added) (part : Part) (x : Fill) → a .first ≡ x → AddedIn a → PartIn s part → AddedIn (keepBy x a part)
+  keep-in : (a : Strings) (part : Part) (x : Fill) → a .first ≡ x → AddedIn a → PartIn s part → AddedIn (keepBy x a part)
   keep-in a part (Is p) e i v = record { first = i .first; second = v }
   keep-in a part NoFill e i v = record { first = v; second = tt }
 
@@ -116,7 +110,7 @@ module _ (s : List ℕ) where
       }
 
   -- the fill is the last string
-  last-kept : (a : Added) (part : Part) (x : Fill) → Is part ≡ lastOf (keepBy x a part)
+  last-kept : (a : Strings) (part : Part) (x : Fill) → Is part ≡ lastOf (keepBy x a part)
   last-kept a part (Is p) = refl
   last-kept a part NoFill = refl
 

@@ -116,7 +116,7 @@ pub enum Shown {
 }
 
 // A width or a precision, or none.
-pub enum Given {
+pub enum OptionalNumber {
     Number(u32),
     Nothing,
 }
@@ -136,8 +136,8 @@ pub enum Fill {
 // `StringFormatOptions`. The fill "0" is the part that is its zero.
 pub struct Options {
     pub alignment: Alignment,
-    pub width: Given,
-    pub precision: Given,
+    pub width: OptionalNumber,
+    pub precision: OptionalNumber,
     pub representation: Shown,
     pub fill: Fill,
 }
@@ -151,7 +151,7 @@ pub enum Outcome {
 }
 
 // The strings to add, one after the other. What is added after the first is "0", so the last zero stands for all of them.
-pub struct Added {
+pub struct Strings {
     pub first: Fill,
     pub second: Fill,
 }
@@ -160,7 +160,7 @@ pub struct Added {
 pub struct FormatRead {
     pub options: Options,
     pub outcome: Outcome,
-    pub added: Added,
+    pub added: Strings,
 }
 
 // The locals of `parse`, where the next character stands, and the outcome, which is fine until an arm fails.
@@ -171,18 +171,18 @@ struct Parsing {
     position: u32,
     result: Options,
     at: usize,
-    added: Added,
+    added: Strings,
     outcome: Outcome,
 }
 
 // What `consume_u32` answers: the number, and how many digits it took after the first one.
-enum Consumed {
+pub enum Consumed {
     Value { n: u32, digits: usize },
     Wrong(Outcome),
 }
 
 // The arms of `parse`, in its order; the seven of the representations are one.
-enum Arm {
+pub enum Arm {
     FillSign,
     Align,
     ZeroFill,
@@ -200,8 +200,8 @@ impl Options {
     {
         Options {
             alignment: Alignment::Default,
-            width: Given::Nothing,
-            precision: Given::Nothing,
+            width: OptionalNumber::Nothing,
+            precision: OptionalNumber::Nothing,
             representation: Shown::Plain,
             fill: Fill::NoFill,
         }
@@ -232,7 +232,7 @@ impl Options {
         let fill = self.fill;
         Options {
             alignment,
-            width: Given::Number(width),
+            width: OptionalNumber::Number(width),
             precision,
             representation,
             fill,
@@ -249,7 +249,7 @@ impl Options {
         Options {
             alignment,
             width,
-            precision: Given::Number(precision),
+            precision: OptionalNumber::Number(precision),
             representation,
             fill,
         }
@@ -302,27 +302,27 @@ impl Outcome {
     }
 }
 
-impl Added {
-    fn new() -> Added
+impl Strings {
+    fn new() -> Strings
         ensures { λ r. ⌜ r ≡ nothingAdded ⌝ }
     {
-        Added {
+        Strings {
             first: Fill::NoFill,
             second: Fill::NoFill,
         }
     }
 
     // One more string.
-    fn keep(self, part: Part) -> Added
+    fn keep(self, part: Part) -> Strings
         ensures { λ r. ⌜ r ≡ keep self part ⌝ }
     {
         let first = self.first;
         match first {
-            Fill::Is(_) => Added {
+            Fill::Is(_) => Strings {
                 first,
                 second: Fill::Is(part),
             },
-            Fill::NoFill => Added {
+            Fill::NoFill => Strings {
                 first: Fill::Is(part),
                 second: Fill::NoFill,
             },
@@ -531,7 +531,7 @@ impl Parsing {
             position: START,
             result: Options::new(),
             at: 0,
-            added: Added::new(),
+            added: Strings::new(),
             outcome: Outcome::Fine,
         }
     }

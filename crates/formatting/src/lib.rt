@@ -3,7 +3,7 @@
 // program for one does.
 ghost use mathlib.Core.Path.{_≡_};
 use format::Fill;
-use format::Given;
+use format::OptionalNumber;
 use format::Options;
 use format::Shown;
 use libc::STDOUT_FILENO;
@@ -26,10 +26,10 @@ fn print_none() {
     io::write_all(STDOUT_FILENO, b" -");
 }
 
-fn print_given(given: Given) {
+fn print_given(given: OptionalNumber) {
     match given {
-        Given::Number(n) => print_number(n as u64),
-        Given::Nothing => print_none(),
+        OptionalNumber::Number(n) => print_number(n as u64),
+        OptionalNumber::Nothing => print_none(),
     }
 }
 
@@ -56,7 +56,7 @@ fn print_fill(fill: Fill) {
 }
 
 // Alignment, width, precision, representation, the fill's place, length and index.
-fn print_options(options: Options, index: Given) {
+fn print_options(options: Options, index: OptionalNumber) {
     let alignment = options.alignment;
     let width = options.width;
     let precision = options.precision;

@@ -21,8 +21,8 @@ use Rattle.pool.specs.declared.Added.{Added}
 use Rattle.pool.specs.declared.Added.the-variants as pool
 use Rattle.format.specs.Parse as form
 use Rattle.format.specs.Parse.{parseWith, stringOf}
-use Rattle.format.specs.declared.Given.{Given}
-use Rattle.format.specs.declared.Given.the-variants.{Number, Nothing}
+use Rattle.format.specs.declared.OptionalNumber.{OptionalNumber}
+use Rattle.format.specs.declared.OptionalNumber.the-variants.{Number, Nothing}
 use Rattle.format.specs.declared.Options.{Options}
 use Rattle.format.specs.declared.Outcome.{Outcome}
 use Rattle.format.specs.declared.Outcome.the-variants as outcome
@@ -38,7 +38,7 @@ pub record Pool : Type 0 where
   pub bytes : List ℕ
   pub entries : List ℕ
   pub counts : Counts
-  pub index : Given
+  pub index : OptionalNumber
   pub full : Bool
 
 abbrev pub pooled : List ℕ → List ℕ → Adding → Pool
@@ -75,21 +75,21 @@ lent bytes entries counts = record { bytes = bytes; entries = entries; counts = 
 
 -- ---- the answer
 
-abbrev pub onOutcome : Outcome → Options → Given → Parsed
+abbrev pub onOutcome : Outcome → Options → OptionalNumber → Parsed
 onOutcome outcome.Fine options index = Read options index
 onOutcome (outcome.ExpectedNumber c) options index = ExpectedNumber c
 onOutcome (outcome.TooLarge n) options index = FormatNumberIsTooLarge n
 onOutcome (outcome.UnexpectedToken c) options index = UnexpectedToken c
 
 -- an addition without room came before every error that is found later
-abbrev pub answerOf : Options → Outcome → Given → Bool → Parsed
+abbrev pub answerOf : Options → Outcome → OptionalNumber → Bool → Parsed
 answerOf options outcome index full = pick full PoolFull (onOutcome outcome options index)
 
 -- the parse of a format string, in one pass
-unfoldable pub parsed : List ℕ → List ℕ → Pool → form.Parsed Pool
+unfoldable pub parsed : List ℕ → List ℕ → Pool → form.OnePass Pool
 parsed format table p = parseWith (λ q part. addTo q (stringOf format part)) baseEdition (propertiesAt table) p (chars format)
 
-abbrev pub answer : form.Parsed Pool → Parsed
+abbrev pub answer : form.OnePass Pool → Parsed
 answer r = answerOf (r .options) (r .outcome) (r .pool .index) (r .pool .full)
 
 -- ---- the call

@@ -30,9 +30,10 @@ use Rattle.pool_rows.specs.declared.Counts.{Counts}
 use Rattle.pool.specs.declared.Added.{Added}
 use Rattle.pool.specs.declared.Added.the-variants as pool
 use Rattle.format.specs.Read.{addBoth}
-use Rattle.format.specs.ReadLaws.{addPart, parse-two-stages}
-use Rattle.format.specs.declared.Given.{Given}
-use Rattle.format.specs.declared.Given.the-variants.{Number}
+use Rattle.format.specs.Parse.{addPart}
+use Rattle.format.specs.ReadLaws.{parse-two-stages}
+use Rattle.format.specs.declared.OptionalNumber.{OptionalNumber}
+use Rattle.format.specs.declared.OptionalNumber.the-variants.{Number}
 use Rattle.parse.specs.Call.{Pool, pooled, addingAfter, onAdded, addTo, lent, answer, parsed, refusedAs, Comes, comes, call, Parses}
 use Rattle.parse.specs.Plan.{readOf}
 use Rattle.parse.specs.declared.Adding.{Adding}
@@ -43,7 +44,7 @@ use Rattle.parse.specs.declared.Parsed.the-variants.{BadState}
 -- ---- one addition
 
 -- a pool by its parts
-abbrev made : List ℕ → List ℕ → Counts → Given → Bool → Pool
+abbrev made : List ℕ → List ℕ → Counts → OptionalNumber → Bool → Pool
 made bytes entries counts index full = record { bytes = bytes; entries = entries; counts = counts; index = index; full = full }
 
 module _ (p : Pool) (x : List ℕ) where

@@ -3,8 +3,8 @@
 use Prim.Native.Nat.{ℕ}
 use mathlib.Core.List.{List, [], _∷_}
 use Rattle.format.specs.Options.{alignmentNumber, representationNumber}
-use Rattle.format.specs.declared.Given.{Given}
-use Rattle.format.specs.declared.Given.the-variants.{Number, Nothing}
+use Rattle.format.specs.declared.OptionalNumber.{OptionalNumber}
+use Rattle.format.specs.declared.OptionalNumber.the-variants.{Number, Nothing}
 use Rattle.format.specs.declared.Shown.{Shown}
 use Rattle.format.specs.declared.Shown.the-variants.{As, Plain}
 use Rattle.format.specs.declared.Fill.{Fill}
@@ -19,7 +19,7 @@ abbrev pub noNumber : ℕ
 noNumber = 18446744073709551615
 
 -- a width, a precision or an index
-abbrev pub givenNumber : Given → ℕ
+abbrev pub givenNumber : OptionalNumber → ℕ
 givenNumber (Number n) = n
 givenNumber Nothing = noNumber
 
@@ -36,7 +36,7 @@ fillLen (Is part) = part .len
 fillLen NoFill = noNumber
 
 -- the seven numbers, in the order of the C struct
-abbrev pub optionsNumbers : Options → Given → List ℕ
+abbrev pub optionsNumbers : Options → OptionalNumber → List ℕ
 optionsNumbers o index =
     alignmentNumber (o .alignment) ∷ givenNumber (o .width) ∷ givenNumber (o .precision) ∷ shownNumber (o .representation)
     ∷ fillPlace (o .fill) ∷ fillLen (o .fill) ∷ givenNumber index ∷ []

@@ -15,10 +15,10 @@ use Rattle.input.specs.Input.{baseEdition}
 use Rattle.pool_rows.specs.Rows.{fitPool}
 use Rattle.pool_rows.specs.declared.Counts.{Counts}
 use Rattle.format.specs.Parse.{addFill, stringOf}
-use Rattle.format.specs.ParseLaws.{PartIn}
+use Rattle.format.specs.Parse.{PartIn}
 use Rattle.format.specs.Read.{readFormat}
-use Rattle.format.specs.ReadLaws.{addPart}
-use Rattle.format.specs.declared.Given.the-variants.{Nothing}
+use Rattle.format.specs.Parse.{addPart}
+use Rattle.format.specs.declared.OptionalNumber.the-variants.{Nothing}
 use Rattle.format.specs.declared.Fill.{Fill}
 use Rattle.format.specs.declared.Fill.the-variants.{Is, NoFill}
 use Rattle.format.specs.declared.FormatRead.{FormatRead}

@@ -31,9 +31,10 @@ use Rattle.pool_rows.specs.declared.Counts.{Counts}
 use Rattle.pool.specs.declared.Added.{Added}
 use Rattle.format.specs.Parse as form
 use Rattle.format.specs.Parse.{addFill}
-use Rattle.format.specs.ParseLaws.{PartIn}
+use Rattle.format.specs.Parse.{PartIn}
 use Rattle.format.specs.Read.{addBoth}
-use Rattle.format.specs.ReadLaws.{addPart, FillIn, AddedIn, added-in}
+use Rattle.format.specs.Parse.{addPart, FillIn}
+use Rattle.format.specs.ReadLaws.{AddedIn, added-in}
 use Rattle.format.specs.declared.Part.{Part}
 use Rattle.format.specs.declared.Fill.{Fill}
 use Rattle.format.specs.declared.Fill.the-variants.{Is, NoFill}
@@ -195,7 +196,7 @@ module _ (format table bytes entries : List ℕ) (counts : Counts) where
         ∙ ap (λ (p : Pool). record { options = r .options; outcome = r .outcome; pool = p }) (sym v) in
         parses-by
         {x = comes (endBy (Read r) two .answer) (pooled newBytes newEntries two)}
-        (called format table bytes entries counts (s .checked) (s .is-fit) ∙ ap (λ (y : form.Parsed Pool). comes (answer y) (y .pool)) whole) refl refl refl refl
+        (called format table bytes entries counts (s .checked) (s .is-fit) ∙ ap (λ (y : form.OnePass Pool). comes (answer y) (y .pool)) whole) refl refl refl refl
 
     pub parses-planned : {b : Bool} {q : FormatInput} {plan : Plan} {r : After} → b ≡ fit → q ≡ inputOf format table b → plan ≡ planOf q counts
         → pooled newBytes newEntries two ≡ addPlan format plan bytes entries → r ≡ endBy q two

@@ -8,12 +8,12 @@ pub mod numbers;
 
 ghost use mathlib.Core.Path.{_≡_};
 ghost use Rattle.format.specs.Parse.{addFill};
-ghost use Rattle.format.specs.ReadLaws.{addPart, FillIn};
+ghost use Rattle.format.specs.Parse.{addPart, FillIn};
 ghost use Rattle.parse.specs.Call.{pooled, addingAfter, addTo, refusedAs, answerOf, Parses};
 ghost use Rattle.parse.specs.Plan.{inputOf, planWith, planOf, CanAdd, isAdding, fillString, CanPlan, addPlan, endBy};
 use format::Fill;
 use format::FormatRead;
-use format::Given;
+use format::OptionalNumber;
 use format::Options;
 use format::Outcome;
 use format::read_format;
@@ -27,7 +27,10 @@ use pool_rows::Counts;
 // What a parse answers (document 01, "Refusal numbers").
 pub enum Parsed {
     // The options, and the fill's index in the pool, if there is a fill.
-    Read { options: Options, index: Given },
+    Read {
+        options: Options,
+        index: OptionalNumber,
+    },
     // Refusal 1: the format string is over 65,535 bytes.
     TooLong,
     // Refusal 2: the table is unfit, with its place.
@@ -55,7 +58,7 @@ pub struct After {
 // What has been added so far: the pool's counts, the index that the last addition answered, and whether one found no room.
 pub struct Adding {
     pub counts: Counts,
-    pub index: Given,
+    pub index: OptionalNumber,
     pub full: bool,
 }
 
@@ -105,7 +108,7 @@ fn plan_with(first: Fill, second: Fill, counts: Counts) -> Plan
 {
     let none = Adding {
         counts,
-        index: Given::Nothing,
+        index: OptionalNumber::Nothing,
         full: false,
     };
     Plan {
@@ -164,7 +167,7 @@ pub fn after_added(adding: Adding, added: Added) -> Adding
     match added {
         Added::Index { index, counts } => Adding {
             counts,
-            index: Given::Number(index),
+            index: OptionalNumber::Number(index),
             full: false,
         },
         Added::PoolFull => Adding {
@@ -210,7 +213,7 @@ fn add_both(format: &[u8], plan: Plan, bytes: &mut [u8], entries: &mut [u32]) ->
 }
 
 // The answer, from how the reading ended and what was added.
-pub fn answer_of(options: Options, outcome: Outcome, index: Given, full: bool) -> Parsed
+pub fn answer_of(options: Options, outcome: Outcome, index: OptionalNumber, full: bool) -> Parsed
     ensures { λ r. ⌜ r ≡ answerOf options outcome index full ⌝ }
 {
     if full {

@@ -3,7 +3,7 @@ ghost use mathlib.Core.Path.{_≡_};
 ghost use Rattle.parse.specs.Numbers.{givenNumber, shownNumber, fillPlace, fillLen, optionsNumbers, noNumbers, numbersOf};
 use crate::Parsed;
 use format::Fill;
-use format::Given;
+use format::OptionalNumber;
 use format::Options;
 use format::Shown;
 
@@ -19,12 +19,12 @@ fn shown_number(shown: Shown) -> u64
     }
 }
 
-fn given_number(given: Given) -> u64
+fn given_number(given: OptionalNumber) -> u64
     ensures { λ r. ⌜ r ≡ givenNumber given ⌝ }
 {
     match given {
-        Given::Number(n) => n as u64,
-        Given::Nothing => NONE,
+        OptionalNumber::Number(n) => n as u64,
+        OptionalNumber::Nothing => NONE,
     }
 }
 
@@ -47,7 +47,7 @@ fn fill_len(fill: Fill) -> u64
 }
 
 // The seven numbers of options and of their fill's index.
-fn options_numbers(options: Options, index: Given) -> [u64; 7]
+fn options_numbers(options: Options, index: OptionalNumber) -> [u64; 7]
     ensures { λ r. ⌜ r ≡ optionsNumbers options index ⌝ }
 {
     let alignment = options.alignment;

@@ -13,7 +13,7 @@ use Rattle.pool.specs.declared.Added.{Added}
 use Rattle.pool_lent.specs.EntriesLaws.{same-numbers}
 use Rattle.pool_lent.specs.declared.Entry.{Entry}
 use Rattle.format.specs.Parse.{addFill}
-use Rattle.format.specs.ReadLaws.{addPart}
+use Rattle.format.specs.Parse.{addPart}
 use Rattle.format.specs.declared.Fill.{Fill}
 use Rattle.format.specs.declared.Fill.the-variants.{Is, NoFill}
 use Rattle.parse.specs.Call.{pooled, addingAfter, addTo}

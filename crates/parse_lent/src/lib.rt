@@ -3,7 +3,7 @@
 // everything; the functions over `&mut [Entry]` and `&mut Counts` only read, call and store.
 ghost use mathlib.Core.Path.{_≡_};
 ghost use Rattle.format.specs.Parse.{addFill};
-ghost use Rattle.format.specs.ReadLaws.{addPart};
+ghost use Rattle.format.specs.Parse.{addPart};
 ghost use Rattle.pool_rows.specs.Rows.{fitPool};
 ghost use Rattle.pool_lent.specs.Entries.{numbersOf};
 ghost use Rattle.parse.specs.Call.{pooled, addTo, Parses};

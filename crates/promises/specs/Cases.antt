@@ -12,8 +12,8 @@ use Rattle.words.specs.Words.{bytes}
 use Rattle.pool_rows.specs.Rows.{stringsOf}
 use Rattle.format.specs.declared.Alignment.the-variants.{Default}
 use Rattle.format.specs.declared.Shown.the-variants.{Plain}
-use Rattle.format.specs.declared.Given.{Given}
-use Rattle.format.specs.declared.Given.the-variants.{Number, Nothing}
+use Rattle.format.specs.declared.OptionalNumber.{OptionalNumber}
+use Rattle.format.specs.declared.OptionalNumber.the-variants.{Number, Nothing}
 use Rattle.format.specs.declared.Fill.{Fill}
 use Rattle.format.specs.declared.Fill.the-variants.{Is, NoFill}
 use Rattle.parse.specs.Call as parse
@@ -79,7 +79,7 @@ abbrev parses : List ℕ → Parsed → List (List ℕ) → Case
 parses text answer strings = record { call = format text; gives = options answer strings }
 
 -- options with default alignment, no precision and no representation: a width, a fill and its index
-abbrev plain : Given → Fill → Given → Parsed
+abbrev plain : OptionalNumber → Fill → OptionalNumber → Parsed
 plain width fill index =
     Read (record { alignment = Default; width = width; precision = Nothing; representation = Plain; fill = fill }) index
 

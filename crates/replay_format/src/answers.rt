@@ -2,7 +2,7 @@
 // the width, the precision, the representation and the fill's index are 0 for none, else one more than their number; FILL is 0 for none, else 1
 // and the fill's place and length (tools/README.md).
 use format::Fill;
-use format::Given;
+use format::OptionalNumber;
 use format::Options;
 use format::Shown;
 use lines::same;
@@ -11,10 +11,10 @@ use parse::answer;
 ghost use mathlib.Core.Path.{_≡_};
 
 // 0 for none, else one more than the number.
-fn given_number(given: Given) -> usize {
+fn given_number(given: OptionalNumber) -> usize {
     match given {
-        Given::Number(n) => 1 + n as usize,
-        Given::Nothing => 0,
+        OptionalNumber::Number(n) => 1 + n as usize,
+        OptionalNumber::Nothing => 0,
     }
 }
 
@@ -39,7 +39,7 @@ fn same_fill(text: &[u8], at: usize, fill: Fill) -> usize {
 }
 
 // The same of options with the fill's index.
-fn same_options(text: &[u8], at: usize, options: Options, index: Given) -> usize {
+fn same_options(text: &[u8], at: usize, options: Options, index: OptionalNumber) -> usize {
     let alignment = options.alignment;
     let width = options.width;
     let precision = options.precision;

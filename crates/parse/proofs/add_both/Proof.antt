@@ -2,7 +2,7 @@
 use mathlib.Core.Path.{_≡_, sym, ap, subst, _∙_}
 use denote.Ref.{now}
 use Rattle.format.specs.Parse.{addFill}
-use Rattle.format.specs.ReadLaws.{addPart}
+use Rattle.format.specs.Parse.{addPart}
 use Rattle.parse.specs.Call.{Pool, pooled, addTo}
 use Rattle.parse.specs.Plan.{CanAdd}
 use Rattle.parse.specs.PlanLaws.{can-second}

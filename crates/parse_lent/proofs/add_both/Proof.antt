@@ -19,7 +19,7 @@ use Rattle.pool_lent.specs.declared.Entry.{Entry}
 use Rattle.pool_lent.proofs.Entry as E
 use Rattle.parse_lent.proofs.Again.{LentAgain, lends-again, comes-back}
 use Rattle.format.specs.Parse.{addFill}
-use Rattle.format.specs.ReadLaws.{addPart}
+use Rattle.format.specs.Parse.{addPart}
 use Rattle.format.specs.declared.Fill.{Fill}
 use Rattle.format.proofs.Fill as Fill
 use Rattle.parse.specs.Call.{Pool, pooled, addTo}

@@ -30,7 +30,7 @@ use Rattle.pool_lent.proofs.Entry as E
 use Rattle.pool_lent.proofs.Shared.{at-end}
 use Rattle.pool_lent.proofs.Turns.{is-true, is-false}
 use Rattle.format.specs.Parse.{addFill}
-use Rattle.format.specs.ReadLaws.{addPart}
+use Rattle.format.specs.Parse.{addPart}
 use Rattle.format.specs.declared.Fill.{Fill}
 use Rattle.format.proofs.Fill as Fill
 use Rattle.parse.specs.Call.{pooled, addingAfter, addTo}

@@ -1,15 +1,15 @@
--- `format::Added::keep` meets its contract: whether there is a first string decides. Assumes nothing.
+-- `format::Strings::keep` meets its contract: whether there is a first string decides. Assumes nothing.
 use borrow.Author.Needs.{needs}
 use mathlib.Core.Path.{sym, ap}
 use Rattle.format.specs.Read.{keepBy}
-use Rattle.format.specs.declared.Added.{Added}
+use Rattle.format.specs.declared.Strings.{Strings}
 use Rattle.format.specs.declared.Part.{Part}
 use Rattle.format.specs.declared.Fill.{Fill}
-use Rattle.format.proofs.Added.keep.Statement.{statement}
-use Rattle.format.proofs.Added.keep.Tie as tie
+use Rattle.format.proofs.Strings.keep.Statement.{statement}
+use Rattle.format.proofs.Strings.keep.Tie as tie
 
 -- what is kept, by the first string
-abbrev by : Added → Part → Fill → Added
+abbrev by : Strings → Part → Fill → Strings
 by a part first = keepBy first a part
 
 enum-told : tie.Need-enum-told
