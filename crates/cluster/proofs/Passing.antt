@@ -27,19 +27,19 @@ bytes-on : (i c n m : ℕ) (cs : List ℕ) → length (encode c) ≡ n
 unfolding encodeAll
 bytes-on i c n m cs e = omega (arith, e, length-append (encode c) (encodeAll (take m cs)))
 
-module _ (edition : ℕ) (look : ℕ → ℕ) (s : List ℕ) where
+module _ (look : ℕ → ℕ) (edition : ℕ) (s : List ℕ) where
   -- the definition's answer from the place i on, with past left of it
   abbrev from : List ℕ → ℕ → ℕ
-  from past i = i + length (encodeAll (take (goOn edition look past (chars (drop i s))) (chars (drop i s))))
+  from past i = i + length (encodeAll (take (goOn look edition past (chars (drop i s))) (chars (drop i s))))
 
   module _ (i c n : ℕ) (a : At s i c n) where
-    begin : firstEnd edition look i (chars (drop i s)) ≡ from (look c ∷ []) (i + n)
-    begin = rw (a .step) (bytes-on i c n (goOn edition look (look c ∷ []) (chars (drop (i + n) s))) (chars (drop (i + n) s)) (a .width))
+    begin : firstEnd look edition i (chars (drop i s)) ≡ from (look c ∷ []) (i + n)
+    begin = rw (a .step) (bytes-on i c n (goOn look edition (look c ∷ []) (chars (drop (i + n) s))) (chars (drop (i + n) s)) (a .width))
 
     go-on : (past : List ℕ) → joined edition past (look c) ≡ true → from past i ≡ from (look c ∷ past) (i + n)
     unfolding goOn
     go-on past t =
-        rw (a .step, t) (bytes-on i c n (goOn edition look (look c ∷ past) (chars (drop (i + n) s))) (chars (drop (i + n) s)) (a .width))
+        rw (a .step, t) (bytes-on i c n (goOn look edition (look c ∷ past) (chars (drop (i + n) s))) (chars (drop (i + n) s)) (a .width))
 
     stop : (past : List ℕ) → joined edition past (look c) ≡ false → from past i ≡ i
     unfolding goOn encodeAll
@@ -49,7 +49,7 @@ module _ (edition : ℕ) (look : ℕ → ℕ) (s : List ℕ) where
   unfolding goOn encodeAll
   ended past i h = rw (chars-end s i h) (omega arith)
 
-  pub nothing : (i : ℕ) → length s ≤ i → firstEnd edition look i (chars (drop i s)) ≡ i
+  pub nothing : (i : ℕ) → length s ≤ i → firstEnd look edition i (chars (drop i s)) ≡ i
   unfolding encodeAll
   nothing i h = rw (chars-end s i h) (omega arith)
 
@@ -58,7 +58,7 @@ module _ (edition : ℕ) (look : ℕ → ℕ) (s : List ℕ) where
     pub past : List ℕ
     pub state : left ≡ leftOf past
     pub well : WellFormed (drop i s)
-    pub answer : from past i ≡ firstEnd edition look at (chars (drop at s))
+    pub answer : from past i ≡ firstEnd look edition at (chars (drop at s))
 
   -- the first character has been passed
   pub first : (at c n : ℕ) → WellFormed (drop at s) → readAt s at ≡ Char c n → Past at (passed (leftOf []) (look c)) (at + n)
@@ -71,14 +71,14 @@ module _ (edition : ℕ) (look : ℕ → ℕ) (s : List ℕ) where
       }
 
   module _ (at : ℕ) (left : Left) (i : ℕ) (v : Past at left i) where
-    pub at-end : length s ≤ i → i ≡ firstEnd edition look at (chars (drop at s))
+    pub at-end : length s ≤ i → i ≡ firstEnd look edition at (chars (drop at s))
     at-end h = sym (ended (v .past) i h) ∙ v .answer
 
     module _ (c n : ℕ) (e : readAt s i ≡ Char c n) where
       by-past : joined edition (v .past) (look c) ≡ joinedBy edition left (look c)
       by-past = sym (by-state edition (v .past) (look c)) ∙ ap (λ (l : Left). joinedBy edition l (look c)) (sym (v .state))
 
-      pub at-break : joinedBy edition left (look c) ≡ false → i ≡ firstEnd edition look at (chars (drop at s))
+      pub at-break : joinedBy edition left (look c) ≡ false → i ≡ firstEnd look edition at (chars (drop at s))
       at-break t = sym (stop i c n (at-char s i c n e) (v .past) (by-past ∙ t)) ∙ v .answer
 
       pub one-more : joinedBy edition left (look c) ≡ true → Past at (passed left (look c)) (i + n)

@@ -31,81 +31,81 @@ some =
 -- ---- table 1a
 
 -- g and a diaeresis
-umlaut : firstEnd 2 (propertiesAt smallTable) 0 (0x67 ∷ 0x308 ∷ 0x67 ∷ []) ≡ 3
+umlaut : firstEnd (propertiesAt smallTable) 2 0 (0x67 ∷ 0x308 ∷ 0x67 ∷ []) ≡ 3
 unfolding computes
 umlaut = refl
 
 -- ko kai, sara am
-thai : firstEnd 2 (propertiesAt some) 0 (0xe01 ∷ 0xe33 ∷ 0xe01 ∷ []) ≡ 6
+thai : firstEnd (propertiesAt some) 2 0 (0xe01 ∷ 0xe33 ∷ 0xe01 ∷ []) ≡ 6
 unfolding computes some
 thai = refl
 
 -- ssa, vowel sign i
-devanagari : firstEnd 2 (propertiesAt some) 0 (0x937 ∷ 0x93f ∷ 0x937 ∷ []) ≡ 6
+devanagari : firstEnd (propertiesAt some) 2 0 (0x937 ∷ 0x93f ∷ 0x937 ∷ []) ≡ 6
 unfolding computes some
 devanagari = refl
 
 -- ka, virama, ssa, vowel sign i: one cluster in edition 2, two in edition 1
-conjunct : firstEnd 2 (propertiesAt some) 0 (0x915 ∷ 0x94d ∷ 0x937 ∷ 0x93f ∷ []) ≡ 12
+conjunct : firstEnd (propertiesAt some) 2 0 (0x915 ∷ 0x94d ∷ 0x937 ∷ 0x93f ∷ []) ≡ 12
 unfolding computes some
 conjunct = refl
 
-no-conjunct : firstEnd 1 (propertiesAt some) 0 (0x915 ∷ 0x94d ∷ 0x937 ∷ 0x93f ∷ []) ≡ 6
+no-conjunct : firstEnd (propertiesAt some) 1 0 (0x915 ∷ 0x94d ∷ 0x937 ∷ 0x93f ∷ []) ≡ 6
 unfolding computes some
 no-conjunct = refl
 
 -- ---- newlines
 
 -- CR LF
-newline : firstEnd 2 (propertiesAt smallTable) 0 (0xd ∷ 0xa ∷ 0xa ∷ []) ≡ 2
+newline : firstEnd (propertiesAt smallTable) 2 0 (0xd ∷ 0xa ∷ 0xa ∷ []) ≡ 2
 unfolding computes
 newline = refl
 
 -- a combining mark does not join a newline
-mark-after-newline : firstEnd 2 (propertiesAt smallTable) 0 (0xa ∷ 0x301 ∷ []) ≡ 1
+mark-after-newline : firstEnd (propertiesAt smallTable) 2 0 (0xa ∷ 0x301 ∷ []) ≡ 1
 unfolding computes
 mark-after-newline = refl
 
 -- ---- Hangul, Prepend
 
 -- L V T, then L
-hangul : firstEnd 2 (propertiesAt some) 0 (0x1100 ∷ 0x1161 ∷ 0x11a8 ∷ 0x1100 ∷ []) ≡ 9
+hangul : firstEnd (propertiesAt some) 2 0 (0x1100 ∷ 0x1161 ∷ 0x11a8 ∷ 0x1100 ∷ []) ≡ 9
 unfolding computes some
 hangul = refl
 
 -- LV T, then V
-syllable : firstEnd 2 (propertiesAt some) 0 (0xac00 ∷ 0x11a8 ∷ 0x1161 ∷ []) ≡ 6
+syllable : firstEnd (propertiesAt some) 2 0 (0xac00 ∷ 0x11a8 ∷ 0x1161 ∷ []) ≡ 6
 unfolding computes some
 syllable = refl
 
 -- a number sign and what it stands before
-number-sign : firstEnd 2 (propertiesAt some) 0 (0x600 ∷ 0x31 ∷ 0x32 ∷ []) ≡ 3
+number-sign : firstEnd (propertiesAt some) 2 0 (0x600 ∷ 0x31 ∷ 0x32 ∷ []) ≡ 3
 unfolding computes some
 number-sign = refl
 
 -- ---- pictographs and flags
 
 -- a man, ZWJ, a heart with its variation selector, ZWJ, a man
-couple : firstEnd 2 (propertiesAt some) 0 (0x1f468 ∷ 0x200d ∷ 0x2764 ∷ 0xfe0f ∷ 0x200d ∷ 0x1f468 ∷ []) ≡ 20
+couple : firstEnd (propertiesAt some) 2 0 (0x1f468 ∷ 0x200d ∷ 0x2764 ∷ 0xfe0f ∷ 0x200d ∷ 0x1f468 ∷ []) ≡ 20
 unfolding computes some
 couple = refl
 
 -- a letter and ZWJ join no pictograph
-letter-zwj : firstEnd 2 (propertiesAt some) 0 (0x61 ∷ 0x200d ∷ 0x1f468 ∷ []) ≡ 4
+letter-zwj : firstEnd (propertiesAt some) 2 0 (0x61 ∷ 0x200d ∷ 0x1f468 ∷ []) ≡ 4
 unfolding computes some
 letter-zwj = refl
 
 -- three letters of flags: two, and the third begins the next cluster
-flags : firstEnd 2 (propertiesAt some) 0 (0x1f1e6 ∷ 0x1f1e7 ∷ 0x1f1e8 ∷ []) ≡ 8
+flags : firstEnd (propertiesAt some) 2 0 (0x1f1e6 ∷ 0x1f1e7 ∷ 0x1f1e8 ∷ []) ≡ 8
 unfolding computes some
 flags = refl
 
 -- ---- the format rule: a and an acute are followed by a cluster that is exactly "<", but not where "<" has an acute too
 
-sign : secondIs 2 (propertiesAt smallTable) (0x61 ∷ 0x301 ∷ 0x3c ∷ 0x35 ∷ []) 0x3c ≡ true
+sign : secondIs (propertiesAt smallTable) 2 (0x61 ∷ 0x301 ∷ 0x3c ∷ 0x35 ∷ []) 0x3c ≡ true
 unfolding computes
 sign = refl
 
-accented-sign : secondIs 2 (propertiesAt smallTable) (0x61 ∷ 0x301 ∷ 0x3c ∷ 0x301 ∷ []) 0x3c ≡ false
+accented-sign : secondIs (propertiesAt smallTable) 2 (0x61 ∷ 0x301 ∷ 0x3c ∷ 0x301 ∷ []) 0x3c ≡ false
 unfolding computes
 accented-sign = refl

@@ -14,7 +14,7 @@ use Rattle.cluster.specs.declared.Cluster.the-variants.{Length, Refused}
 -- the answer for the bytes of a source and the numbers of a table
 unfoldable pub firstCluster : List ℕ → List ℕ → Cluster
 firstCluster source table =
-    onInput Refused (inputCheck sourceMost source table) (Length (firstEnd baseEdition (propertiesAt table) 0 (chars source)))
+    onInput Refused (inputCheck sourceMost source table) (Length (firstEnd (propertiesAt table) baseEdition 0 (chars source)))
 
 -- ---- document 01's numbers of an answer
 

@@ -28,7 +28,7 @@ unfolding firstCluster
 refused source table e = rw e
 
 pub unrefused : (source table : List ℕ) → Readable sourceMost source table
-    → firstCluster source table ≡ Length (firstEnd baseEdition (propertiesAt table) 0 (chars source))
+    → firstCluster source table ≡ Length (firstEnd (propertiesAt table) baseEdition 0 (chars source))
 unfolding firstCluster
 unrefused source table g = rw (is-fine sourceMost source table g)
 
@@ -39,4 +39,4 @@ no-bytes table e = rw e
 pub same-call : (source t u : List ℕ) → tableCheck t ≡ Fit → tableCheck u ≡ Fit → Agree (propertiesAt t) (propertiesAt u) (chars source)
     → firstCluster source t ≡ firstCluster source u
 unfolding firstCluster inputCheck
-same-call source t u e f a = rw (e, f, same-first baseEdition (propertiesAt t) (propertiesAt u) (chars source) a)
+same-call source t u e f a = rw (e, f, same-first (propertiesAt t) (propertiesAt u) baseEdition (chars source) a)

@@ -20,42 +20,42 @@ before look left (suc k) (c ∷ cs) = before look (look c ∷ left) k cs
 
 -- there is a break after the first k characters of cs, of which there are some: at the end of the text (GB2), or where no rule joins the
 -- next
-abbrev pub breakAfter : ℕ → (ℕ → ℕ) → List ℕ → ℕ → Bool
-breakAfter edition look cs k = pick (ltb k (length cs)) (not (joined edition (before look [] k cs) (look (getD cs k 0)))) true
+abbrev pub breakAfter : (ℕ → ℕ) → ℕ → List ℕ → ℕ → Bool
+breakAfter look edition cs k = pick (ltb k (length cs)) (not (joined edition (before look [] k cs) (look (getD cs k 0)))) true
 
 -- the first cluster of cs is its first n characters
-pub record Shortest (edition : ℕ) (look : ℕ → ℕ) (cs : List ℕ) (n : ℕ) : Type 0 where
+pub record Shortest (look : ℕ → ℕ) (edition : ℕ) (cs : List ℕ) (n : ℕ) : Type 0 where
   pub some : 0 < n
   pub within : n ≤ length cs
-  pub break-after : breakAfter edition look cs n ≡ true
-  pub none-shorter : (k : ℕ) → 0 < k → k < n → breakAfter edition look cs k ≡ false
+  pub break-after : breakAfter look edition cs n ≡ true
+  pub none-shorter : (k : ℕ) → 0 < k → k < n → breakAfter look edition cs k ≡ false
 
 -- how many characters of cs go on with the cluster that left ends in
-unfoldable pub goOn : ℕ → (ℕ → ℕ) → List ℕ → List ℕ → ℕ
-goOn edition look left [] = 0
-goOn edition look left (c ∷ cs) = pick (joined edition left (look c)) (suc (goOn edition look (look c ∷ left) cs)) 0
+unfoldable pub goOn : (ℕ → ℕ) → ℕ → List ℕ → List ℕ → ℕ
+goOn look edition left [] = 0
+goOn look edition left (c ∷ cs) = pick (joined edition left (look c)) (suc (goOn look edition (look c ∷ left) cs)) 0
 
 -- how many characters the cluster has that begins cs, where left stands before it; 0 where there is nothing
-abbrev pub clusterSize : ℕ → (ℕ → ℕ) → List ℕ → List ℕ → ℕ
-clusterSize edition look left [] = 0
-clusterSize edition look left (c ∷ cs) = suc (goOn edition look (look c ∷ left) cs)
+abbrev pub clusterSize : (ℕ → ℕ) → ℕ → List ℕ → List ℕ → ℕ
+clusterSize look edition left [] = 0
+clusterSize look edition left (c ∷ cs) = suc (goOn look edition (look c ∷ left) cs)
 
 -- the first cluster, at the start of the text
-abbrev pub firstSize : ℕ → (ℕ → ℕ) → List ℕ → ℕ
-firstSize edition look cs = clusterSize edition look [] cs
+abbrev pub firstSize : (ℕ → ℕ) → ℕ → List ℕ → ℕ
+firstSize look edition cs = clusterSize look edition [] cs
 
 -- the byte after it, where cs begins at the byte i
-abbrev pub firstEnd : ℕ → (ℕ → ℕ) → ℕ → List ℕ → ℕ
-firstEnd edition look i cs = i + length (encodeAll (take (firstSize edition look cs) cs))
+abbrev pub firstEnd : (ℕ → ℕ) → ℕ → ℕ → List ℕ → ℕ
+firstEnd look edition i cs = i + length (encodeAll (take (firstSize look edition cs) cs))
 
 -- the code points after it
-abbrev pub firstRest : ℕ → (ℕ → ℕ) → List ℕ → List ℕ
-firstRest edition look cs = drop (firstSize edition look cs) cs
+abbrev pub firstRest : (ℕ → ℕ) → ℕ → List ℕ → List ℕ
+firstRest look edition cs = drop (firstSize look edition cs) cs
 
 -- how many characters the second cluster has: the rules look back over the first one
-abbrev pub secondSize : ℕ → (ℕ → ℕ) → List ℕ → ℕ
-secondSize edition look cs = clusterSize edition look (before look [] (firstSize edition look cs) cs) (firstRest edition look cs)
+abbrev pub secondSize : (ℕ → ℕ) → ℕ → List ℕ → ℕ
+secondSize look edition cs = clusterSize look edition (before look [] (firstSize look edition cs) cs) (firstRest look edition cs)
 
 -- the second cluster is exactly the character c
-abbrev pub secondIs : ℕ → (ℕ → ℕ) → List ℕ → ℕ → Bool
-secondIs edition look cs c = eqb (getD (firstRest edition look cs) 0 0) c && eqb (secondSize edition look cs) 1
+abbrev pub secondIs : (ℕ → ℕ) → ℕ → List ℕ → ℕ → Bool
+secondIs look edition cs c = eqb (getD (firstRest look edition cs) 0 0) c && eqb (secondSize look edition cs) 1

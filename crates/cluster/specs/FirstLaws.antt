@@ -33,51 +33,51 @@ use Rattle.uax29.specs.declared.Pair.the-variants.{Joined, Broken, Open}
 -- ---- the shortest beginning after which there is a break
 
 -- n characters of cs go on with the cluster that left ends in: no break before any of them, and a break after them
-record Goes (edition : ℕ) (look : ℕ → ℕ) (left cs : List ℕ) (n : ℕ) : Type 0 where
+record Goes (look : ℕ → ℕ) (edition : ℕ) (left cs : List ℕ) (n : ℕ) : Type 0 where
   within : n ≤ length cs
   inside : (k : ℕ) → k < n → joined edition (before look left k cs) (look (getD cs k 0)) ≡ true
   after : n < length cs → joined edition (before look left n cs) (look (getD cs n 0)) ≡ false
 
-module _ (edition : ℕ) (look : ℕ → ℕ) where
+module _ (look : ℕ → ℕ) (edition : ℕ) where
   one-on :
-      (left : List ℕ) (c : ℕ) (cs : List ℕ) (n : ℕ) → joined edition left (look c) ≡ true → Goes edition look (look c ∷ left) cs n
-      → Goes edition look left (c ∷ cs) (suc n)
+      (left : List ℕ) (c : ℕ) (cs : List ℕ) (n : ℕ) → joined edition left (look c) ≡ true → Goes look edition (look c ∷ left) cs n
+      → Goes look edition left (c ∷ cs) (suc n)
   one-on left c cs n t w = record { within = omega (arith, w .within); inside = go; after = λ h. w .after (omega arith) }
     where
       go : (k : ℕ) → k < suc n → joined edition (before look left k (c ∷ cs)) (look (getD (c ∷ cs) k 0)) ≡ true
       go zero h = t
       go (suc k) h = w .inside k (omega arith)
 
-  goes : (left cs : List ℕ) → Goes edition look left cs (goOn edition look left cs)
+  goes : (left cs : List ℕ) → Goes look edition left cs (goOn look edition left cs)
   unfolding goOn
   goes left [] = record { within = omega arith; inside = λ k h. absurd (omega arith); after = λ h. absurd (omega arith) }
   goes left (c ∷ cs) =
-      by-test (Goes edition look left (c ∷ cs)) (joined edition left (look c))
-      (λ t. one-on left c cs (goOn edition look (look c ∷ left) cs) t (goes (look c ∷ left) cs))
+      by-test (Goes look edition left (c ∷ cs)) (joined edition left (look c))
+      (λ t. one-on left c cs (goOn look edition (look c ∷ left) cs) t (goes (look c ∷ left) cs))
       (λ t. record { within = omega arith; inside = λ k h. absurd (omega arith); after = λ h. t })
 
-  pub first-is-shortest : (c : ℕ) (cs : List ℕ) → Shortest edition look (c ∷ cs) (firstSize edition look (c ∷ cs))
+  pub first-is-shortest : (c : ℕ) (cs : List ℕ) → Shortest look edition (c ∷ cs) (firstSize look edition (c ∷ cs))
   first-is-shortest c cs =
       record { some = omega arith; within = omega (arith, w .within); break-after = last; none-shorter = inner }
     where
       n : ℕ
-      n = goOn edition look (look c ∷ []) cs
+      n = goOn look edition (look c ∷ []) cs
 
-      w : Goes edition look (look c ∷ []) cs n
+      w : Goes look edition (look c ∷ []) cs n
       w = goes (look c ∷ []) cs
 
-      last : breakAfter edition look (c ∷ cs) (suc n) ≡ true
+      last : breakAfter look edition (c ∷ cs) (suc n) ≡ true
       last =
           split-lt (suc n) (suc (length cs)) (λ h. rw (lt-ltb (suc n) (suc (length cs)) h, w .after (omega arith)))
           (λ h. rw (le-ltb (suc n) (suc (length cs)) h))
 
-      inner : (k : ℕ) → 0 < k → k < suc n → breakAfter edition look (c ∷ cs) k ≡ false
+      inner : (k : ℕ) → 0 < k → k < suc n → breakAfter look edition (c ∷ cs) k ≡ false
       inner zero h l = absurd (omega arith)
       inner (suc k) h l = rw (lt-ltb (suc k) (suc (length cs)) (omega (arith, w .within)), w .inside k (omega arith))
 
   module _ (cs : List ℕ) where
     -- of two first clusters neither is shorter: where the shorter ends there is a break, and inside the longer there is none
-    not-shorter : (n m : ℕ) → Shortest edition look cs n → Shortest edition look cs m → m ≤ n
+    not-shorter : (n m : ℕ) → Shortest look edition cs n → Shortest look edition cs m → m ≤ n
     not-shorter n m p q =
         split-lt n m
         (λ h. let a = p .break-after in
@@ -86,22 +86,22 @@ module _ (edition : ℕ) (look : ℕ → ℕ) where
         absurd (omega arith))
         (λ h. h)
 
-    pub one-shortest : (n m : ℕ) → Shortest edition look cs n → Shortest edition look cs m → n ≡ m
+    pub one-shortest : (n m : ℕ) → Shortest look edition cs n → Shortest look edition cs m → n ≡ m
     one-shortest n m p q = omega (arith, not-shorter n m p q, not-shorter m n q p)
 
-  pub first-within : (cs : List ℕ) → firstSize edition look cs ≤ length cs
+  pub first-within : (cs : List ℕ) → firstSize look edition cs ≤ length cs
   first-within [] = omega arith
   first-within (c ∷ cs) = first-is-shortest c cs .within
 
-  pub first-some : (i c : ℕ) (cs : List ℕ) → i < firstEnd edition look i (c ∷ cs)
+  pub first-some : (i c : ℕ) (cs : List ℕ) → i < firstEnd look edition i (c ∷ cs)
   unfolding encodeAll
   first-some i c cs =
-      omega (arith, encode-some c, length-append (encode c) (encodeAll (take (goOn edition look (look c ∷ []) cs) cs)))
+      omega (arith, encode-some c, length-append (encode c) (encodeAll (take (goOn look edition (look c ∷ []) cs) cs)))
 
   -- the end of the first cluster of what stands from the place i of s on
   pub first-at : (s : List ℕ) (i : ℕ) → i ≤ length s → WellFormed (drop i s)
-      → After s (firstEnd edition look i (chars (drop i s))) (firstRest edition look (chars (drop i s)))
-  first-at s i h w = after-chars s i h w (firstSize edition look (chars (drop i s)))
+      → After s (firstEnd look edition i (chars (drop i s))) (firstRest look edition (chars (drop i s)))
+  first-at s i h w = after-chars s i h w (firstSize look edition (chars (drop i s)))
 
 -- ---- GB9c only joins
 
@@ -126,19 +126,19 @@ fewer-bytes (c ∷ cs) (suc m) (suc n) h =
     (arith, fewer-bytes cs m n (omega arith), length-append (encode c) (encodeAll (take m cs)), length-append (encode c) (encodeAll (take n cs)))
 
 module _ (look : ℕ → ℕ) where
-  goes-no-longer : (left cs : List ℕ) → goOn 1 look left cs ≤ goOn 2 look left cs
+  goes-no-longer : (left cs : List ℕ) → goOn look 1 left cs ≤ goOn look 2 left cs
   unfolding goOn
   goes-no-longer left [] = omega arith
   goes-no-longer left (c ∷ cs) =
-      by-test (λ (r : ℕ). r ≤ goOn 2 look left (c ∷ cs)) (joined 1 left (look c))
+      by-test (λ (r : ℕ). r ≤ goOn look 2 left (c ∷ cs)) (joined 1 left (look c))
       (λ t. rw (joined-more left (look c) t) (omega (arith, goes-no-longer (look c ∷ left) cs))) (λ t. omega arith)
 
-  pub no-longer : (cs : List ℕ) → firstSize 1 look cs ≤ firstSize 2 look cs
+  pub no-longer : (cs : List ℕ) → firstSize look 1 cs ≤ firstSize look 2 cs
   no-longer [] = omega arith
   no-longer (c ∷ cs) = omega (arith, goes-no-longer (look c ∷ []) cs)
 
-  pub no-longer-end : (i : ℕ) (cs : List ℕ) → firstEnd 1 look i cs ≤ firstEnd 2 look i cs
-  no-longer-end i cs = omega (arith, fewer-bytes cs (firstSize 1 look cs) (firstSize 2 look cs) (no-longer cs))
+  pub no-longer-end : (i : ℕ) (cs : List ℕ) → firstEnd look 1 i cs ≤ firstEnd look 2 i cs
+  no-longer-end i cs = omega (arith, fewer-bytes cs (firstSize look 1 cs) (firstSize look 2 cs) (no-longer cs))
 
 -- ---- only the code points that occur matter
 
@@ -147,13 +147,13 @@ abbrev pub Agree : (ℕ → ℕ) → (ℕ → ℕ) → List ℕ → Type 0
 Agree f g [] = Unit {0}
 Agree f g (c ∷ cs) = (f c ≡ g c) × Agree f g cs
 
-module _ (edition : ℕ) (f g : ℕ → ℕ) where
-  same-goes : (left cs : List ℕ) → Agree f g cs → goOn edition f left cs ≡ goOn edition g left cs
+module _ (f g : ℕ → ℕ) (edition : ℕ) where
+  same-goes : (left cs : List ℕ) → Agree f g cs → goOn f edition left cs ≡ goOn g edition left cs
   unfolding goOn
   same-goes left [] a = refl
   same-goes left (c ∷ cs) a = rw (a .0, same-goes (g c ∷ left) cs (a .1))
 
-  pub same-first : (cs : List ℕ) → Agree f g cs → firstSize edition f cs ≡ firstSize edition g cs
+  pub same-first : (cs : List ℕ) → Agree f g cs → firstSize f edition cs ≡ firstSize g edition cs
   same-first [] a = refl
   same-first (c ∷ cs) a = rw (a .0, same-goes (g c ∷ []) cs (a .1))
 
@@ -166,14 +166,14 @@ forgets : (left : List ℕ) → leftOf (plain ∷ left) ≡ leftOf (plain ∷ []
 unfolding endsPict endsPictZwj endsOdd endsConsonant endsLinked
 forgets left = refl
 
-module _ (edition : ℕ) (look : ℕ → ℕ) where
+module _ (look : ℕ → ℕ) (edition : ℕ) where
   pub plain-forgets : (left : List ℕ) (c : ℕ) (cs : List ℕ) → look c ≡ plain
-      → clusterSize edition look left (c ∷ cs) ≡ firstSize edition look (c ∷ cs)
-  plain-forgets left c cs e = rw e (ap suc (same-left edition look (plain ∷ left) (plain ∷ []) cs (forgets left)))
+      → clusterSize look edition left (c ∷ cs) ≡ firstSize look edition (c ∷ cs)
+  plain-forgets left c cs e = rw e (ap suc (same-left look edition (plain ∷ left) (plain ∷ []) cs (forgets left)))
 
-  pub second-plain : (cs : List ℕ) (c : ℕ) (rest : List ℕ) → firstRest edition look cs ≡ c ∷ rest → look c ≡ plain
-      → secondSize edition look cs ≡ firstSize edition look (firstRest edition look cs)
-  second-plain cs c rest p e = rw p (plain-forgets (before look [] (firstSize edition look cs) cs) c rest e)
+  pub second-plain : (cs : List ℕ) (c : ℕ) (rest : List ℕ) → firstRest look edition cs ≡ c ∷ rest → look c ≡ plain
+      → secondSize look edition cs ≡ firstSize look edition (firstRest look edition cs)
+  second-plain cs c rest p e = rw p (plain-forgets (before look [] (firstSize look edition cs) cs) c rest e)
 
   -- m characters have m bytes or more
   count-bytes : (cs : List ℕ) (m : ℕ) → m ≤ length cs → m ≤ length (encodeAll (take m cs))
@@ -184,24 +184,24 @@ module _ (edition : ℕ) (look : ℕ → ℕ) where
       omega (arith, count-bytes cs m (omega arith), encode-some c, length-append (encode c) (encodeAll (take m cs)))
 
   -- one byte is one character
-  one-byte : (e c : ℕ) (cs : List ℕ) → c < 0x80 → eqb (firstSize edition look (c ∷ cs)) 1 ≡ eqb (firstEnd edition look e (c ∷ cs)) (e + 1)
+  one-byte : (e c : ℕ) (cs : List ℕ) → c < 0x80 → eqb (firstSize look edition (c ∷ cs)) 1 ≡ eqb (firstEnd look edition e (c ∷ cs)) (e + 1)
   unfolding encodeAll
   one-byte e c cs h =
-      let m = goOn edition look (look c ∷ []) cs in
+      let m = goOn look edition (look c ∷ []) cs in
       let more = encodeAll (take m cs) in
-      let b = count-bytes cs m (omega (arith, first-within edition look (c ∷ cs))) in
+      let b = count-bytes cs m (omega (arith, first-within look edition (c ∷ cs))) in
       let n : length (encode c ++ more) ≡ suc (length more) = rw (encode1 c h) in
       split-eq m 0
       (λ z. let y : length more ≡ 0 = rw z in rw (eq-eqb (suc m) 1 (omega arith), eq-eqb (e + length (encode c ++ more)) (e + 1) (omega arith)))
       (λ z. rw (ne-eqb (suc m) 1 (λ x. omega arith), ne-eqb (e + length (encode c ++ more)) (e + 1) (λ x. omega arith)))
 
-  pub second-by-first : (cs : List ℕ) (e c : ℕ) → c < 0x80 → look c ≡ plain → secondIs edition look cs c
-      ≡ (eqb (getD (firstRest edition look cs) 0 0) c && eqb (firstEnd edition look e (firstRest edition look cs)) (e + 1))
+  pub second-by-first : (cs : List ℕ) (e c : ℕ) → c < 0x80 → look c ≡ plain → secondIs look edition cs c
+      ≡ (eqb (getD (firstRest look edition cs) 0 0) c && eqb (firstEnd look edition e (firstRest look edition cs)) (e + 1))
   unfolding encodeAll
-  second-by-first cs e c h p = go (before look [] (firstSize edition look cs) cs) (firstRest edition look cs)
+  second-by-first cs e c h p = go (before look [] (firstSize look edition cs) cs) (firstRest look edition cs)
     where
-      go : (left rest : List ℕ) → (eqb (getD rest 0 0) c && eqb (clusterSize edition look left rest) 1)
-          ≡ (eqb (getD rest 0 0) c && eqb (firstEnd edition look e rest) (e + 1))
+      go : (left rest : List ℕ) → (eqb (getD rest 0 0) c && eqb (clusterSize look edition left rest) 1)
+          ≡ (eqb (getD rest 0 0) c && eqb (firstEnd look edition e rest) (e + 1))
       go left [] = rw (ne-eqb (e + 0) (e + 1) (λ x. omega arith))
       go left (d ∷ ds) =
           split-eq d c

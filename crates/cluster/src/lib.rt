@@ -23,7 +23,7 @@ pub enum Cluster {
 // The byte after the first cluster of what stands from `at` on, in edition 1 (without GB9c) or 2 (with it); `at` itself where nothing does.
 pub fn cluster_end(source: &[u8], table: &[u32], edition: u32, at: usize) -> usize
     requires { ⌜ WellFormed (drop at (now source)) × Rises (now table) ⌝ }
-    ensures { λ r. ⌜ r ≡ firstEnd edition (propertiesAt (now (table .entry))) at (chars (drop at (now (source .entry)))) ⌝ }
+    ensures { λ r. ⌜ r ≡ firstEnd (propertiesAt (now (table .entry))) edition at (chars (drop at (now (source .entry)))) ⌝ }
 {
     let utf8::Read::Char { code, len } = utf8::read_char(source, at) else {
         return at;

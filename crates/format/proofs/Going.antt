@@ -57,22 +57,22 @@ module _ (f : ℕ → ℕ → parse.Body) (goes : (n k : ℕ) → Errs (f n k)) 
   unfolding consumeU32
   number-errs first cs = by-test Number (isDigit first) (λ _. digits-errs _ 0 cs) (λ _. refl)
 
-body-errs : (edition : ℕ) (look : ℕ → ℕ) (at : ℕ) (o : Options) (c : ℕ) (cs : List ℕ) (a : Arm) → Errs (bodyOf edition look at o c cs a)
-body-errs edition look at o c cs arm.FillSign = tt
-body-errs edition look at o c cs arm.Align = tt
-body-errs edition look at o c cs arm.ZeroFill = tt
-body-errs edition look at o c cs arm.MinWidth = number-errs _ (λ n k. tt) c cs
-body-errs edition look at o c cs arm.Precision = number-errs _ (λ n k. tt) (peeked cs) (drop 1 cs)
-body-errs edition look at o c cs (arm.Represent r) = tt
-body-errs edition look at o c cs arm.FillCluster = tt
-body-errs edition look at o c cs arm.Unexpected = refl
+body-errs : (look : ℕ → ℕ) (edition : ℕ) (at : ℕ) (o : Options) (c : ℕ) (cs : List ℕ) (a : Arm) → Errs (bodyOf look edition at o c cs a)
+body-errs look edition at o c cs arm.FillSign = tt
+body-errs look edition at o c cs arm.Align = tt
+body-errs look edition at o c cs arm.ZeroFill = tt
+body-errs look edition at o c cs arm.MinWidth = number-errs _ (λ n k. tt) c cs
+body-errs look edition at o c cs arm.Precision = number-errs _ (λ n k. tt) (peeked cs) (drop 1 cs)
+body-errs look edition at o c cs (arm.Represent r) = tt
+body-errs look edition at o c cs arm.FillCluster = tt
+body-errs look edition at o c cs arm.Unexpected = refl
 
 -- ---- the loop
 
-module _ (edition : ℕ) (look : ℕ → ℕ) where
+module _ (look : ℕ → ℕ) (edition : ℕ) where
   -- from a state on, where cs is left and the last arm took the first k characters of it
   abbrev from : ℕ → Parsing → List ℕ → OnePass Strings
-  from k p cs = parseFrom keep edition look k (p .at) (p .position) (p .result) (p .added) cs
+  from k p cs = parseFrom keep look edition k (p .at) (p .position) (p .result) (p .added) cs
 
   -- the same state, further on
   abbrev moved : Parsing → ℕ → Parsing
@@ -90,12 +90,12 @@ module _ (edition : ℕ) (look : ℕ → ℕ) where
 
   module _ (p : Parsing) (c : ℕ) (cs : List ℕ) where
     -- a turn of the definition that goes on, and one that fails
-    turns : (o : Options) (q k : ℕ) (fill : Fill) → bodyAt edition look p c cs ≡ parse.Goes o q k fill
+    turns : (o : Options) (q k : ℕ) (fill : Fill) → bodyAt look edition p c cs ≡ parse.Goes o q k fill
         → from 0 p (c ∷ cs) ≡ from k (goesTo p o q (p .at + lenUtf8 c) fill) cs
     unfolding parseFrom
     turns o q k fill e = rw (e, parseFrom)
 
-    breaks : (o : Outcome) → bodyAt edition look p c cs ≡ parse.Fails o → readingOf (from 0 p (c ∷ cs)) ≡ ended (failsWith p o)
+    breaks : (o : Outcome) → bodyAt look edition p c cs ≡ parse.Fails o → readingOf (from 0 p (c ∷ cs)) ≡ ended (failsWith p o)
     unfolding parseFrom
     breaks o e = rw (e, parseFrom)
 
@@ -109,14 +109,14 @@ module _ (edition : ℕ) (look : ℕ → ℕ) where
       pub small : length s ≤ formatMost
       pub within : p .at ≤ length s
       pub well : WellFormed (drop (p .at) s)
-      pub answer : readingOf (from 0 p (chars (drop (p .at) s))) ≡ readFormat edition look (chars s)
+      pub answer : readingOf (from 0 p (chars (drop (p .at) s))) ≡ readFormat look edition (chars s)
 
     pub begins : WellFormed s → length s ≤ formatMost → Going startParsing
     unfolding readFormat
     begins w h = record { fine = refl; small = h; within = omega arith; well = w; answer = refl }
 
     module _ (p : Parsing) (g : Going p) where
-      pub ends : Stops (readAt s (p .at)) → ended p ≡ readFormat edition look (chars s)
+      pub ends : Stops (readAt s (p .at)) → ended p ≡ readFormat look edition (chars s)
       ends t = nothing p (g .fine) ∙ ap (λ (l : List ℕ). readingOf (from 0 p l)) (sym (none-left s (p .at) t)) ∙ g .answer
 
       module _ (c n : ℕ) (found : readAt s (p .at) ≡ Char c n) where
@@ -130,7 +130,7 @@ module _ (edition : ℕ) (look : ℕ → ℕ) where
         here = at-char s (p .at) c n found
 
         -- the whole reading is that of c and what follows it
-        whole : readingOf (from 0 p (c ∷ cs)) ≡ readFormat edition look (chars s)
+        whole : readingOf (from 0 p (c ∷ cs)) ≡ readFormat look edition (chars s)
         whole = ap (λ (l : List ℕ). readingOf (from 0 p l)) (sym (here .step)) ∙ g .answer
 
         -- further on, and inside
@@ -138,7 +138,7 @@ module _ (edition : ℕ) (look : ℕ → ℕ) where
           pub going : Going next
           pub later : p .at < next .at
 
-        onward : (o : Options) (q k : ℕ) (fill : Fill) → bodyAt edition look p c cs ≡ parse.Goes o q k fill
+        onward : (o : Options) (q k : ℕ) (fill : Fill) → bodyAt look edition p c cs ≡ parse.Goes o q k fill
             → Onward (goesTo p o q (p .at + length (encodeAll (take (suc k) (c ∷ cs)))) fill)
         unfolding encodeAll
         onward o q k fill e =
@@ -163,12 +163,12 @@ module _ (edition : ℕ) (look : ℕ → ℕ) where
         -- after a turn, by whether it is fine
         abbrev pub Turned : Bool → Parsing → Type 0
         Turned true next = Onward next
-        Turned false next = ended next ≡ readFormat edition look (chars s)
+        Turned false next = ended next ≡ readFormat look edition (chars s)
 
-        by-body : (b : parse.Body) → bodyAt edition look p c cs ≡ b → Errs b → Turned (isFine (turnOf p (c ∷ cs) b .outcome)) (turnOf p (c ∷ cs) b)
+        by-body : (b : parse.Body) → bodyAt look edition p c cs ≡ b → Errs b → Turned (isFine (turnOf p (c ∷ cs) b .outcome)) (turnOf p (c ∷ cs) b)
         by-body (parse.Goes o q k fill) e w = onward o q k fill e
         by-body (parse.Fails x) e w = rw w (sym (breaks p c cs x e) ∙ whole)
 
-        pub turned : (next : Parsing) (t : Bool) → next ≡ turnAt edition look p c cs → isFine (next .outcome) ≡ t → Turned t next
+        pub turned : (next : Parsing) (t : Bool) → next ≡ turnAt look edition p c cs → isFine (next .outcome) ≡ t → Turned t next
         turned next t e f =
-            rw (← f, e) (by-body _ refl (body-errs edition look (p .at) (p .result) c cs (armOf c (peeked cs) (p .position))))
+            rw (← f, e) (by-body _ refl (body-errs look edition (p .at) (p .result) c cs (armOf c (peeked cs) (p .position))))

@@ -40,7 +40,7 @@ one-more : (k d : ℕ) (ds : List ℕ) → d < 128 → length (encodeAll (take k
 unfolding encodeAll
 one-more k d ds h e = rw (encode1 d h) (ap suc e)
 
-module _ (edition : ℕ) (look : ℕ → ℕ) (s : List ℕ) (p : Parsing) (c n : ℕ) (h : Here s (p .at) c n) where
+module _ (look : ℕ → ℕ) (edition : ℕ) (s : List ℕ) (p : Parsing) (c n : ℕ) (h : Here s (p .at) c n) where
   abbrev at : ℕ
   at = p .at
 
@@ -55,10 +55,10 @@ module _ (edition : ℕ) (look : ℕ → ℕ) (s : List ℕ) (p : Parsing) (c n 
   next-within = omega (arith, here .fits, h .small)
 
   abbrev body : parse.Body
-  body = bodyAt edition look p c cs
+  body = bodyAt look edition p c cs
 
   abbrev turn : Parsing
-  turn = turnAt edition look p c cs
+  turn = turnAt look edition p c cs
 
   -- the bytes of c and of the k characters after it
   bytes : (k : ℕ) → at + length (encodeAll (take (suc k) (c ∷ cs))) ≡ at + n + length (encodeAll (take k cs))
@@ -80,8 +80,8 @@ module _ (edition : ℕ) (look : ℕ → ℕ) (s : List ℕ) (p : Parsing) (c n 
   fails e b = sym (ap (turnOf p (c ∷ cs)) b)
 
   module _ (a : Arm) (e : armOf c (peeked cs) (p .position) ≡ a) where
-    by-arm : body ≡ bodyOf edition look at (p .result) c cs a
-    by-arm = ap (bodyOf edition look at (p .result) c cs) e
+    by-arm : body ≡ bodyOf look edition at (p .result) c cs a
+    by-arm = ap (bodyOf look edition at (p .result) c cs) e
 
   -- c itself, as a fill
   own : parse.lenUtf8 c ≡ at + n - at
@@ -176,13 +176,13 @@ module _ (edition : ℕ) (look : ℕ → ℕ) (s : List ℕ) (p : Parsing) (c n 
       go (Wrong o) x = fails o (is (Wrong o) x)
 
   pub turn-cluster : armOf c (peeked cs) (p .position) ≡ arm.FillCluster
-      → clusterTo p (firstEnd edition look at (chars (drop at s))) ≡ turn
+      → clusterTo p (firstEnd look edition at (chars (drop at s))) ≡ turn
   turn-cluster e =
-      let k = goOn edition look (look c ∷ []) cs in
-      let end = firstEnd edition look at (c ∷ cs) in
-      let fill : Part = record { place = at; len = firstEnd edition look 0 (c ∷ cs) } in
+      let k = goOn look edition (look c ∷ []) cs in
+      let end = firstEnd look edition at (c ∷ cs) in
+      let fill : Part = record { place = at; len = firstEnd look edition 0 (c ∷ cs) } in
       let one : suc k - 1 ≡ k = omega arith in
       let b : body ≡ parse.goesFilled (p .result) parse.alignment k fill =
       by-arm arm.FillCluster e ∙ ap {B = parse.Body} (λ (j : ℕ). parse.goesFilled (p .result) parse.alignment j fill) one in
-      ap {B = Parsing} (λ (l : List ℕ). clusterTo p (firstEnd edition look at l)) (here .step)
+      ap {B = Parsing} (λ (l : List ℕ). clusterTo p (firstEnd look edition at l)) (here .step)
       ∙ filled (p .result) parse.alignment k _ end end b (omega arith) (bytes k)

@@ -22,7 +22,7 @@ use Rattle.format.specs.declared.Strings.{Strings}
 use Rattle.format.specs.declared.FormatRead.{FormatRead}
 
 abbrev read : List ℕ → FormatRead
-read cs = readFormat 2 (propertiesAt smallTable) cs
+read cs = readFormat (propertiesAt smallTable) 2 cs
 
 abbrev part : ℕ → ℕ → Part
 part place len = record { place = place; len = len }

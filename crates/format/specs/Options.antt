@@ -36,7 +36,8 @@ withPrecision n o =
 
 -- `result.representation = Some(..)`
 abbrev pub withRepresentation : Representation → Options → Options
-withRepresentation r o = record { alignment = o .alignment; width = o .width; precision = o .precision; representation = As r; fill = o .fill }
+withRepresentation r o =
+    record { alignment = o .alignment; width = o .width; precision = o .precision; representation = As r; fill = o .fill }
 
 -- `result.fill_character = Some(..)`
 abbrev pub withFill : Part → Options → Options

@@ -2,7 +2,8 @@
 -- gives the properties of a code point.
 -- The pool is whatever `add` adds to, one part of the format string after the other: a list of parts, in `parse`; what the code keeps, in
 -- `Read`. An addition cannot fail here: for a pool that can be full, P also says whether it was, and `add` then leaves it as it is.
--- `match (next, chars.peek(), position)` is told in two halves: `armOf` has the patterns, in their order, and `bodyOf` what stands behind each.
+-- `match (next, chars.peek(), position)` is told in two halves: `armOf` has the patterns, in their order, and `bodyOf` what stands behind
+-- each, under its pattern.
 -- Assumes nothing.
 use Prim.Native.Nat.{ℕ, zero, suc, _+_, _-_, _*_, _≤_}
 use mathlib.Core.Bool.{Bool, false, _&&_, _||_}
@@ -182,18 +183,26 @@ abbrev pub goesFilled : Options → ℕ → ℕ → Part → Body
 goesFilled o position k fill = Goes (withFill fill o) position k (Is fill)
 
 -- c stands at the byte `at`, and cs after it. Position Start is left at the first character, so there c and cs are the whole format string
-abbrev pub bodyOf : ℕ → (ℕ → ℕ) → ℕ → Options → ℕ → List ℕ → Arm → Body
-bodyOf edition look at o c cs arm.FillSign =
+abbrev pub bodyOf : (ℕ → ℕ) → ℕ → ℕ → Options → ℕ → List ℕ → Arm → Body
+-- `(_, Some('<' | '^' | '>'), Start)`
+bodyOf look edition at o c cs arm.FillSign =
     goesFilled (withAlignment (charToAlignment (peeked cs)) o) minWidth 1 (record { place = at; len = lenUtf8 c })
-bodyOf edition look at o c cs arm.Align = Goes (withAlignment (charToAlignment c) o) minWidth 0 NoFill
-bodyOf edition look at o c cs arm.ZeroFill = goesFilled o minWidth 0 (record { place = at; len = lenUtf8 c })
-bodyOf edition look at o c cs arm.MinWidth = onConsumed (consumeU32 c cs) (λ n k. Goes (withWidth n o) precision k NoFill)
-bodyOf edition look at o c cs arm.Precision =
+-- `('<' | '^' | '>', _, Start | Alignment)`
+bodyOf look edition at o c cs arm.Align = Goes (withAlignment (charToAlignment c) o) minWidth 0 NoFill
+-- `('0', Some('0'..='9'), Start | MinWidth)`
+bodyOf look edition at o c cs arm.ZeroFill = goesFilled o minWidth 0 (record { place = at; len = lenUtf8 c })
+-- `('0'..='9', _, Start | MinWidth)`
+bodyOf look edition at o c cs arm.MinWidth = onConsumed (consumeU32 c cs) (λ n k. Goes (withWidth n o) precision k NoFill)
+-- `('.', Some(_), Start | MinWidth | Precision)`
+bodyOf look edition at o c cs arm.Precision =
     onConsumed (consumeU32 (peeked cs) (drop 1 cs)) (λ n k. Goes (withPrecision n o) type (suc k) NoFill)
-bodyOf edition look at o c cs (arm.Represent r) = Goes (withRepresentation r o) end 0 NoFill
-bodyOf edition look at o c cs arm.FillCluster =
-    goesFilled o alignment (firstSize edition look (c ∷ cs) - 1) (record { place = at; len = firstEnd edition look 0 (c ∷ cs) })
-bodyOf edition look at o c cs arm.Unexpected = Fails (UnexpectedToken c)
+-- `('?', _, Start | MinWidth | Precision | Type)`, and the six after it
+bodyOf look edition at o c cs (arm.Represent r) = Goes (withRepresentation r o) end 0 NoFill
+-- `(_, _, Start)`
+bodyOf look edition at o c cs arm.FillCluster =
+    goesFilled o alignment (firstSize look edition (c ∷ cs) - 1) (record { place = at; len = firstEnd look edition 0 (c ∷ cs) })
+-- `(other, _, _)`
+bodyOf look edition at o c cs arm.Unexpected = Fails (UnexpectedToken c)
 
 -- ---- the loop
 
@@ -208,12 +217,16 @@ abbrev pub addFill : {P : Type 0} → (P → Part → P) → P → Fill → P
 addFill add pool (Is part) = add pool part
 addFill add pool NoFill = pool
 
-module _ {P : Type 0} (add : P → Part → P) (edition : ℕ) (look : ℕ → ℕ) where
+module _ {P : Type 0} (add : P → Part → P) (look : ℕ → ℕ) (edition : ℕ) where
   -- from the byte `at` on, where the first k characters of what is left were taken by the last arm
   unfoldable pub parseFrom : ℕ → ℕ → ℕ → Options → P → List ℕ → OnePass P
   parseFrom k at position o pool [] = record { options = o; outcome = Fine; pool = pool }
   parseFrom (suc k) at position o pool (c ∷ cs) = parseFrom k (at + lenUtf8 c) position o pool cs
-  parseFrom zero at position o pool (c ∷ cs) = elim (bodyOf edition look at o c cs (armOf c (peeked cs) position)) [ Goes result next k fill ↦ parseFrom k (at + lenUtf8 c) next result (addFill add pool fill) cs | Fails e ↦ record { options = o; outcome = e; pool = pool } ]
+  parseFrom zero at position o pool (c ∷ cs) =
+      elim (bodyOf look edition at o c cs (armOf c (peeked cs) position)) [
+        | Goes result next k fill ↦ parseFrom k (at + lenUtf8 c) next result (addFill add pool fill) cs
+        | Fails e ↦ record { options = o; outcome = e; pool = pool }
+      ]
 
   -- of a whole format string
   abbrev pub parseWith : P → List ℕ → OnePass P
@@ -224,8 +237,8 @@ abbrev pub append : List Part → Part → List Part
 append parts part = parts ++ part ∷ []
 
 -- `parse` of a whole format string, with the strings that it adds, in order
-abbrev pub parse : ℕ → (ℕ → ℕ) → List ℕ → OnePass (List Part)
-parse edition look cs = parseWith append edition look [] cs
+abbrev pub parse : (ℕ → ℕ) → ℕ → List ℕ → OnePass (List Part)
+parse look edition cs = parseWith append look edition [] cs
 
 -- the string of a part of s
 abbrev pub stringOf : List ℕ → Part → List ℕ

@@ -74,7 +74,7 @@ add-last : {P : Type 0} (add : P → Part → P) (pool : P) (parts : List Part) 
 add-last add pool [] part = refl
 add-last add pool (q ∷ parts) part = add-last add (add pool q) parts part
 
-module _ {P : Type 0} (add : P → Part → P) (edition : ℕ) (look : ℕ → ℕ) (pool : P) where
+module _ {P : Type 0} (add : P → Part → P) (look : ℕ → ℕ) (edition : ℕ) (pool : P) where
   -- what is parsed with a list, as what is parsed with the pool
   abbrev pub poured : OnePass (List Part) → OnePass P
   poured r = record { options = r .options; outcome = r .outcome; pool = addAll add pool (r .pool) }
@@ -84,24 +84,24 @@ module _ {P : Type 0} (add : P → Part → P) (edition : ℕ) (look : ℕ → �
   add-fill parts NoFill = refl
 
   adds : (k at position : ℕ) (o : Options) (parts : List Part) (cs : List ℕ)
-      → parseFrom add edition look k at position o (addAll add pool parts) cs ≡ poured (parseFrom append edition look k at position o parts cs)
+      → parseFrom add look edition k at position o (addAll add pool parts) cs ≡ poured (parseFrom append look edition k at position o parts cs)
   unfolding parseFrom
   adds k at position o parts [] = refl
   adds (suc k) at position o parts (c ∷ cs) = adds k (at + lenUtf8 c) position o parts cs
   adds zero at position o parts (c ∷ cs) =
-      go (bodyOf edition look at o c cs (armOf c (peeked cs) position)) refl (λ k q r more. adds k (at + lenUtf8 c) q r more cs)
+      go (bodyOf look edition at o c cs (armOf c (peeked cs) position)) refl (λ k q r more. adds k (at + lenUtf8 c) q r more cs)
     where
-      go : (b : Body) → bodyOf edition look at o c cs (armOf c (peeked cs) position) ≡ b
-          → ((k q : ℕ) (r : Options) (more : List Part) → parseFrom add edition look k (at + lenUtf8 c) q r (addAll add pool more) cs
-          ≡ poured (parseFrom append edition look k (at + lenUtf8 c) q r more cs))
-          → parseFrom add edition look 0 at position o (addAll add pool parts) (c ∷ cs)
-          ≡ poured (parseFrom append edition look 0 at position o parts (c ∷ cs))
+      go : (b : Body) → bodyOf look edition at o c cs (armOf c (peeked cs) position) ≡ b
+          → ((k q : ℕ) (r : Options) (more : List Part) → parseFrom add look edition k (at + lenUtf8 c) q r (addAll add pool more) cs
+          ≡ poured (parseFrom append look edition k (at + lenUtf8 c) q r more cs))
+          → parseFrom add look edition 0 at position o (addAll add pool parts) (c ∷ cs)
+          ≡ poured (parseFrom append look edition 0 at position o parts (c ∷ cs))
       go (Goes r q k fill) e ih =
           rw (e, parseFrom)
-          (ap {B = OnePass P} (λ (x : P). parseFrom add edition look k (at + lenUtf8 c) q r x cs) (add-fill parts fill) ∙ ih k q r (addFill append parts fill))
+          (ap {B = OnePass P} (λ (x : P). parseFrom add look edition k (at + lenUtf8 c) q r x cs) (add-fill parts fill) ∙ ih k q r (addFill append parts fill))
       go (Fails x) e ih = rw (e, parseFrom)
 
-  pub parse-adds : (cs : List ℕ) → parseWith add edition look pool cs ≡ poured (parse edition look cs)
+  pub parse-adds : (cs : List ℕ) → parseWith add look edition pool cs ≡ poured (parse look edition cs)
   parse-adds cs = adds 0 0 start noOptions [] cs
 
 -- ---- what is added
@@ -182,14 +182,14 @@ module _ (s : List ℕ) where
     abbrev pub Kept : OnePass P → Type 0
     Kept r = (q : ℕ) × I q (r .options .fill) (r .pool)
 
-    module _ (keeps : Keeps) (edition : ℕ) (look : ℕ → ℕ) where
+    module _ (keeps : Keeps) (look : ℕ → ℕ) (edition : ℕ) where
       -- it holds after a body
       abbrev After : P → Body → Type 0
       After pool (Goes o q k fill) = I q (o .fill) (addFill add pool fill)
       After pool (Fails e) = Unit {0}
 
       after : (at p : ℕ) (o : Options) (pool : P) (c : ℕ) (cs : List ℕ) → Rest at (c ∷ cs) → I p (o .fill) pool
-          → (a : Arm) → ArmIs c (peeked cs) p a → After pool (bodyOf edition look at o c cs a)
+          → (a : Arm) → ArmIs c (peeked cs) p a → After pool (bodyOf look edition at o c cs a)
       after at p o pool c cs r i arm.FillSign t =
           keeps .by-fill minWidth (o .fill) pool _ (subst (λ (q : ℕ). I q (o .fill) pool) (t .1) i) (part-one at c cs r) (omega arith)
       after at p o pool c cs r i arm.Align t = keeps .by-other p minWidth (o .fill) pool i (omega arith)
@@ -206,28 +206,28 @@ module _ (s : List ℕ) where
           go (Wrong e) = tt
       after at p o pool c cs r i (arm.Represent x) t = keeps .by-other p end (o .fill) pool i (omega arith)
       after at p o pool c cs r i arm.FillCluster t =
-          let z : length (encodeAll (take (firstSize edition look (c ∷ cs)) (c ∷ cs))) ≡ firstEnd edition look 0 (c ∷ cs) = omega arith in
-          let part = subst (λ (n : ℕ). PartIn s (record { place = at; len = n })) z (part-first at (c ∷ cs) (firstSize edition look (c ∷ cs)) r) in
+          let z : length (encodeAll (take (firstSize look edition (c ∷ cs)) (c ∷ cs))) ≡ firstEnd look edition 0 (c ∷ cs) = omega arith in
+          let part = subst (λ (n : ℕ). PartIn s (record { place = at; len = n })) z (part-first at (c ∷ cs) (firstSize look edition (c ∷ cs)) r) in
           keeps .by-fill alignment (o .fill) pool _ (subst (λ (q : ℕ). I q (o .fill) pool) t i) part (omega arith)
       after at p o pool c cs r i arm.Unexpected t = tt
 
-      kept : (k at p : ℕ) (o : Options) (pool : P) (cs : List ℕ) → Rest at cs → I p (o .fill) pool → Kept (parseFrom add edition look k at p o pool cs)
+      kept : (k at p : ℕ) (o : Options) (pool : P) (cs : List ℕ) → Rest at cs → I p (o .fill) pool → Kept (parseFrom add look edition k at p o pool cs)
       unfolding parseFrom
       kept k at p o pool [] r i = (p, i)
       kept (suc k) at p o pool (c ∷ cs) r i = kept k (at + lenUtf8 c) p o pool cs (rest-on at c cs r) i
       kept zero at p o pool (c ∷ cs) r i =
-          go (bodyOf edition look at o c cs (armOf c (peeked cs) p)) refl
+          go (bodyOf look edition at o c cs (armOf c (peeked cs) p)) refl
           (λ k q o′ pool′ j. kept k (at + lenUtf8 c) q o′ pool′ cs (rest-on at c cs r) j)
         where
-          go : (b : Body) → bodyOf edition look at o c cs (armOf c (peeked cs) p) ≡ b
-              → ((k q : ℕ) (o′ : Options) (pool′ : P) → I q (o′ .fill) pool′ → Kept (parseFrom add edition look k (at + lenUtf8 c) q o′ pool′ cs))
-              → Kept (parseFrom add edition look 0 at p o pool (c ∷ cs))
+          go : (b : Body) → bodyOf look edition at o c cs (armOf c (peeked cs) p) ≡ b
+              → ((k q : ℕ) (o′ : Options) (pool′ : P) → I q (o′ .fill) pool′ → Kept (parseFrom add look edition k (at + lenUtf8 c) q o′ pool′ cs))
+              → Kept (parseFrom add look edition 0 at p o pool (c ∷ cs))
           go (Goes o′ q k fill) e ih =
               let j = subst (After pool) e (after at p o pool c cs r i (armOf c (peeked cs) p) (arm-is c (peeked cs) p)) in
               rw (e, parseFrom) (ih k q o′ (addFill add pool fill) j)
           go (Fails x) e ih = rw (e, parseFrom) (p, i)
 
-      pub parse-keeps : (pool : P) → WellFormed s → I start NoFill pool → Kept (parseWith add edition look pool (chars s))
+      pub parse-keeps : (pool : P) → WellFormed s → I start NoFill pool → Kept (parseWith add look edition pool (chars s))
       parse-keeps pool w i =
           let v = chars-well s w in
           kept 0 0 start noOptions pool (chars s) (record { within = omega arith; bytes = v .0; scalars = v .1 }) i

@@ -42,8 +42,8 @@ abbrev pub readingOf : parse.OnePass Strings → FormatRead
 readingOf r = record { options = r .options; outcome = r .outcome; added = r .pool }
 
 -- the reading of a format string with these characters
-unfoldable pub readFormat : ℕ → (ℕ → ℕ) → List ℕ → FormatRead
-readFormat edition look cs = readingOf (parse.parseWith keep edition look nothingAdded cs)
+unfoldable pub readFormat : (ℕ → ℕ) → ℕ → List ℕ → FormatRead
+readFormat look edition cs = readingOf (parse.parseWith keep look edition nothingAdded cs)
 
 -- the strings of a reading added to a pool, one after the other
 abbrev pub addBoth : {P : Type 0} → (P → Part → P) → P → Strings → P
@@ -108,12 +108,12 @@ turnOf p cs (parse.Goes result position k fill) = goesTo p result position (p .a
 turnOf p cs (parse.Fails e) = failsWith p e
 
 -- the body for the character c and those after it
-abbrev pub bodyAt : ℕ → (ℕ → ℕ) → Parsing → ℕ → List ℕ → parse.Body
-bodyAt edition look p c cs = parse.bodyOf edition look (p .at) (p .result) c cs (parse.armOf c (parse.peeked cs) (p .position))
+abbrev pub bodyAt : (ℕ → ℕ) → ℕ → Parsing → ℕ → List ℕ → parse.Body
+bodyAt look edition p c cs = parse.bodyOf look edition (p .at) (p .result) c cs (parse.armOf c (parse.peeked cs) (p .position))
 
 -- the turn for the character c and those after it
-abbrev pub turnAt : ℕ → (ℕ → ℕ) → Parsing → ℕ → List ℕ → Parsing
-turnAt edition look p c cs = turnOf p (c ∷ cs) (bodyAt edition look p c cs)
+abbrev pub turnAt : (ℕ → ℕ) → ℕ → Parsing → ℕ → List ℕ → Parsing
+turnAt look edition p c cs = turnOf p (c ∷ cs) (bodyAt look edition p c cs)
 
 -- the character c, of n bytes, stands at the place i of s, and nothing ill-formed from it on
 pub record Here (s : List ℕ) (i c n : ℕ) : Type 0 where

@@ -79,17 +79,17 @@ module _ (s : List ℕ) where
       same-pool pool [] z = refl
       same-pool pool (part ∷ parts) z = zeros-last pool part NoFill parts tt z
 
-      module _ (edition : ℕ) (look : ℕ → ℕ) where
+      module _ (look : ℕ → ℕ) (edition : ℕ) where
         -- the reading, and then both strings added
         abbrev pub staged : P → FormatRead → OnePass P
         staged pool r = record { options = r .options; outcome = r .outcome; pool = addBoth put pool (r .added) }
 
-        pub parse-two-stages : (pool : P) → WellFormed s → parseWith put edition look pool (chars s) ≡ staged pool (readFormat edition look (chars s))
+        pub parse-two-stages : (pool : P) → WellFormed s → parseWith put look edition pool (chars s) ≡ staged pool (readFormat look edition (chars s))
         unfolding readFormat
         parse-two-stages pool w =
-            let r = parse edition look (chars s) in
-            let i = parse-keeps s append Listed listed edition look [] w (record { none = λ _. refl; tail = tt }) .1 in
-            rw (parse-adds put edition look pool (chars s), parse-adds keep edition look nothingAdded (chars s), same-pool pool (r .pool) (i .tail))
+            let r = parse look edition (chars s) in
+            let i = parse-keeps s append Listed listed look edition [] w (record { none = λ _. refl; tail = tt }) .1 in
+            rw (parse-adds put look edition pool (chars s), parse-adds keep look edition nothingAdded (chars s), same-pool pool (r .pool) (i .tail))
 
   -- ---- the parts
 
@@ -122,11 +122,11 @@ module _ (s : List ℕ) where
         by-other = λ p q fill a i h. i;
       }
 
-  module _ (edition : ℕ) (look : ℕ → ℕ) (w : WellFormed s) where
-    pub added-in : AddedIn (readFormat edition look (chars s) .added)
+  module _ (look : ℕ → ℕ) (edition : ℕ) (w : WellFormed s) where
+    pub added-in : AddedIn (readFormat look edition (chars s) .added)
     unfolding readFormat
-    added-in = parse-keeps s keep (λ p fill a. AddedIn a) keeps-in edition look nothingAdded w (record { first = tt; second = tt }) .1
+    added-in = parse-keeps s keep (λ p fill a. AddedIn a) keeps-in look edition nothingAdded w (record { first = tt; second = tt }) .1
 
-    pub fill-is-last : readFormat edition look (chars s) .options .fill ≡ lastOf (readFormat edition look (chars s) .added)
+    pub fill-is-last : readFormat look edition (chars s) .options .fill ≡ lastOf (readFormat look edition (chars s) .added)
     unfolding readFormat
-    fill-is-last = parse-keeps s keep (λ p fill a. fill ≡ lastOf a) keeps-last edition look nothingAdded w refl .1
+    fill-is-last = parse-keeps s keep (λ p fill a. fill ≡ lastOf a) keeps-last look edition nothingAdded w refl .1

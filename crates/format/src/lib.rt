@@ -659,7 +659,7 @@ fn take_precision(format: &[u8], p: Parsing, c: u32, at: usize) -> Parsing
 // The arm of a fill that is a whole cluster. The fill can only stand at the start of the format string.
 fn take_cluster(format: &[u8], table: &[u32], edition: u32, p: Parsing) -> Parsing
     requires { ⌜ WellFormed (drop (p .at) (now format)) × Rises (now table) ⌝ }
-    ensures { λ r. ⌜ r ≡ clusterTo p (firstEnd edition (propertiesAt (now (table .entry))) (p .at) (chars (drop (p .at) (now (format .entry))))) ⌝ }
+    ensures { λ r. ⌜ r ≡ clusterTo p (firstEnd (propertiesAt (now (table .entry))) edition (p .at) (chars (drop (p .at) (now (format .entry))))) ⌝ }
 {
     let result = p.result;
     let end = cluster::cluster_end(format, table, edition, p.at);
@@ -669,7 +669,7 @@ fn take_cluster(format: &[u8], table: &[u32], edition: u32, p: Parsing) -> Parsi
 // One turn of the loop, for the character c of `len` bytes, which stands at `p.at`.
 fn take_turn(format: &[u8], table: &[u32], edition: u32, p: Parsing, c: u32, len: usize) -> Parsing
     requires { ⌜ Here (now format) (p .at) c len × Rises (now table) ⌝ }
-    ensures { λ r. ⌜ r ≡ turnAt edition (propertiesAt (now (table .entry))) p c (chars (drop (p .at + len) (now (format .entry)))) ⌝ }
+    ensures { λ r. ⌜ r ≡ turnAt (propertiesAt (now (table .entry))) edition p c (chars (drop (p .at + len) (now (format .entry)))) ⌝ }
 {
     let next = p.at + len;
     let peeked = peek(format, next);
@@ -689,7 +689,7 @@ fn take_turn(format: &[u8], table: &[u32], edition: u32, p: Parsing, c: u32, len
 // `StringFormatOptions::parse`, less the pool: the options, how it ends, and the strings to add.
 pub fn read_format(format: &[u8], table: &[u32], edition: u32) -> FormatRead
     requires { ⌜ WellFormed (now format) × (length (now format) ≤ formatMost) × Rises (now table) ⌝ }
-    ensures { λ r. ⌜ r ≡ readFormat edition (propertiesAt (now (table .entry))) (chars (now (format .entry))) ⌝ }
+    ensures { λ r. ⌜ r ≡ readFormat (propertiesAt (now (table .entry))) edition (chars (now (format .entry))) ⌝ }
 {
     let mut p = Parsing::new();
     loop {

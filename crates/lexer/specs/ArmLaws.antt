@@ -209,7 +209,7 @@ module _ (look : ℕ → ℕ) (edition : ℕ) (cs : List ℕ) (l : Lexer) where
   unfolding takeToken
   take-literal e = rw e
 
-  pub take-format : tagOf (l .mode) ≡ 4 → takeToken look edition cs l ≡ consumeFormatOptions edition look cs l
+  pub take-format : tagOf (l .mode) ≡ 4 → takeToken look edition cs l ≡ consumeFormatOptions look edition cs l
   unfolding takeToken
   take-format e = rw e
 

@@ -77,7 +77,7 @@ takeToken look edition cs l =
     pick (eqb tag literal) (inLiteral look (quoteOf delimiter) (nextChar cs) cs l)
     (pick (eqb tag rawStart) (consumeRawStringContents look delimiter cs l)
     (pick (eqb tag rawEnd) (consumeRawStringEnd delimiter l)
-    (pick (eqb tag templateExprFormat) (consumeFormatOptions edition look cs l)
+    (pick (eqb tag templateExprFormat) (consumeFormatOptions look edition cs l)
     (inCode look (nextChar cs) cs l))))
 
 -- ---- what is left

@@ -97,10 +97,10 @@ module _ (l : Lexer) where
   options-token (At end) = on refl refl refl refl refl (λ e. absurd (omega arith))
   options-token Nowhere = still
 
-  options-keeps : (edition : ℕ) (look : ℕ → ℕ) (cs : List ℕ) → Keeps l (consumeFormatOptions edition look cs l)
+  options-keeps : (look : ℕ → ℕ) (edition : ℕ) (cs : List ℕ) → Keeps l (consumeFormatOptions look edition cs l)
   unfolding consumeFormatOptions
-  options-keeps edition look cs =
-      options-token (findBrace (reachOf l .byte .0 + skipBytes edition look cs) (dropBytes (skipBytes edition look cs) cs))
+  options-keeps look edition cs =
+      options-token (findBrace (reachOf l .byte .0 + skipBytes look edition cs) (dropBytes (skipBytes look edition cs) cs))
 
   -- a keyword's kind is none over 80
   keyword-fits : (k : ℕ) → (k ≡ id) ⊎ ((asKind ≤ k) × (k ≤ letKind)) → fits k 0 ≡ true
@@ -159,5 +159,5 @@ module _ (l : Lexer) where
       by-test (Keeps l) (eqb (tagOf (l .mode)) literal) (λ _. in-literal-keeps look (quoteOf (delimiterOf (l .mode))) (nextChar cs) cs)
       (λ _. by-test (Keeps l) (eqb (tagOf (l .mode)) rawStart) (λ _. contents-keeps look (delimiterOf (l .mode)) cs)
       (λ _. by-test (Keeps l) (eqb (tagOf (l .mode)) rawEnd) (λ _. on refl refl refl refl refl (λ e. absurd (omega arith)))
-      (λ _. by-test (Keeps l) (eqb (tagOf (l .mode)) templateExprFormat) (λ _. options-keeps edition look cs)
+      (λ _. by-test (Keeps l) (eqb (tagOf (l .mode)) templateExprFormat) (λ _. options-keeps look edition cs)
       (λ _. code-keeps look (nextChar cs) cs))))

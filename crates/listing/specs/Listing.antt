@@ -1,5 +1,5 @@
--- What the list program answers and writes (document 01, "Scripts and format strings to try"): a scan with the small table, of a source of at most 1,024
--- bytes.
+-- What the list program answers and writes (document 01, "Scripts and format strings to try"): a scan with the small table, of a source of
+-- at most 1,024 bytes.
 -- Assumes nothing.
 use Prim.Native.Nat.{ℕ}
 use mathlib.Core.Path.{_≡_}

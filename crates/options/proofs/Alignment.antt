@@ -45,7 +45,7 @@ pub record Filled (edition : ℕ) (table s : List ℕ) (at fill : ℕ) : Type 0 
   pub fit : FitTable table
   pub within : at ≤ length s
   pub well : WellFormed (drop at s)
-  pub end : fill ≡ firstEnd edition (propertiesAt table) at (chars (drop at s))
+  pub end : fill ≡ firstEnd (propertiesAt table) edition at (chars (drop at s))
 
 module _ {edition : ℕ} {table s : List ℕ} {at fill : ℕ} (f : Filled edition table s at fill) where
   abbrev look : ℕ → ℕ
@@ -54,16 +54,16 @@ module _ {edition : ℕ} {table s : List ℕ} {at fill : ℕ} (f : Filled editio
   abbrev cs : List ℕ
   cs = chars (drop at s)
 
-  pub behind : After s fill (firstRest edition look cs)
-  behind = subst (λ (j : ℕ). After s j (firstRest edition look cs)) (sym (f .end)) (first-at edition look s at (f .within) (f .well))
+  pub behind : After s fill (firstRest look edition cs)
+  behind = subst (λ (j : ℕ). After s j (firstRest look edition cs)) (sym (f .end)) (first-at look edition s at (f .within) (f .well))
 
   -- the first cluster from there on is one byte
   abbrev oneByte : Bool
-  oneByte = eqb (firstEnd edition look fill (chars (drop fill s))) (fill + 1)
+  oneByte = eqb (firstEnd look edition fill (chars (drop fill s))) (fill + 1)
 
-  second-is : (c : ℕ) → 0 < c → c < 128 → propertiesAt smallTable c ≡ plain → secondIs edition look cs c ≡ (eqb (byteAt s fill) c && oneByte)
+  second-is : (c : ℕ) → 0 < c → c < 128 → propertiesAt smallTable c ≡ plain → secondIs look edition cs c ≡ (eqb (byteAt s fill) c && oneByte)
   second-is c h k p =
-      second-by-first edition look cs fill c k (f .fit .ascii c k ∙ p)
+      second-by-first look edition cs fill c k (f .fit .ascii c k ∙ p)
       ∙ rw (← behind .left)
       (ap (λ (t : Bool). t && oneByte) (front-is c (chars (drop fill s)) h ∙ next-is s fill c (behind .well) k))
 
@@ -71,26 +71,26 @@ module _ {edition : ℕ} {table s : List ℕ} {at fill : ℕ} (f : Filled editio
   abbrev pub alignment : Bool
   alignment = eqb (byteAt s fill) less || (eqb (byteAt s fill) caret || eqb (byteAt s fill) greater)
 
-  is-aligned : isAligned edition look cs ≡ (alignment && oneByte)
+  is-aligned : isAligned look edition cs ≡ (alignment && oneByte)
   unfolding isAligned lastFrom smallTable
   is-aligned =
       rw
       (second-is less (omega arith) (omega arith) refl, second-is caret (omega arith) (omega arith) refl, second-is greater (omega arith) (omega arith) refl, share, share)
 
-  skip-none : isAligned edition look cs ≡ false → at ≡ at + skipBytes edition look cs
+  skip-none : isAligned look edition cs ≡ false → at ≡ at + skipBytes look edition cs
   unfolding skipBytes
   skip-none e = rw e (omega arith)
 
-  pub no-alignment : alignment ≡ false → at ≡ at + skipBytes edition look cs
+  pub no-alignment : alignment ≡ false → at ≡ at + skipBytes look edition cs
   no-alignment e = skip-none (is-aligned ∙ and-no alignment oneByte e)
 
   module _ (a : alignment ≡ true) where
-    told : (t : Bool) → oneByte ≡ t → isAligned edition look cs ≡ t
+    told : (t : Bool) → oneByte ≡ t → isAligned look edition cs ≡ t
     told t e = is-aligned ∙ and-yes alignment oneByte t a e
 
-    pub longer : (firstEnd edition look fill (chars (drop fill s)) ≡ fill + 1 → ⊥) → at ≡ at + skipBytes edition look cs
+    pub longer : (firstEnd look edition fill (chars (drop fill s)) ≡ fill + 1 → ⊥) → at ≡ at + skipBytes look edition cs
     longer e = skip-none (told false (ne-eqb _ _ e))
 
-    pub aligned : firstEnd edition look fill (chars (drop fill s)) ≡ fill + 1 → fill + 1 ≡ at + skipBytes edition look cs
+    pub aligned : firstEnd look edition fill (chars (drop fill s)) ≡ fill + 1 → fill + 1 ≡ at + skipBytes look edition cs
     unfolding skipBytes
     aligned e = rw (told true (eq-eqb _ _ e)) (omega (arith, f .end))

@@ -14,7 +14,7 @@ use Rattle.options.specs.declared.Brace.{Brace}
 use Rattle.options.specs.declared.Brace.the-variants.{At, Nowhere}
 
 abbrev found : List ℕ → Brace
-found cs = let skip = skipBytes 2 (propertiesAt smallTable) cs in findBrace (4 + skip) (dropBytes skip cs)
+found cs = let skip = skipBytes (propertiesAt smallTable) 2 cs in findBrace (4 + skip) (dropBytes skip cs)
 
 vectors :
     -- }>'  the brace is the fill

@@ -20,12 +20,12 @@ use Rattle.options.specs.declared.Brace.{Brace}
 use Rattle.options.specs.declared.Brace.the-variants.{At, Nowhere}
 
 -- `Some("<" | "^" | ">")`, of the second cluster
-unfoldable pub isAligned : ℕ → (ℕ → ℕ) → List ℕ → Bool
-isAligned edition look cs = secondIs edition look cs less || (secondIs edition look cs caret || secondIs edition look cs greater)
+unfoldable pub isAligned : (ℕ → ℕ) → ℕ → List ℕ → Bool
+isAligned look edition cs = secondIs look edition cs less || (secondIs look edition cs caret || secondIs look edition cs greater)
 
 -- `skip_bytes`: the bytes of the fill and the alignment, if they are there
-unfoldable pub skipBytes : ℕ → (ℕ → ℕ) → List ℕ → ℕ
-skipBytes edition look cs = pick (isAligned edition look cs) (firstEnd edition look 0 cs + 1) 0
+unfoldable pub skipBytes : (ℕ → ℕ) → ℕ → List ℕ → ℕ
+skipBytes look edition cs = pick (isAligned look edition cs) (firstEnd look edition 0 cs + 1) 0
 
 -- `find('}')`: the byte of the first closing brace, where the characters begin at the byte i
 unfoldable pub findBrace : ℕ → List ℕ → Brace
@@ -39,6 +39,6 @@ optionsToken l (At end) =
 optionsToken l Nowhere = stuckAt l
 
 -- cs are the characters that are left
-unfoldable pub consumeFormatOptions : ℕ → (ℕ → ℕ) → List ℕ → Lexer → Taken
-consumeFormatOptions edition look cs l =
-    optionsToken l (findBrace (reachOf l .byte .0 + skipBytes edition look cs) (dropBytes (skipBytes edition look cs) cs))
+unfoldable pub consumeFormatOptions : (ℕ → ℕ) → ℕ → List ℕ → Lexer → Taken
+consumeFormatOptions look edition cs l =
+    optionsToken l (findBrace (reachOf l .byte .0 + skipBytes look edition cs) (dropBytes (skipBytes look edition cs) cs))

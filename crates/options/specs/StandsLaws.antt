@@ -71,14 +71,14 @@ either : {G : Type 0} (s t : Bool) → (s ≡ true → G) → (t ≡ true → G)
 either true t f g e = f refl
 either false t f g e = g e
 
-module _ (edition : ℕ) (look : ℕ → ℕ) where
+module _ (look : ℕ → ℕ) (edition : ℕ) where
   module _ (cs : List ℕ) where
-    second-ascii : (c : ℕ) → 0 < c → c < 128 → secondIs edition look cs c ≡ true → Ascii (firstRest edition look cs)
+    second-ascii : (c : ℕ) → 0 < c → c < 128 → secondIs look edition cs c ≡ true → Ascii (firstRest look edition cs)
     second-ascii c h k e =
-        let f : getD (firstRest edition look cs) 0 0 ≡ c = eqb-true _ c (and-left _ _ e) in
+        let f : getD (firstRest look edition cs) 0 0 ≡ c = eqb-true _ c (and-left _ _ e) in
         record { some = omega arith; low = omega arith }
 
-    aligned-ascii : isAligned edition look cs ≡ true → Ascii (firstRest edition look cs)
+    aligned-ascii : isAligned look edition cs ≡ true → Ascii (firstRest look edition cs)
     unfolding isAligned
     aligned-ascii =
         either _ _ (second-ascii less (omega arith) (omega arith))
@@ -86,22 +86,22 @@ module _ (edition : ℕ) (look : ℕ → ℕ) where
 
     -- the fill and the alignment, in characters
     abbrev skipChars : ℕ
-    skipChars = pick (isAligned edition look cs) (suc (firstSize edition look cs)) 0
+    skipChars = pick (isAligned look edition cs) (suc (firstSize look edition cs)) 0
 
-    skip-is : skipBytes edition look cs ≡ length (encodeAll (take skipChars cs))
+    skip-is : skipBytes look edition cs ≡ length (encodeAll (take skipChars cs))
     unfolding skipBytes encodeAll
-    skip-is = go (isAligned edition look cs) refl
+    skip-is = go (isAligned look edition cs) refl
       where
         m : ℕ
-        m = firstSize edition look cs
+        m = firstSize look edition cs
 
-        go : (t : Bool) → isAligned edition look cs ≡ t
+        go : (t : Bool) → isAligned look edition cs ≡ t
             → pick t (0 + length (encodeAll (take m cs)) + 1) 0 ≡ length (encodeAll (take (pick t (suc m) 0) cs))
         go true e = omega (arith, one-byte m cs (aligned-ascii e))
         go false e = refl
 
   pub skip-lands : (s : List ℕ) (i : ℕ) → i ≤ length s → WellFormed (drop i s)
-      → After s (i + skipBytes edition look (chars (drop i s))) (dropBytes (skipBytes edition look (chars (drop i s))) (chars (drop i s)))
+      → After s (i + skipBytes look edition (chars (drop i s))) (dropBytes (skipBytes look edition (chars (drop i s))) (chars (drop i s)))
   skip-lands s i h w =
       let cs = chars (drop i s) in
       rw (skip-is cs, drop-encoded (skipChars cs) cs) (after-chars s i h w (skipChars cs))
@@ -156,14 +156,14 @@ pub record Reaches (s : List ℕ) (l : Lexer) (t : Taken) : Type 0 where
   pub on : reachOf l .byte .0 ≤ reachOf (t .lexer) .byte .0
   pub brace : t .change ≡ Pop → byteAt s (reachOf (t .lexer) .byte .0) ≡ curlyClose
 
-module _ (edition : ℕ) (look : ℕ → ℕ) (s : List ℕ) where
+module _ (look : ℕ → ℕ) (edition : ℕ) (s : List ℕ) where
   -- the brace behind a fill and an alignment that begin at i
   abbrev pub braceFrom : ℕ → Brace
-  braceFrom i = let k = i + skipBytes edition look (chars (drop i s)) in findBrace k (chars (drop k s))
+  braceFrom i = let k = i + skipBytes look edition (chars (drop i s)) in findBrace k (chars (drop k s))
 
   pub brace-behind : (i e : ℕ) → i ≤ length s → WellFormed (drop i s) → braceFrom i ≡ At e → Braced s i e
   brace-behind i e h w p =
-      let a = skip-lands edition look s i h w in
+      let a = skip-lands look edition s i h w in
       let b = brace-found s _ e (a .within) (a .well) p in
       record { on = omega (arith, b .on); within = b .within; well = b .well; brace = b .brace }
 
@@ -187,13 +187,13 @@ module _ (edition : ℕ) (look : ℕ → ℕ) (s : List ℕ) where
   stood l o = record { stands = o; on = omega arith; brace = λ e. absurd (let z : _≡_ {A = ℕ} 0 1 = cc in omega arith) }
 
   pub options-by : (l : Lexer) (b : Brace) → Stands s (reachOf l) → b ≡ braceFrom (reachOf l .byte .0)
-      → optionsToken l b ≡ consumeFormatOptions edition look (charsFrom s (reachOf l)) l
+      → optionsToken l b ≡ consumeFormatOptions look edition (charsFrom s (reachOf l)) l
   unfolding consumeFormatOptions
-  options-by l b o e = rw (e, skip-lands edition look s (reachOf l .byte .0) (o .inside) (o .well) .left)
+  options-by l b o e = rw (e, skip-lands look edition s (reachOf l .byte .0) (o .inside) (o .well) .left)
 
-  pub options-stands : (l : Lexer) → Stands s (reachOf l) → Reaches s l (consumeFormatOptions edition look (charsFrom s (reachOf l)) l)
+  pub options-stands : (l : Lexer) → Stands s (reachOf l) → Reaches s l (consumeFormatOptions look edition (charsFrom s (reachOf l)) l)
   options-stands l o = go _ refl
     where
-      go : (b : Brace) → b ≡ braceFrom (reachOf l .byte .0) → Reaches s l (consumeFormatOptions edition look (charsFrom s (reachOf l)) l)
+      go : (b : Brace) → b ≡ braceFrom (reachOf l .byte .0) → Reaches s l (consumeFormatOptions look edition (charsFrom s (reachOf l)) l)
       go (At e) p = rw (← options-by l (At e) o p) (ended l e o (brace-behind (reachOf l .byte .0) e (o .inside) (o .well) (sym p)))
       go Nowhere p = rw (← options-by l Nowhere o p) (stood l o)

@@ -54,7 +54,7 @@ fn is_alignment(b: u32) -> bool
 fn skip_fill(source: &[u8], table: &[u32], edition: u32, at: usize) -> usize
     requires { ⌜ WellFormed (drop at (now source)) × (at ≤ length (now source)) × (length (now source) ≤ sourceMost) ⌝ }
     requires { ⌜ FitTable (now table) ⌝ }
-    ensures { λ r. ⌜ r ≡ at + skipBytes edition (propertiesAt (now (table .entry))) (chars (drop at (now (source .entry)))) ⌝ }
+    ensures { λ r. ⌜ r ≡ at + skipBytes (propertiesAt (now (table .entry))) edition (chars (drop at (now (source .entry)))) ⌝ }
 {
     let fill = cluster::cluster_end(source, table, edition, at);
     if !is_alignment(byte_at(source, fill)) {
@@ -69,7 +69,7 @@ fn skip_fill(source: &[u8], table: &[u32], edition: u32, at: usize) -> usize
 // lexer.rs `consume_format_options`.
 pub fn consume_format_options(source: &[u8], table: &[u32], edition: u32, lexer: Lexer) -> Taken
     requires { ⌜ Stands (now source) (reachOf lexer) × FitTable (now table) ⌝ }
-    ensures { λ r. ⌜ r ≡ consumeFormatOptions edition (propertiesAt (now (table .entry))) (charsFrom (now (source .entry)) (reachOf lexer)) lexer ⌝ }
+    ensures { λ r. ⌜ r ≡ consumeFormatOptions (propertiesAt (now (table .entry))) edition (charsFrom (now (source .entry)) (reachOf lexer)) lexer ⌝ }
 {
     let reach = lexer.reach();
     let at = reach.byte.0;

@@ -1,6 +1,6 @@
--- The public call `parse`: string_format_options.rs `StringFormatOptions::parse` with its pool, in one pass, as the Rust has it. Document 01's
--- refusals 1, 2, 3, 8 come before it, in this order, and write nothing; 10 to 12 are the Rust's errors, and 13 is an addition without room,
--- which ends the parse. Strings added before stay.
+-- The public call `parse`: string_format_options.rs `StringFormatOptions::parse` with its pool, in one pass, as the Rust has it. Document
+-- 01's refusals 1, 2, 3, 8 come before it, in this order, and write nothing; 10 to 12 are the Rust's errors, and 13 is an addition without
+-- room, which ends the parse. Strings added before stay.
 -- Assumes nothing.
 use Prim.Native.Nat.{ℕ}
 use mathlib.Core.Path.{_≡_}
@@ -87,7 +87,7 @@ answerOf options outcome index full = pick full PoolFull (onOutcome outcome opti
 
 -- the parse of a format string, in one pass
 unfoldable pub parsed : List ℕ → List ℕ → Pool → form.OnePass Pool
-parsed format table p = parseWith (λ q part. addTo q (stringOf format part)) baseEdition (propertiesAt table) p (chars format)
+parsed format table p = parseWith (λ q part. addTo q (stringOf format part)) (propertiesAt table) baseEdition p (chars format)
 
 abbrev pub answer : form.OnePass Pool → Parsed
 answer r = answerOf (r .options) (r .outcome) (r .pool .index) (r .pool .full)
@@ -112,7 +112,9 @@ refusedAs (refusal.BadUtf8 i) = BadUtf8 i
 unfoldable pub call : List ℕ → List ℕ → Pool → Comes
 call format table p =
     onInput (λ (x : Refusal). comes (refusedAs x) p) (inputCheck formatMost format table)
-    (pick (fitPool (p .bytes) (p .entries) (p .counts)) (comes (answer (parsed format table p)) (parsed format table p .pool)) (comes BadState p))
+    (pick (fitPool (p .bytes) (p .entries) (p .counts))
+    (comes (answer (parsed format table p)) (parsed format table p .pool))
+    (comes BadState p))
 
 -- what `parse` ensures: its answer, and the counts and every word of both rows after it
 pub record Parses (format table bytes entries : List ℕ) (counts : Counts) (newBytes newEntries : List ℕ) (r : After) : Type 0 where

@@ -175,7 +175,7 @@ pub two-stages : (format table : List ℕ) (p : Pool) → WellFormed format
       pool = addBoth (addPart format addTo) p (readOf format table .added);
     }
 unfolding parsed
-two-stages format table p w = parse-two-stages format addTo again baseEdition (propertiesAt table) p w
+two-stages format table p w = parse-two-stages format addTo again (propertiesAt table) baseEdition p w
 
 -- ---- the call
 

@@ -34,7 +34,7 @@ use Rattle.parse.specs.declared.Parsed.the-variants.{BadState}
 
 -- the reading without a pool
 abbrev pub readOf : List ℕ → List ℕ → FormatRead
-readOf format table = readFormat baseEdition (propertiesAt table) (chars format)
+readOf format table = readFormat (propertiesAt table) baseEdition (chars format)
 
 -- what `read` answers for a pool that is fit or not: refusals 1, 2, 3, 8 in this order, and then the reading
 unfoldable pub inputOf : List ℕ → List ℕ → Bool → FormatInput

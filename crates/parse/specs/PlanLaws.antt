@@ -144,7 +144,7 @@ module _ (format table bytes entries : List ℕ) (counts : Counts) where
   can-by (Refused a) e = record { first = tt; second = tt }
   can-by (Read r) e =
       let s : Reads format table fit r = reads format table e in
-      let both = subst (λ (x : FormatRead). AddedIn format (x .added)) (sym (s .is)) (added-in format baseEdition (propertiesAt table) (s .well)) in
+      let both = subst (λ (x : FormatRead). AddedIn format (x .added)) (sym (s .is)) (added-in format (propertiesAt table) baseEdition (s .well)) in
       record { first = can (r .added .first) (both .first) (s .is-fit); second = can (r .added .second) (both .second) (s .is-fit) }
     where
       can : (fill : Fill) → FillIn format fill → fit ≡ true → CanAdd format (lent bytes entries counts) fill

@@ -83,8 +83,10 @@ pub record AddsString (string : List ℕ) (counts : Counts) (bytes entries newBy
   pub bytes-left : newBytes ≡ bytesAfter string counts (added string bytes entries counts) bytes
   pub entries-left : newEntries ≡ entriesAfter string counts (added string bytes entries counts) entries
 
--- a pool after an addition: it is fit, its strings are those before with this one at their end where it was absent, and the index is its own
-pub record Grown (string bytes entries : List ℕ) (counts : Counts) (newBytes newEntries : List ℕ) (index : ℕ) (after : Counts) : Type 0 where
+-- a pool after an addition: it is fit, its strings are those before with this one at their end where it was absent, and the index is its
+-- own
+pub record Grown (string bytes entries : List ℕ) (counts : Counts) (newBytes newEntries : List ℕ) (index : ℕ) (after : Counts)
+    : Type 0 where
   pub fit : fitPool newBytes newEntries after ≡ true
   pub strings : stringsOf newBytes newEntries (after .entries) ≡ withString string (stringsOf bytes entries (counts .entries))
   pub index-is : index ≡ indexOf string (stringsOf bytes entries (counts .entries))

@@ -1,6 +1,6 @@
--- Document 01, "Format options and pool": the rows of koto's constant pool, lent by the caller. The bytes of its strings stand end to end in
--- one row, and two numbers for each string in the other, where it starts and how long it is. Two counts say how much of each row is in use. An
--- index stands for a string, as in the Rust's `constants`.
+-- Document 01, "Format options and pool": the rows of koto's constant pool, lent by the caller. The bytes of its strings stand end to end
+-- in one row, and two numbers for each string in the other, where it starts and how long it is. Two counts say how much of each row is in
+-- use. An index stands for a string, as in the Rust's `constants`.
 -- Assumes nothing.
 use Prim.Native.Nat.{ℕ, zero, suc, _+_, _*_, _/_, _<_, _≤_}
 use mathlib.Core.List.{List, [], _∷_, _++_}

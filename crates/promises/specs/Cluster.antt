@@ -32,5 +32,5 @@ pub record FirstClusterPromise (source table : List ℕ) (r : Cluster) : Type 0 
   pub no-bytes : source ≡ [] → tableCheck table ≡ Fit → (clusterSays r ≡ says none 0) × (lenOf r ≡ 0)
   pub cluster :
       length source ≤ sourceMost → tableCheck table ≡ Fit → WellFormed source → (n : ℕ)
-      → Shortest baseEdition (propertiesAt table) (chars source) n
+      → Shortest (propertiesAt table) baseEdition (chars source) n
       → (clusterSays r ≡ says none 0) × (lenOf r ≡ length (encodeAll (take n (chars source))))

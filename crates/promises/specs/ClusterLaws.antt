@@ -25,16 +25,16 @@ use Rattle.promises.specs.Cluster.{FirstClusterEnsures, clusterSays, Fir
 
 module _ (source table : List ℕ) where
   -- the one shortest beginning is the one that is computed
-  sized : (cs : List ℕ) (n : ℕ) → Shortest baseEdition (propertiesAt table) cs n → firstSize baseEdition (propertiesAt table) cs ≡ n
+  sized : (cs : List ℕ) (n : ℕ) → Shortest (propertiesAt table) baseEdition cs n → firstSize (propertiesAt table) baseEdition cs ≡ n
   sized [] n w = absurd (omega (arith, w .some, w .within))
   sized (c ∷ cs) n w =
-      one-shortest baseEdition (propertiesAt table) (c ∷ cs) _ n (first-is-shortest baseEdition (propertiesAt table) c cs) w
+      one-shortest (propertiesAt table) baseEdition (c ∷ cs) _ n (first-is-shortest (propertiesAt table) baseEdition c cs) w
 
   first : length source ≤ sourceMost → tableCheck table ≡ Fit → WellFormed source → (n : ℕ)
-      → Shortest baseEdition (propertiesAt table) (chars source) n
+      → Shortest (propertiesAt table) baseEdition (chars source) n
       → firstCluster source table ≡ answer.Length (length (encodeAll (take n (chars source))))
   first h e w n s =
-      let q : firstEnd baseEdition (propertiesAt table) 0 (chars source) ≡ length (encodeAll (take n (chars source))) =
+      let q : firstEnd (propertiesAt table) baseEdition 0 (chars source) ≡ length (encodeAll (take n (chars source))) =
       omega (arith, ap (λ (k : ℕ). length (encodeAll (take k (chars source)))) (sized (chars source) n s))
       in
       unrefused source table (record { short = h; fit = e; well = w }) ∙ ap answer.Length q

@@ -48,7 +48,8 @@ pub record ParsePromise (format table bytes entries : List ℕ) (counts : Counts
   pub fine :
       Parsable format table bytes entries counts → parsed format table (lent bytes entries counts) .pool .full ≡ false
       → parsed format table (lent bytes entries counts) .outcome ≡ Fine
-      → r .answer ≡ Read (parsed format table (lent bytes entries counts) .options) (parsed format table (lent bytes entries counts) .pool .index)
+      → r .answer
+      ≡ Read (parsed format table (lent bytes entries counts) .options) (parsed format table (lent bytes entries counts) .pool .index)
   pub no-number :
       Parsable format table bytes entries counts → parsed format table (lent bytes entries counts) .pool .full ≡ false → (c : ℕ)
       → parsed format table (lent bytes entries counts) .outcome ≡ ExpectedNumber c → parseSays r ≡ says expectedNumber c

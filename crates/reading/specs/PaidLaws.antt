@@ -111,12 +111,12 @@ module _ (s : List ℕ) (l : Lexer) where
 
   -- empty format options end at the closing brace, which the template then owes for
   options-paid : (look : ℕ → ℕ) (edition : ℕ) → Stands s (reachOf l) → tagOf (l .mode) ≡ templateExprFormat
-      → Paid (consumeFormatOptions edition look (charsFrom s (reachOf l)) l)
+      → Paid (consumeFormatOptions look edition (charsFrom s (reachOf l)) l)
   unfolding consumeFormatOptions
   options-paid look edition o e =
       let cs = charsFrom s (reachOf l) in
-      go (findBrace (reachOf l .byte .0 + skipBytes edition look cs) (dropBytes (skipBytes edition look cs) cs))
-      (options-stands edition look s l o .brace)
+      go (findBrace (reachOf l .byte .0 + skipBytes look edition cs) (dropBytes (skipBytes look edition cs) cs))
+      (options-stands look edition s l o .brace)
     where
       go : (b : Brace) → (optionsToken l b .change ≡ Pop → byteAt s (reachOf (optionsToken l b .lexer) .byte .0) ≡ curlyClose)
           → Paid (optionsToken l b)

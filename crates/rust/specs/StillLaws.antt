@@ -116,10 +116,10 @@ module _ (l : Lexer) where
   options-token (At end) = Other (λ e. omega arith)
   options-token Nowhere = still
 
-  options-again : (edition : ℕ) (look : ℕ → ℕ) (cs : List ℕ) → Again l (consumeFormatOptions edition look cs l) (consumeFormatOptions edition look cs m)
+  options-again : (look : ℕ → ℕ) (edition : ℕ) (cs : List ℕ) → Again l (consumeFormatOptions look edition cs l) (consumeFormatOptions look edition cs m)
   unfolding consumeFormatOptions
-  options-again edition look cs =
-      options-token (findBrace (reachOf l .byte .0 + skipBytes edition look cs) (dropBytes (skipBytes edition look cs) cs))
+  options-again look edition cs =
+      options-token (findBrace (reachOf l .byte .0 + skipBytes look edition cs) (dropBytes (skipBytes look edition cs) cs))
 
   -- ---- a name is no Error
 
@@ -182,7 +182,7 @@ module _ (l : Lexer) where
       by-both (Again l) (eqb (tagOf (l .mode)) literal) (in-literal-again look (quoteOf (delimiterOf (l .mode))) (nextChar cs) cs)
       (by-both (Again l) (eqb (tagOf (l .mode)) rawStart) (contents-again look (delimiterOf (l .mode)) cs)
       (by-both (Again l) (eqb (tagOf (l .mode)) rawEnd) (Other (λ e. omega arith))
-      (by-both (Again l) (eqb (tagOf (l .mode)) templateExprFormat) (options-again edition look cs)
+      (by-both (Again l) (eqb (tagOf (l .mode)) templateExprFormat) (options-again look edition cs)
       (code-again look (nextChar cs) cs))))
 
 -- ---- the machine

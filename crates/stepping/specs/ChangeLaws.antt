@@ -171,6 +171,6 @@ module _ (s : List ℕ) (l : Lexer) where
       (λ _. by-test Changes (eqb (tagOf (l .mode)) rawEnd) (λ _. tt)
       (λ r. by-test Changes (eqb (tagOf (l .mode)) templateExprFormat)
       (λ _. options-token (eqb-false (tagOf (l .mode)) rawEnd r)
-      (findBrace (reachOf l .byte .0 + skipBytes edition look (charsFrom s (reachOf l)))
-      (dropBytes (skipBytes edition look (charsFrom s (reachOf l))) (charsFrom s (reachOf l)))))
+      (findBrace (reachOf l .byte .0 + skipBytes look edition (charsFrom s (reachOf l)))
+      (dropBytes (skipBytes look edition (charsFrom s (reachOf l))) (charsFrom s (reachOf l)))))
       (λ _. code-changes (eqb-false (tagOf (l .mode)) rawEnd r) look (nextChar (charsFrom s (reachOf l))) (charsFrom s (reachOf l))))))

@@ -257,5 +257,5 @@ module _ (l : Lexer) where
       (λ _. by-test (Falls l) (eqb (tagOf (l .mode)) rawEnd) (λ _. On (omega arith))
       (λ _. by-test (Falls l) (eqb (tagOf (l .mode)) templateExprFormat)
       (λ e. options-token (λ z. omega (arith, eqb-true (tagOf (l .mode)) templateExprFormat e))
-      (findBrace (reachOf l .byte .0 + skipBytes edition look (c ∷ cs)) (dropBytes (skipBytes edition look (c ∷ cs)) (c ∷ cs))))
+      (findBrace (reachOf l .byte .0 + skipBytes look edition (c ∷ cs)) (dropBytes (skipBytes look edition (c ∷ cs)) (c ∷ cs))))
       (λ _. code-falls look c cs))))

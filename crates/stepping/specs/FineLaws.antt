@@ -247,5 +247,5 @@ module _ (s : List ℕ) (l : Lexer) (o : Stands s (reachOf l)) (h : reachOf l .b
       (λ _. by-test (Goes s l) (eqb (tagOf (l .mode)) rawEnd)
       (λ e. steps-go (end-steps s l o (delimiterOf (l .mode)) (marked (eqb-true (tagOf (l .mode)) rawEnd e))))
       (λ _. by-test (Goes s l) (eqb (tagOf (l .mode)) templateExprFormat)
-      (λ _. let r = options-stands edition (propertiesAt table) s l o in stands-go (r .stands) (r .on))
+      (λ _. let r = options-stands (propertiesAt table) edition s l o in stands-go (r .stands) (r .on))
       (λ _. in-code-goes table fit))))

@@ -22,7 +22,7 @@ use Rattle.cluster.proofs.cluster_end.Statement.{statement}
 use Rattle.cluster.proofs.cluster_end.Tie as tie
 
 abbrev Inv-loop : tie.InvT-loop
-Inv-loop source table edition at code len left₀ i₀ left i = Past edition (propertiesAt table) source at left i
+Inv-loop source table edition at code len left₀ i₀ left i = Past (propertiesAt table) edition source at left i
 
 abbrev μ-loop : tie.MeasureT-loop
 μ-loop source table edition at code len left₀ i₀ left i = length source - i

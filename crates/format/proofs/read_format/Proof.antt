@@ -19,7 +19,7 @@ use Rattle.format.proofs.read_format.Statement.{statement}
 use Rattle.format.proofs.read_format.Tie as tie
 
 abbrev Inv-loop : tie.InvT-loop
-Inv-loop format table edition p₀ p = Going edition (propertiesAt table) format p
+Inv-loop format table edition p₀ p = Going (propertiesAt table) edition format p
 
 abbrev μ-loop : tie.MeasureT-loop
 μ-loop format table edition p₀ p = length format - p .at
