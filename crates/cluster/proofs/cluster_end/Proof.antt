@@ -93,7 +93,7 @@ returns c =
     let at = b .args .at in
     split-lt at (length s)
     (λ h. absurd (never-stops s at (b .pre .0) h (subst Stops (c .before .read-char .ensures) (stopped (c .before .read-char .result) (c .match .keys2)))))
-    (λ h. sym (nothing (b .args .edition) (propertiesAt (now (b .args .table))) s at h))
+    (λ h. sym (nothing (propertiesAt (now (b .args .table))) (b .args .edition) s at h))
 
 new-requires : tie.Need-new-requires Inv-loop μ-loop
 new-requires c κs = search needs
@@ -110,7 +110,7 @@ add-i c = omega (arith, here₀ c)
 loop-holds : tie.Need-loop-holds Inv-loop μ-loop
 loop-holds c =
     rw (c .pass .ensures, c .before .lookup .ensures, c .before .before .new .ensures)
-    (first (start c .args .edition) (look c) (src c) _ _ _ (start c .pre .0) (found₀ c))
+    (first (look c) (start c .args .edition) (src c) _ _ _ (start c .pre .0) (found₀ c))
 
 read-char-requires-2 : tie.Need-read-char-requires-2 Inv-loop μ-loop
 read-char-requires-2 c κs = search needs

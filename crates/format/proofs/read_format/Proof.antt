@@ -53,14 +53,14 @@ found : (t : Taken) → readAt (src t) (loop t .loop .p .at) ≡ Char (code t) (
 found t = sym (read t .read-char .ensures) ∙ t .before .before .before .code .given .1
 
 after : (t : Taken) (y : Bool) → t .is-fine .result ≡ y
-    → Turned (start t .args .edition) (look t) (src t) _ (loop t .loop .inv) _ _ (found t) y (t .before .take-turn .result)
-after t y e = turned _ (look t) (src t) _ (loop t .loop .inv) _ _ (found t) _ y (t .before .take-turn .ensures) (sym (t .is-fine .ensures) ∙ e)
+    → Turned (look t) (start t .args .edition) (src t) _ (loop t .loop .inv) _ _ (found t) y (t .before .take-turn .result)
+after t y e = turned (look t) _ (src t) _ (loop t .loop .inv) _ _ (found t) _ y (t .before .take-turn .ensures) (sym (t .is-fine .ensures) ∙ e)
 
 new-requires : tie.Need-new-requires Inv-loop μ-loop
 new-requires c κs = search needs
 
 loop-holds : tie.Need-loop-holds Inv-loop μ-loop
-loop-holds c = let s = c .before .before .before in rw (c .new .ensures) (begins _ (propertiesAt (now (s .args .table))) _ (s .pre .0) (s .pre .1))
+loop-holds c = let s = c .before .before .before in rw (c .new .ensures) (begins (propertiesAt (now (s .args .table))) _ _ (s .pre .0) (s .pre .1))
 
 read-char-requires : tie.Need-read-char-requires Inv-loop μ-loop
 read-char-requires c κs = search needs

@@ -18,7 +18,7 @@ use Rattle.format.proofs.take_turn.Statement.{statement}
 use Rattle.format.proofs.take_turn.Tie as tie
 
 within : (b : tie.Start) → b .args .p .at + b .args .len ≤ formatMost
-within b = next-within (b .args .edition) (propertiesAt (now (b .args .table))) _ (b .args .p) _ _ (b .pre .0)
+within b = next-within (propertiesAt (now (b .args .table))) (b .args .edition) _ (b .args .p) _ _ (b .pre .0)
 
 -- the arm is chosen
 abbrev Chosen : Type 0
@@ -87,7 +87,7 @@ add-take-precision c = let a = c .before .before in omega (arith, within (start 
 take-precision-requires : tie.Need-take-precision-requires
 take-precision-requires c κs =
     let a = c .before .before in
-    (here a .small, dot-within (start a .args .edition) (look a) (src a) (start a .args .p) _ _ (here a) (chosen a arm.Precision (c .enum-told5 .given .1)))
+    (here a .small, dot-within (look a) (start a .args .edition) (src a) (start a .args .p) _ _ (here a) (chosen a arm.Precision (c .enum-told5 .given .1)))
 
 enum-known-representation : tie.Need-enum-known-representation
 enum-known-representation c = search needs
@@ -110,42 +110,42 @@ fail-requires c κs = search needs
 returns : tie.Need-returns
 returns c =
     let a = c .before .before .before in
-    rw (c .fill-sign .ensures, seen a) (turn-fill-sign _ (look a) (src a) _ _ _ (here a) (chosen a arm.FillSign (c .before .enum-told .given .1)))
+    rw (c .fill-sign .ensures, seen a) (turn-fill-sign (look a) _ (src a) _ _ _ (here a) (chosen a arm.FillSign (c .before .enum-told .given .1)))
 
 returns-2 : tie.Need-returns-2
 returns-2 c =
     let a = c .before .before .before in
-    rw (c .align .ensures) (turn-align _ (look a) (src a) _ _ _ (here a) (chosen a arm.Align (c .before .enum-told2 .given .1)))
+    rw (c .align .ensures) (turn-align (look a) _ (src a) _ _ _ (here a) (chosen a arm.Align (c .before .enum-told2 .given .1)))
 
 returns-3 : tie.Need-returns-3
 returns-3 c =
     let a = c .before .before .before in
-    rw (c .go-filled .ensures) (turn-zero-fill _ (look a) (src a) _ _ _ (here a) (chosen a arm.ZeroFill (c .before .enum-told3 .given .1)))
+    rw (c .go-filled .ensures) (turn-zero-fill (look a) _ (src a) _ _ _ (here a) (chosen a arm.ZeroFill (c .before .enum-told3 .given .1)))
 
 returns-4 : tie.Need-returns-4
 returns-4 c =
     let a = c .before .before .before in
-    c .take-width .ensures ∙ turn-width _ (look a) (src a) _ _ _ (here a) (chosen a arm.MinWidth (c .before .enum-told4 .given .1))
+    c .take-width .ensures ∙ turn-width (look a) _ (src a) _ _ _ (here a) (chosen a arm.MinWidth (c .before .enum-told4 .given .1))
 
 returns-5 : tie.Need-returns-5
 returns-5 c =
     let a = c .before .before .before in
-    rw (c .take-precision .ensures, seen a) (turn-precision _ (look a) (src a) _ _ _ (here a) (chosen a arm.Precision (c .before .enum-told5 .given .1)))
+    rw (c .take-precision .ensures, seen a) (turn-precision (look a) _ (src a) _ _ _ (here a) (chosen a arm.Precision (c .before .enum-told5 .given .1)))
 
 returns-6 : tie.Need-returns-6
 returns-6 c =
     let a = c .before .before .before .before in
-    rw (c .represent .ensures) (turn-represent _ (look a) (src a) _ _ _ (here a) _ (chosen a (arm.Represent _) (c .before .before .representation .given .1)))
+    rw (c .represent .ensures) (turn-represent (look a) _ (src a) _ _ _ (here a) _ (chosen a (arm.Represent _) (c .before .before .representation .given .1)))
 
 returns-7 : tie.Need-returns-7
 returns-7 c =
     let a = c .before .before .before in
-    rw (c .take-cluster .ensures) (turn-cluster _ (look a) (src a) _ _ _ (here a) (chosen a arm.FillCluster (c .before .enum-told6 .given .1)))
+    rw (c .take-cluster .ensures) (turn-cluster (look a) _ (src a) _ _ _ (here a) (chosen a arm.FillCluster (c .before .enum-told6 .given .1)))
 
 returns-8 : tie.Need-returns-8
 returns-8 c =
     let a = c .before .before .before in
-    c .fail .ensures ∙ turn-unexpected _ (look a) (src a) _ _ _ (here a) (chosen a arm.Unexpected (c .before .enum-told7 .given .1))
+    c .fail .ensures ∙ turn-unexpected (look a) _ (src a) _ _ _ (here a) (chosen a arm.Unexpected (c .before .enum-told7 .given .1))
 
 pub take-turn-spec : {M : Type 1} → statement M
 take-turn-spec =

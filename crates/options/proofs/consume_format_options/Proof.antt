@@ -38,14 +38,14 @@ reach k = reachOf (start k .args .lexer)
 abbrev stands : (k : Skipped) → Stands (src k) (reach k)
 stands k = start k .pre .0
 
-begins : (k : Skipped) → k .skip-fill .result ≡ reach k .byte .0 + skipBytes (start k .args .edition) (look k) (charsFrom (src k) (reach k))
+begins : (k : Skipped) → k .skip-fill .result ≡ reach k .byte .0 + skipBytes (look k) (start k .args .edition) (charsFrom (src k) (reach k))
 begins k =
     k .skip-fill .ensures
-    ∙ ap (λ (r : Reach). r .byte .0 + skipBytes (start k .args .edition) (look k) (charsFrom (src k) r)) (k .before .reach .ensures)
+    ∙ ap (λ (r : Reach). r .byte .0 + skipBytes (look k) (start k .args .edition) (charsFrom (src k) r)) (k .before .reach .ensures)
 
 -- the brace that is found from there on
 answer : (f : tie.After-find-brace) (b : Brace) → f .find-brace .result ≡ b
-    → b ≡ (let k = f .before in braceFrom (start k .args .edition) (look k) (src k) (reach k .byte .0))
+    → b ≡ (let k = f .before in braceFrom (look k) (start k .args .edition) (src k) (reach k .byte .0))
 answer f b e =
     sym e
     ∙ f .find-brace .ensures
@@ -56,7 +56,7 @@ braced : (e : tie.After-end) → (let k = e .before .before .before in Braced (s
 braced e =
     let f = e .before .before in
     let k = f .before in
-    brace-behind (start k .args .edition) (look k) (src k) _ _ (stands k .inside) (stands k .well) (sym (answer f (At (e .end .given .0 .0)) (e .end .given .1)))
+    brace-behind (look k) (start k .args .edition) (src k) _ _ (stands k .inside) (stands k .well) (sym (answer f (At (e .end .given .0 .0)) (e .end .given .1)))
 
 reach-requires : tie.Need-reach-requires
 reach-requires c κs = search needs
@@ -68,7 +68,7 @@ skip-fill-requires c κs =
 
 find-brace-requires : tie.Need-find-brace-requires
 find-brace-requires c κs =
-    rw (begins c) (skip-lands (start c .args .edition) (look c) (src c) _ (stands c .inside) (stands c .well) .well)
+    rw (begins c) (skip-lands (look c) (start c .args .edition) (src c) _ (stands c .inside) (stands c .well) .well)
 
 enum-known-end : tie.Need-enum-known-end
 enum-known-end c = search needs
@@ -84,7 +84,7 @@ returns c =
     let f = c .before .before .before in
     let k = f .before in
     c .stuck .ensures
-    ∙ options-by (start k .args .edition) (look k) (src k) (start k .args .lexer) Nowhere (stands k) (answer f Nowhere (c .before .enum-told .given .1))
+    ∙ options-by (look k) (start k .args .edition) (src k) (start k .args .lexer) Nowhere (stands k) (answer f Nowhere (c .before .enum-told .given .1))
 
 token-of-requires : tie.Need-token-of-requires
 token-of-requires c κs = search needs
@@ -103,7 +103,7 @@ returns-2 c =
     let f = e .before .before in
     let k = f .before in
     rw (c .advance-line .ensures, c .before .token-of .ensures, k .before .reach .ensures)
-    (options-by (start k .args .edition) (look k) (src k) (start k .args .lexer) (At (e .end .given .0 .0)) (stands k)
+    (options-by (look k) (start k .args .edition) (src k) (start k .args .lexer) (At (e .end .given .0 .0)) (stands k)
     (answer f (At (e .end .given .0 .0)) (e .end .given .1)))
 
 pub consume-format-options-spec : {M : Type 1} → statement M
