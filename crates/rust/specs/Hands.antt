@@ -30,11 +30,14 @@ module _ (look : ℕ → ℕ) (edition : ℕ) (s : List ℕ) where
 
   -- the calls of the machine from x on, and a reading
   pub record Hands (r : Reading) (x : TokenLexer) : Type 0 where
+    -- each record is what its call answers
     pub each : (i : ℕ) → i < length (r .rows) → handed look edition s i x ≡ get (r .rows) i
-    -- a token that stands still is the last
+    -- an Error that stands still is the last
     pub goes : (i : ℕ) → i < length (r .rows) → StandsStill look edition s (stateAt look edition s i x)
         → (r .stop ≡ stop.stuck) × (suc i ≡ length (r .rows))
+    -- up to the last record there are at most 64 modes
     pub room : (i : ℕ) → i ≤ length (r .rows) → length (stateAt look edition s i x .«string_mode_stack») ≤ modesMost
+    -- from there on: None for ever, or the last record for ever, or a token that pushes a 65th mode
     pub ended : r .stop ≡ stop.ended → (i : ℕ) → length (r .rows) ≤ i → handed look edition s i x ≡ none
     pub stuck : r .stop ≡ stop.stuck → Sticks (r .rows) x
     pub deep : r .stop ≡ stop.deep → Overflows (length (r .rows)) x
