@@ -1,4 +1,4 @@
--- Document 01, "Refusal numbers": each number once, under its name. 0 is no refusal.
+-- Document 01, "Refusal numbers", and those of document 02: each number once, under its name. 0 is no refusal.
 -- An answer enum's own definition (`numberOf`, `placeOf` beside the enum) says which of these each of its cases is.
 -- Assumes nothing.
 use Prim.Native.Nat.{ℕ}
@@ -48,6 +48,27 @@ poolFull = 13
 
 abbrev pub badFile : ℕ
 badFile = 14
+
+abbrev pub cutUtf8 : ℕ
+cutUtf8 = 15
+
+abbrev pub badEdit : ℕ
+badEdit = 16
+
+abbrev pub badEdition : ℕ
+badEdition = 17
+
+abbrev pub noSuchFormat : ℕ
+noSuchFormat = 18
+
+abbrev pub noRoom : ℕ
+noRoom = 19
+
+abbrev pub badMark : ℕ
+badMark = 20
+
+abbrev pub notInProfile : ℕ
+notInProfile = 21
 
 -- ---- the lengths beyond which refusal 1 is given
 
