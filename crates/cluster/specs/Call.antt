@@ -1,4 +1,4 @@
--- The public call `first_cluster`: its answer, refusals too, in document 01's order: 1 as a source, 2, 3. No bytes give length 0.
+-- The public call `first_cluster`: its answer, refusals too, in the documents' order: 1 as a source, 2, 3 or 15. No bytes give length 0.
 -- Assumes nothing.
 use Prim.Native.Nat.{ℕ}
 use mathlib.Core.List.{List}
@@ -16,7 +16,7 @@ unfoldable pub firstCluster : List ℕ → List ℕ → Cluster
 firstCluster source table =
     onInput Refused (inputCheck sourceMost source table) (Length (firstEnd (propertiesAt table) baseEdition 0 (chars source)))
 
--- ---- document 01's numbers of an answer
+-- ---- the documents' numbers of an answer
 
 abbrev pub numberOf : Cluster → ℕ
 numberOf (Length n) = none

@@ -1,4 +1,4 @@
-// Document 01's numbers of what `first_cluster` answers, for whoever prints it or hands it on.
+// The documents' numbers of what `first_cluster` answers, for whoever prints it or hands it on.
 ghost use mathlib.Core.Path.{_≡_};
 ghost use Rattle.cluster.specs.Call.{numberOf, placeOf, lenOf};
 use crate::Cluster;

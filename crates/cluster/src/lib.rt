@@ -45,7 +45,7 @@ pub fn cluster_end(source: &[u8], table: &[u32], edition: u32, at: usize) -> usi
 }
 
 // The length in bytes of the first cluster of a source; no bytes give 0. Refused are a source that is too long, then a table that is unfit,
-// with the place of its fault, then bytes that are ill-formed, wrong or cut, with their offset.
+// with the place of its fault, then bytes that are wrong or cut, with their offset.
 pub fn first_cluster(source: &[u8], table: &[u32]) -> Cluster
     ensures { λ r. ⌜ r ≡ firstCluster (now (source .entry)) (now (table .entry)) ⌝ }
 {

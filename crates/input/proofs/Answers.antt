@@ -9,7 +9,7 @@ use Rattle.utf8.specs.declared.Utf8Check.the-variants as utf8
 use Rattle.fitness.specs.declared.TableCheck.{TableCheck}
 use Rattle.fitness.specs.declared.TableCheck.the-variants as fitness
 use Rattle.input.specs.Input.{onTable, onUtf8}
-use Rattle.input.specs.declared.Refusal.the-variants.{BadTable, BadUtf8}
+use Rattle.input.specs.declared.Refusal.the-variants.{BadTable, BadUtf8, CutUtf8}
 use Rattle.input.specs.declared.Input.{Input}
 use Rattle.input.specs.declared.Input.the-variants.{Fine, Refused}
 
@@ -27,7 +27,7 @@ on-fine r a e f = let h : a ≡ utf8.Fine = sym e ∙ f in rw h
 pub on-bad : (r a : Utf8Check) (i : ℕ) → r ≡ a → r ≡ utf8.BadAt i → onUtf8 a ≡ Refused (BadUtf8 i)
 on-bad r a i e f = let h : a ≡ utf8.BadAt i = sym e ∙ f in rw h
 
-pub on-cut : (r a : Utf8Check) (i : ℕ) → r ≡ a → r ≡ utf8.CutAt i → onUtf8 a ≡ Refused (BadUtf8 i)
+pub on-cut : (r a : Utf8Check) (i : ℕ) → r ≡ a → r ≡ utf8.CutAt i → onUtf8 a ≡ Refused (CutUtf8 i)
 on-cut r a i e f = let h : a ≡ utf8.CutAt i = sym e ∙ f in rw h
 
 pub ruleset answers = (cases, on-fit, on-unfit, on-fine, on-bad, on-cut)

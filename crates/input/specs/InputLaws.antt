@@ -1,30 +1,34 @@
 -- Laws of `inputCheck`, for the calls that ask it and for their promises.
---     is-long, is-table, is-ill    each refusal, exactly where it is given
---     is-fine, fine-of             no refusal, exactly of what is readable
---     by-input                     what holds of every answer that carries a refusal, and of r, holds of what the checks make of r
+--     is-long, is-table, is-bad, is-cut    each refusal, where it is given
+--     bad-of, cut-of                       3 and 15 are given nowhere else
+--     is-fine, fine-of                     no refusal, exactly of what is readable
+--     by-check                             all of these at once
+--     only-bad, only-cut                   the same of an answer that carries a refusal
+--     by-input                             what holds of every answer that carries a refusal, and of r, holds of what the checks make of r
 -- Assumes nothing.
 use Prim.Native.Nat.{ℕ, _<_, _≤_}
 use native.Mathlib.Omega.{arith}
-use mathlib.Core.Path.{_≡_, refl, sym, ap}
+use mathlib.Core.Path.{_≡_, refl, sym, ap, subst, _∙_}
 use mathlib.Core.Bool.{Bool, true, false}
 use mathlib.Core.List.{List}
 use lib.Dec.{ltb}
 use lib.ListN.{length}
-use borrow.Author.Tests.{lt-ltb, le-ltb, ltb-false}
+use borrow.Author.Tests.{lt-ltb, le-ltb, ltb-true, ltb-false}
 use Rattle.base.specs.Pick.{pick}
+use Rattle.base.specs.Refusal.{none, badUtf8, cutUtf8}
 use Rattle.utf8.specs.Encode.{WellFormed}
 use Rattle.utf8.specs.Chars.{checkFrom}
 use Rattle.utf8.specs.CharsLaws.{fine-of-well, well-of-fine}
-use Rattle.utf8.specs.Meaning.{Longest}
-use Rattle.utf8.specs.MeaningLaws.{check-is, ill-formed}
+use Rattle.utf8.specs.Meaning.{Arriving, Damaged}
+use Rattle.utf8.specs.MeaningLaws.{check-is, is-check}
 use Rattle.utf8.specs.declared.Utf8Check.{Utf8Check}
 use Rattle.utf8.specs.declared.Utf8Check.the-variants as utf8
 use Rattle.fitness.specs.Fit.{tableCheck}
 use Rattle.fitness.specs.declared.TableCheck.{TableCheck}
 use Rattle.fitness.specs.declared.TableCheck.the-variants as fitness
-use Rattle.input.specs.Input.{onTable, onUtf8, inputCheck, Readable, onInput}
+use Rattle.input.specs.Input.{onTable, onUtf8, inputCheck, Readable, onInput, numberOf, placeOf}
 use Rattle.input.specs.declared.Refusal.{Refusal}
-use Rattle.input.specs.declared.Refusal.the-variants.{TooLong, BadTable, BadUtf8}
+use Rattle.input.specs.declared.Refusal.the-variants.{TooLong, BadTable, BadUtf8, CutUtf8}
 use Rattle.input.specs.declared.Input.{Input}
 use Rattle.input.specs.declared.Input.the-variants.{Fine, Refused}
 
@@ -38,29 +42,85 @@ module _ (most : ℕ) (bytes table : List ℕ) where
     unfolding inputCheck
     is-table i e = rw (le-ltb most (length bytes) h, e)
 
-    -- wrong bytes and cut ones alike
-    pub is-ill : tableCheck table ≡ fitness.Fit → (n : ℕ) → Longest bytes n → inputCheck most bytes table ≡ Refused (BadUtf8 n)
+    pub is-bad : tableCheck table ≡ fitness.Fit → (n : ℕ) → Damaged bytes n → inputCheck most bytes table ≡ Refused (BadUtf8 n)
     unfolding inputCheck
-    is-ill e n l =
-        rw (le-ltb most (length bytes) h, e)
-        (ill-formed bytes n (λ (r : Utf8Check). onUtf8 r ≡ Refused (BadUtf8 n)) (checkFrom 0 bytes) l
-        (check-is bytes (checkFrom 0 bytes) refl) refl refl)
+    is-bad e n w = rw (le-ltb most (length bytes) h, e, is-check bytes (utf8.BadAt n) w)
+
+    pub is-cut : tableCheck table ≡ fitness.Fit → (n : ℕ) → Arriving bytes n → inputCheck most bytes table ≡ Refused (CutUtf8 n)
+    unfolding inputCheck
+    is-cut e n w = rw (le-ltb most (length bytes) h, e, is-check bytes (utf8.CutAt n) w)
 
   pub is-fine : Readable most bytes table → inputCheck most bytes table ≡ Fine
   unfolding inputCheck
   is-fine g = rw (le-ltb most (length bytes) (g .short), g .fit, fine-of-well 0 bytes (g .well))
 
-  pub fine-of : inputCheck most bytes table ≡ Fine → Readable most bytes table
+  -- what holds of each answer where it is given holds of the answer
+  pub by-check : (P : Input → Type 0) → (most < length bytes → P (Refused TooLong))
+      → (length bytes ≤ most → (i : ℕ) → tableCheck table ≡ fitness.BadTable i → P (Refused (BadTable i)))
+      → ((n : ℕ) → Damaged bytes n → P (Refused (BadUtf8 n))) → ((n : ℕ) → Arriving bytes n → P (Refused (CutUtf8 n)))
+      → (Readable most bytes table → P Fine) → P (inputCheck most bytes table)
   unfolding inputCheck
-  fine-of e = by-tests (ltb most (length bytes)) (tableCheck table) (checkFrom 0 bytes) refl refl refl e
+  by-check P long table-bad bad cut fine = by-tests (ltb most (length bytes)) (tableCheck table) (checkFrom 0 bytes) refl refl refl
     where
       by-tests : (b : Bool) (t : TableCheck) (u : Utf8Check) → ltb most (length bytes) ≡ b → tableCheck table ≡ t → checkFrom 0 bytes ≡ u
-          → pick b (Refused TooLong) (onTable t (onUtf8 u)) ≡ Fine → Readable most bytes table
-      by-tests true t u h f w e = absurd (let z : _≡_ {A = ℕ} 0 1 = cc in omega arith)
-      by-tests false (fitness.BadTable i) u h f w e = absurd (let z : _≡_ {A = ℕ} 0 1 = cc in omega arith)
-      by-tests false fitness.Fit (utf8.BadAt i) h f w e = absurd (let z : _≡_ {A = ℕ} 0 1 = cc in omega arith)
-      by-tests false fitness.Fit (utf8.CutAt i) h f w e = absurd (let z : _≡_ {A = ℕ} 0 1 = cc in omega arith)
-      by-tests false fitness.Fit utf8.Fine h f w e = record { short = ltb-false _ _ h; fit = f; well = well-of-fine 0 bytes w }
+          → P (pick b (Refused TooLong) (onTable t (onUtf8 u)))
+      by-tests true t u h f w = long (ltb-true _ _ h)
+      by-tests false (fitness.BadTable i) u h f w = table-bad (ltb-false _ _ h) i f
+      by-tests false fitness.Fit (utf8.BadAt n) h f w = bad n (check-is bytes (utf8.BadAt n) w)
+      by-tests false fitness.Fit (utf8.CutAt n) h f w = cut n (check-is bytes (utf8.CutAt n) w)
+      by-tests false fitness.Fit utf8.Fine h f w = fine (record { short = ltb-false _ _ h; fit = f; well = well-of-fine 0 bytes w })
+
+  pub fine-of : inputCheck most bytes table ≡ Fine → Readable most bytes table
+  fine-of =
+      by-check (λ (c : Input). c ≡ Fine → Readable most bytes table) (λ h e. absurd (other e)) (λ h i f e. absurd (other e))
+      (λ n w e. absurd (other e)) (λ n w e. absurd (other e)) (λ g e. g)
+    where
+      other : {x : Refusal} → Refused x ≡ Fine → ⊥
+      other e = let z : _≡_ {A = ℕ} 0 1 = cc in omega arith
+
+  -- 3 and 15, by their numbers
+  module _ (x : Refusal) where
+    abbrev told : Input → ℕ
+    told Fine = none
+    told (Refused y) = numberOf y
+
+    abbrev place : Input → ℕ
+    place Fine = 0
+    place (Refused y) = placeOf y
+
+    pub bad-of : inputCheck most bytes table ≡ Refused x → numberOf x ≡ badUtf8 → Damaged bytes (placeOf x)
+    bad-of =
+        by-check (λ (c : Input). c ≡ Refused x → numberOf x ≡ badUtf8 → Damaged bytes (placeOf x)) (λ h e m. absurd (omega (arith, ap told e)))
+        (λ h i f e m. absurd (omega (arith, ap told e))) (λ n w e m. subst (Damaged bytes) (ap place e) w)
+        (λ n w e m. absurd (omega (arith, ap told e))) (λ g e m. absurd (omega (arith, ap told e)))
+
+    pub cut-of : inputCheck most bytes table ≡ Refused x → numberOf x ≡ cutUtf8 → Arriving bytes (placeOf x)
+    cut-of =
+        by-check (λ (c : Input). c ≡ Refused x → numberOf x ≡ cutUtf8 → Arriving bytes (placeOf x)) (λ h e m. absurd (omega (arith, ap told e)))
+        (λ h i f e m. absurd (omega (arith, ap told e))) (λ n w e m. absurd (omega (arith, ap told e)))
+        (λ n w e m. subst (Arriving bytes) (ap place e) w) (λ g e m. absurd (omega (arith, ap told e)))
+
+  -- an answer that carries a refusal under its number and place, or is r, whose number is another
+  module _ {A : Type 0} (f : Refusal → A) (number place : A → ℕ) (r : A) (numbers : (x : Refusal) → number (f x) ≡ numberOf x)
+      (places : (x : Refusal) → place (f x) ≡ placeOf x) where
+    abbrev answer : Input → A
+    answer c = onInput f c r
+
+    pub only-bad : (number r ≡ badUtf8 → ⊥) → number (answer (inputCheck most bytes table)) ≡ badUtf8
+        → Damaged bytes (place (answer (inputCheck most bytes table)))
+    only-bad never = go (inputCheck most bytes table) refl
+      where
+        go : (c : Input) → inputCheck most bytes table ≡ c → number (answer c) ≡ badUtf8 → Damaged bytes (place (answer c))
+        go Fine e m = absurd (never m)
+        go (Refused x) e m = subst (Damaged bytes) (sym (places x)) (bad-of x e (sym (numbers x) ∙ m))
+
+    pub only-cut : (number r ≡ cutUtf8 → ⊥) → number (answer (inputCheck most bytes table)) ≡ cutUtf8
+        → Arriving bytes (place (answer (inputCheck most bytes table)))
+    only-cut never = go (inputCheck most bytes table) refl
+      where
+        go : (c : Input) → inputCheck most bytes table ≡ c → number (answer c) ≡ cutUtf8 → Arriving bytes (place (answer c))
+        go Fine e m = absurd (never m)
+        go (Refused x) e m = subst (Arriving bytes) (sym (places x)) (cut-of x e (sym (numbers x) ∙ m))
 
 -- what the checks make of r: a refusal, or r as it is
 pub by-input : {A : Type 0} (f : Refusal → A) (P : (A → A) → Type 0) (c : Input) → ((x : Refusal) → P (λ _. f x)) → P (λ r. r)

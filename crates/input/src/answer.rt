@@ -1,9 +1,10 @@
-// Document 01's numbers of a refusal that comes before any work, for whoever prints it or hands it on.
+// The documents' numbers of a refusal that comes before any work, for whoever prints it or hands it on.
 ghost use mathlib.Core.Path.{_≡_};
 ghost use Rattle.input.specs.Input.{numberOf, placeOf};
 use crate::Refusal;
 use base::refusals::BAD_TABLE;
 use base::refusals::BAD_UTF8;
+use base::refusals::CUT_UTF8;
 use base::refusals::TOO_LONG;
 
 // The refusal's number.
@@ -14,6 +15,7 @@ pub fn number_of(refusal: Refusal) -> u32
         Refusal::TooLong => TOO_LONG,
         Refusal::BadTable(_) => BAD_TABLE,
         Refusal::BadUtf8(_) => BAD_UTF8,
+        Refusal::CutUtf8(_) => CUT_UTF8,
     }
 }
 
@@ -25,5 +27,6 @@ pub fn place_of(refusal: Refusal) -> usize
         Refusal::TooLong => 0,
         Refusal::BadTable(i) => i,
         Refusal::BadUtf8(i) => i,
+        Refusal::CutUtf8(i) => i,
     }
 }

@@ -6,17 +6,15 @@ use mathlib.Core.List.{List}
 use Rattle.utf8.specs.Read.{readAt}
 use Rattle.utf8.specs.Lengths.{lenOf}
 use Rattle.utf8.specs.Chars.{checkFrom}
-use Rattle.utf8.specs.Answer.{readNumber, codeOf, cutOf, numberOf, placeOf, checkCut}
+use Rattle.utf8.specs.Answer.{readNumber, codeOf, numberOf, placeOf}
 
 -- what `koto_read_char` ensures
-pub record ReadCharIs (bytes : List ℕ) (at code len cut r : ℕ) : Type 0 where
+pub record ReadCharIs (bytes : List ℕ) (at code len r : ℕ) : Type 0 where
   pub number : r ≡ readNumber (readAt bytes at)
   pub code-is : code ≡ codeOf (readAt bytes at)
   pub len-is : len ≡ lenOf (readAt bytes at)
-  pub cut-is : cut ≡ cutOf (readAt bytes at)
 
 -- what `koto_check_utf8` ensures
-pub record CheckUtf8Is (bytes : List ℕ) (place cut r : ℕ) : Type 0 where
+pub record CheckUtf8Is (bytes : List ℕ) (place r : ℕ) : Type 0 where
   pub number : r ≡ numberOf (checkFrom 0 bytes)
   pub place-is : place ≡ placeOf (checkFrom 0 bytes)
-  pub cut-is : cut ≡ checkCut (checkFrom 0 bytes)

@@ -12,23 +12,21 @@ use Rattle.koto_lexer.specs.Clusters.{FirstClusterIs}
 use Rattle.koto_lexer.specs.Scans.{ScanIs}
 use Rattle.koto_lexer.specs.Cursors.{NextIs, PeekIs}
 
-pub koto-read-char-has-one-answer : {bytes : List ℕ} {at code len cut r code′ len′ cut′ r′ : ℕ}
-    → ReadCharIs bytes at code len cut r → ReadCharIs bytes at code′ len′ cut′ r′
-    → (r ≡ r′) × (code ≡ code′) × (len ≡ len′) × (cut ≡ cut′)
+pub koto-read-char-has-one-answer : {bytes : List ℕ} {at code len r code′ len′ r′ : ℕ}
+    → ReadCharIs bytes at code len r → ReadCharIs bytes at code′ len′ r′
+    → (r ≡ r′) × (code ≡ code′) × (len ≡ len′)
 koto-read-char-has-one-answer p q = (
   p .number ∙ sym (q .number),
   p .code-is ∙ sym (q .code-is),
   p .len-is ∙ sym (q .len-is),
-  p .cut-is ∙ sym (q .cut-is),
 )
 
-pub koto-check-utf8-has-one-answer : {bytes : List ℕ} {place cut r place′ cut′ r′ : ℕ}
-    → CheckUtf8Is bytes place cut r → CheckUtf8Is bytes place′ cut′ r′
-    → (r ≡ r′) × (place ≡ place′) × (cut ≡ cut′)
+pub koto-check-utf8-has-one-answer : {bytes : List ℕ} {place r place′ r′ : ℕ}
+    → CheckUtf8Is bytes place r → CheckUtf8Is bytes place′ r′
+    → (r ≡ r′) × (place ≡ place′)
 koto-check-utf8-has-one-answer p q = (
   p .number ∙ sym (q .number),
   p .place-is ∙ sym (q .place-is),
-  p .cut-is ∙ sym (q .cut-is),
 )
 
 pub koto-check-table-has-one-answer : {table : List ℕ} {place r place′ r′ : ℕ}

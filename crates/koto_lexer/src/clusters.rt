@@ -3,7 +3,7 @@ ghost use Rattle.koto_lexer.specs.Clusters.{FirstClusterIs};
 use cluster::answer;
 
 // The length in bytes of the source's first cluster; no bytes give 0. Refused are a source that is too long with 1, then a table that is
-// unfit with 2, then ill-formed bytes with 3.
+// unfit with 2, then bytes that are wrong with 3 or that the end cuts with 15.
 #[no_mangle]
 pub extern "C" fn koto_first_cluster(
     source: &[u8],

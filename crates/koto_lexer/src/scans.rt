@@ -3,8 +3,8 @@ ghost use Rattle.koto_lexer.specs.Scans.{ScanIs};
 use reading::answer;
 
 // Writes the records of a source at the start of the list; every word past them stays. Refused are a source that is too long with 1, then
-// a table that is unfit with 2, then ill-formed bytes with 3, each before a word is written; then a token for which there is no record with
-// 4, or no mode with 5, which leave the records before it.
+// a table that is unfit with 2, then bytes that are wrong with 3 or that the end cuts with 15, each before a word is written; then a token
+// for which there is no record with 4, or no mode with 5, which leave the records before it.
 #[no_mangle]
 pub extern "C" fn koto_scan(
     source: &[u8],

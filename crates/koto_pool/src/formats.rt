@@ -16,8 +16,8 @@ fn tell(parsed: Parsed, options: &mut [u64; 7], value: &mut u64) -> u32
 }
 
 // Parses a format string, and adds its fill to the pool that is lent. Refused are a format string that is too long with 1, then a table that
-// is unfit with 2, then ill-formed bytes with 3, then a pool that is unfit with 8, each before a word of the pool is written; then what the
-// Rust refuses with 10 to 12, and a string without room with 13. Strings added before that stay.
+// is unfit with 2, then bytes that are wrong with 3 or that the end cuts with 15, then a pool that is unfit with 8, each before a word of the
+// pool is written; then what the Rust refuses with 10 to 12, and a string without room with 13. Strings added before that stay.
 #[no_mangle]
 pub extern "C" fn koto_parse(
     format: &[u8],

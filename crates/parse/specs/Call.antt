@@ -1,13 +1,13 @@
 -- The public call `parse`: string_format_options.rs `StringFormatOptions::parse` with its pool, in one pass, as the Rust has it. Document
--- 01's refusals 1, 2, 3, 8 come before it, in this order, and write nothing; 10 to 12 are the Rust's errors, and 13 is an addition without
--- room, which ends the parse. Strings added before stay.
+-- 01's refusals 1, 2, 3 (or 15 of document 02), 8 come before it, in this order, and write nothing; 10 to 12 are the Rust's errors, and 13 is an
+-- addition without room, which ends the parse. Strings added before stay.
 -- Assumes nothing.
 use Prim.Native.Nat.{ℕ}
 use mathlib.Core.Path.{_≡_}
 use mathlib.Core.Bool.{Bool, true, false}
 use mathlib.Core.List.{List}
 use Rattle.base.specs.Pick.{pick}
-use Rattle.base.specs.Refusal.{none, tooLong, badTable, badUtf8, badState, expectedNumber, formatNumberIsTooLarge, unexpectedToken, poolFull, formatMost}
+use Rattle.base.specs.Refusal.{none, tooLong, badTable, badUtf8, cutUtf8, badState, expectedNumber, formatNumberIsTooLarge, unexpectedToken, poolFull, formatMost}
 use Rattle.utf8.specs.Chars.{chars}
 use Rattle.property.specs.Table.{propertiesAt}
 use Rattle.input.specs.Input.{inputCheck, onInput}
@@ -29,7 +29,7 @@ use Rattle.format.specs.declared.Outcome.the-variants as outcome
 use Rattle.parse.specs.declared.Adding.{Adding}
 use Rattle.parse.specs.declared.After.{After}
 use Rattle.parse.specs.declared.Parsed.{Parsed}
-use Rattle.parse.specs.declared.Parsed.the-variants.{Read, TooLong, BadTable, BadUtf8, BadState, ExpectedNumber, FormatNumberIsTooLarge, UnexpectedToken, PoolFull}
+use Rattle.parse.specs.declared.Parsed.the-variants.{Read, TooLong, BadTable, BadUtf8, CutUtf8, BadState, ExpectedNumber, FormatNumberIsTooLarge, UnexpectedToken, PoolFull}
 
 -- ---- the pool in a parse
 
@@ -49,6 +49,7 @@ abbrev pub addingAfter : Adding → Added → Adding
 addingAfter a (pool.Index i counts) = record { counts = counts; index = Number i; full = false }
 addingAfter a pool.PoolFull = record { counts = a .counts; index = a .index; full = true }
 addingAfter a (pool.BadUtf8 place) = a
+addingAfter a (pool.CutUtf8 place) = a
 addingAfter a pool.BadState = a
 
 -- what an addition of the string x makes of the pool
@@ -63,6 +64,7 @@ onAdded p x (pool.Index i counts) =
     }
 onAdded p x pool.PoolFull = record { bytes = p .bytes; entries = p .entries; counts = p .counts; index = p .index; full = true }
 onAdded p x (pool.BadUtf8 place) = p
+onAdded p x (pool.CutUtf8 place) = p
 onAdded p x pool.BadState = p
 
 -- `add_string_constant(..)?`: the first addition without room ends the parse, so nothing is added after it
@@ -107,8 +109,9 @@ abbrev pub refusedAs : Refusal → Parsed
 refusedAs refusal.TooLong = TooLong
 refusedAs (refusal.BadTable i) = BadTable i
 refusedAs (refusal.BadUtf8 i) = BadUtf8 i
+refusedAs (refusal.CutUtf8 i) = CutUtf8 i
 
--- refusals 1, 2, 3, 8 in this order, each of which leaves the pool, and then the parse
+-- refusals 1, 2, 3 or 15, 8 in this order, each of which leaves the pool, and then the parse
 unfoldable pub call : List ℕ → List ℕ → Pool → Comes
 call format table p =
     onInput (λ (x : Refusal). comes (refusedAs x) p) (inputCheck formatMost format table)
@@ -123,13 +126,14 @@ pub record Parses (format table bytes entries : List ℕ) (counts : Counts) (new
   pub bytes-left : newBytes ≡ call format table (lent bytes entries counts) .pool .bytes
   pub entries-left : newEntries ≡ call format table (lent bytes entries counts) .pool .entries
 
--- ---- document 01's numbers of an answer
+-- ---- the documents' numbers of an answer
 
 abbrev pub numberOf : Parsed → ℕ
 numberOf (Read options index) = none
 numberOf TooLong = tooLong
 numberOf (BadTable i) = badTable
 numberOf (BadUtf8 i) = badUtf8
+numberOf (CutUtf8 i) = cutUtf8
 numberOf BadState = badState
 numberOf (ExpectedNumber c) = expectedNumber
 numberOf (FormatNumberIsTooLarge n) = formatNumberIsTooLarge
@@ -142,6 +146,7 @@ valueOf (Read options index) = 0
 valueOf TooLong = 0
 valueOf (BadTable i) = i
 valueOf (BadUtf8 i) = i
+valueOf (CutUtf8 i) = i
 valueOf BadState = 0
 valueOf (ExpectedNumber c) = c
 valueOf (FormatNumberIsTooLarge n) = n

@@ -24,7 +24,7 @@ use Rattle.input.specs.declared.Refusal.{Refusal}
 use Rattle.input.specs.declared.Input.the-variants as input
 use Rattle.input.specs.Input.{baseEdition}
 use Rattle.pool_rows.specs.Rows.{fitPool}
-use Rattle.pool.specs.Pool.{added, bytesAfter, entriesAfter, AddsString}
+use Rattle.pool.specs.Pool.{added, isNew, bytesAfter, entriesAfter, AddsString}
 use Rattle.pool.specs.PoolLaws.{old-bytes, old-entries, grows, added-again}
 use Rattle.pool_rows.specs.declared.Counts.{Counts}
 use Rattle.pool.specs.declared.Added.{Added}
@@ -84,13 +84,10 @@ module _ (p : Pool) (x : List ℕ) where
     adds-none e =
         kept true e (old-bytes x (p .counts) pool.PoolFull refl) (old-entries x (p .counts) pool.PoolFull refl) ∙ sym (adds-by f (told e))
 
-    adds-bad : {n : ℕ} → r ≡ pool.BadUtf8 n → made newBytes newEntries (p .counts) (p .index) (p .full) ≡ addTo p x
-    adds-bad {n} e =
-        kept (p .full) e (old-bytes x (p .counts) (pool.BadUtf8 n) refl) (old-entries x (p .counts) (pool.BadUtf8 n) refl) ∙ sym (adds-by f (told e))
-
-    adds-unfit : r ≡ pool.BadState → made newBytes newEntries (p .counts) (p .index) (p .full) ≡ addTo p x
-    adds-unfit e =
-        kept (p .full) e (old-bytes x (p .counts) pool.BadState refl) (old-entries x (p .counts) pool.BadState refl) ∙ sym (adds-by f (told e))
+    -- a refusal that leaves all as it is
+    adds-nothing : (q : Added) → isNew (p .counts) q ≡ false → onAdded p x q ≡ p → r ≡ q
+        → made newBytes newEntries (p .counts) (p .index) (p .full) ≡ addTo p x
+    adds-nothing q n o e = kept (p .full) e (old-bytes x (p .counts) q n) (old-entries x (p .counts) q n) ∙ sym (adds-by f (told e) ∙ o)
 
 -- the same, by what the code makes of the answer
 adds-after-by : (a : Adding) (x : List ℕ) {bytes entries newBytes newEntries : List ℕ} (r q : Added) → r ≡ q → a .full ≡ false
@@ -98,8 +95,9 @@ adds-after-by : (a : Adding) (x : List ℕ) {bytes entries newBytes newEntries :
     → pooled newBytes newEntries (addingAfter a q) ≡ addTo (pooled bytes entries a) x
 adds-after-by a x {bytes} {entries} r (pool.Index i counts) e f s = adds-index (pooled bytes entries a) x f s e
 adds-after-by a x {bytes} {entries} r pool.PoolFull e f s = adds-none (pooled bytes entries a) x f s e
-adds-after-by a x {bytes} {entries} r (pool.BadUtf8 n) e f s = adds-bad (pooled bytes entries a) x f s e
-adds-after-by a x {bytes} {entries} r pool.BadState e f s = adds-unfit (pooled bytes entries a) x f s e
+adds-after-by a x {bytes} {entries} r (pool.BadUtf8 n) e f s = adds-nothing (pooled bytes entries a) x f s (pool.BadUtf8 n) refl refl e
+adds-after-by a x {bytes} {entries} r (pool.CutUtf8 n) e f s = adds-nothing (pooled bytes entries a) x f s (pool.CutUtf8 n) refl refl e
+adds-after-by a x {bytes} {entries} r pool.BadState e f s = adds-nothing (pooled bytes entries a) x f s pool.BadState refl refl e
 
 pub adds-after : (a : Adding) (x : List ℕ) {bytes entries newBytes newEntries : List ℕ} {r : Added} {b : Adding} → a .full ≡ false
     → AddsString x (a .counts) bytes entries newBytes newEntries r → b ≡ addingAfter a r
@@ -124,6 +122,7 @@ module _ (p : Pool) (x : List ℕ) (f : fitPool (p .bytes) (p .entries) (p .coun
       }) i counts refl .fit
   fit-by pool.PoolFull e = f
   fit-by (pool.BadUtf8 n) e = f
+  fit-by (pool.CutUtf8 n) e = f
   fit-by pool.BadState e = f
 
   pub adds-fit : FitAfter (addTo p x)
@@ -156,6 +155,7 @@ module _ (p : Pool) (x : List ℕ) where
   by-answer f pool.PoolFull e =
       ap (λ (q : Pool). addTo q x) (adds-by p x f e) ∙ adds-full (onAdded p x pool.PoolFull) x refl ∙ sym (adds-by p x f e)
   by-answer f (pool.BadUtf8 n) e = ap (λ (q : Pool). addTo q x) (adds-by p x f e)
+  by-answer f (pool.CutUtf8 n) e = ap (λ (q : Pool). addTo q x) (adds-by p x f e)
   by-answer f pool.BadState e = ap (λ (q : Pool). addTo q x) (adds-by p x f e)
 
   by-full : (b : Bool) → p .full ≡ b → addTo (addTo p x) x ≡ addTo p x

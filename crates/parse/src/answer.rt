@@ -1,10 +1,11 @@
-// Document 01's numbers of a parse's answer, for whoever prints it or hands it on.
+// The documents' numbers of a parse's answer, for whoever prints it or hands it on.
 ghost use mathlib.Core.Path.{_≡_};
 ghost use Rattle.parse.specs.Call.{numberOf, valueOf};
 use crate::Parsed;
 use base::refusals::BAD_STATE;
 use base::refusals::BAD_TABLE;
 use base::refusals::BAD_UTF8;
+use base::refusals::CUT_UTF8;
 use base::refusals::EXPECTED_NUMBER;
 use base::refusals::FORMAT_NUMBER_IS_TOO_LARGE;
 use base::refusals::NO_REFUSAL;
@@ -24,6 +25,7 @@ pub fn number_of(parsed: Parsed) -> u32
         Parsed::TooLong => TOO_LONG,
         Parsed::BadTable(_) => BAD_TABLE,
         Parsed::BadUtf8(_) => BAD_UTF8,
+        Parsed::CutUtf8(_) => CUT_UTF8,
         Parsed::BadState => BAD_STATE,
         Parsed::ExpectedNumber(_) => EXPECTED_NUMBER,
         Parsed::FormatNumberIsTooLarge(_) => FORMAT_NUMBER_IS_TOO_LARGE,
@@ -44,6 +46,7 @@ pub fn value_of(parsed: Parsed) -> u64
         Parsed::TooLong => 0,
         Parsed::BadTable(i) => i as u64,
         Parsed::BadUtf8(i) => i as u64,
+        Parsed::CutUtf8(i) => i as u64,
         Parsed::BadState => 0,
         Parsed::ExpectedNumber(code) => code as u64,
         Parsed::FormatNumberIsTooLarge(value) => value,

@@ -24,7 +24,7 @@ use input::Refusal;
 use pool::Added;
 use pool_rows::Counts;
 
-// What a parse answers (document 01, "Refusal numbers").
+// What a parse answers (document 01, "Refusal numbers"; document 02, C-3).
 pub enum Parsed {
     // The options, and the fill's index in the pool, if there is a fill.
     Read {
@@ -35,8 +35,10 @@ pub enum Parsed {
     TooLong,
     // Refusal 2: the table is unfit, with its place.
     BadTable(usize),
-    // Refusal 3: the bytes are ill-formed from this offset on.
+    // Refusal 3: the bytes are wrong from this offset on.
     BadUtf8(usize),
+    // Refusal 15: the end cuts the character that begins at this offset.
+    CutUtf8(usize),
     // Refusal 8: the pool is unfit.
     BadState,
     // Refusal 10, with the code point.
@@ -62,7 +64,7 @@ pub struct Adding {
     pub full: bool,
 }
 
-// What is known before the pool is written to: one of refusals 1, 2, 3, 8, or the reading of the format string.
+// What is known before the pool is written to: one of refusals 1, 2, 3, 15, 8, or the reading of the format string.
 pub enum FormatInput {
     Refused(Parsed),
     Read(FormatRead),
@@ -83,11 +85,12 @@ fn refused(refusal: Refusal) -> Parsed
         Refusal::TooLong => Parsed::TooLong,
         Refusal::BadTable(i) => Parsed::BadTable(i),
         Refusal::BadUtf8(i) => Parsed::BadUtf8(i),
+        Refusal::CutUtf8(i) => Parsed::CutUtf8(i),
     }
 }
 
 // Reads a format string, for a pool that is fit or not. Refused are a format string that is too long, then a table that is unfit, then bytes
-// that are ill-formed, then a pool that is unfit.
+// that are wrong or cut, then a pool that is unfit.
 pub fn read(format: &[u8], table: &[u32], fit: bool) -> FormatInput
     ensures { λ r. ⌜ r ≡ inputOf (now (format .entry)) (now (table .entry)) fit ⌝ }
 {
@@ -176,6 +179,7 @@ pub fn after_added(adding: Adding, added: Added) -> Adding
             full: true,
         },
         Added::BadUtf8(_) => adding,
+        Added::CutUtf8(_) => adding,
         Added::BadState => adding,
     }
 }
@@ -247,7 +251,7 @@ pub fn end_by(input: FormatInput, two: Adding) -> After
 }
 
 // Parses a format string: its options, with the fill's index in the pool. Refused are a format string that is too long, then a table that is
-// unfit, then bytes that are ill-formed, then a pool that is unfit, each before a word is written; then what the Rust refuses, and a string
+// unfit, then bytes that are wrong or cut, then a pool that is unfit, each before a word is written; then what the Rust refuses, and a string
 // without room. Strings added before that stay.
 pub fn parse(
     format: &[u8],

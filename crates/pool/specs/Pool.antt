@@ -8,14 +8,14 @@ use mathlib.Core.Bool.{Bool, true, false}
 use lib.Dec.{eqb, ltb}
 use lib.ListN.{length, set, take, drop}
 use Rattle.base.specs.Pick.{pick}
-use Rattle.base.specs.Refusal.{none, badUtf8, badState, poolFull}
+use Rattle.base.specs.Refusal.{none, badUtf8, cutUtf8, badState, poolFull}
 use Rattle.utf8.specs.Chars.{checkFrom}
 use Rattle.utf8.specs.declared.Utf8Check.{Utf8Check}
 use Rattle.utf8.specs.declared.Utf8Check.the-variants as utf8
 use Rattle.pool_rows.specs.Rows.{withString, indexOf, stringsOf, byteRoom, entryRoom, fitPool}
 use Rattle.pool_rows.specs.declared.Counts.{Counts}
 use Rattle.pool.specs.declared.Added.{Added}
-use Rattle.pool.specs.declared.Added.the-variants.{Index, BadUtf8, BadState, PoolFull}
+use Rattle.pool.specs.declared.Added.the-variants.{Index, BadUtf8, CutUtf8, BadState, PoolFull}
 
 -- ---- an addition
 
@@ -31,18 +31,18 @@ placed long found counts forEntries forBytes =
     (pick (ltb forBytes (counts .bytes + long)) PoolFull
     (Index (counts .entries) (oneMore counts long))))
 
--- the answer where the bytes are well formed; wrong bytes and cut ones are one refusal
+-- the answer where the bytes are well formed; wrong bytes are 3, and bytes that the end cuts are 15
 abbrev pub onUtf8 : Utf8Check → Added → Added
 onUtf8 utf8.Fine r = r
 onUtf8 (utf8.BadAt i) r = BadUtf8 i
-onUtf8 (utf8.CutAt i) r = BadUtf8 i
+onUtf8 (utf8.CutAt i) r = CutUtf8 i
 
 -- the answer for a string and a pool that is fit
 abbrev pub addedToFit : List ℕ → List ℕ → List ℕ → Counts → Added
 addedToFit string bytes entries counts =
     placed (length string) (indexOf string (stringsOf bytes entries (counts .entries))) counts (entryRoom entries) (byteRoom bytes)
 
--- the answer: refusals 3, 8, 13 in this order
+-- the answer: refusals 3 or 15, 8, 13 in this order
 unfoldable pub added : List ℕ → List ℕ → List ℕ → Counts → Added
 added string bytes entries counts =
     onUtf8 (checkFrom 0 string)
@@ -52,6 +52,7 @@ added string bytes entries counts =
 abbrev pub isNew : Counts → Added → Bool
 isNew counts (Index index after) = eqb index (counts .entries)
 isNew counts (BadUtf8 place) = false
+isNew counts (CutUtf8 place) = false
 isNew counts BadState = false
 isNew counts PoolFull = false
 
@@ -91,11 +92,12 @@ pub record Grown (string bytes entries : List ℕ) (counts : Counts) (newBytes n
   pub strings : stringsOf newBytes newEntries (after .entries) ≡ withString string (stringsOf bytes entries (counts .entries))
   pub index-is : index ≡ indexOf string (stringsOf bytes entries (counts .entries))
 
--- ---- document 01's numbers of an answer
+-- ---- the documents' numbers of an answer
 
 abbrev pub numberOf : Added → ℕ
 numberOf (Index index after) = none
 numberOf (BadUtf8 place) = badUtf8
+numberOf (CutUtf8 place) = cutUtf8
 numberOf BadState = badState
 numberOf PoolFull = poolFull
 
@@ -103,6 +105,7 @@ numberOf PoolFull = poolFull
 abbrev pub placeOf : Added → ℕ
 placeOf (Index index after) = 0
 placeOf (BadUtf8 place) = place
+placeOf (CutUtf8 place) = place
 placeOf BadState = 0
 placeOf PoolFull = 0
 
@@ -110,6 +113,7 @@ placeOf PoolFull = 0
 abbrev pub addedIndex : Added → ℕ
 addedIndex (Index index after) = index
 addedIndex (BadUtf8 place) = 0
+addedIndex (CutUtf8 place) = 0
 addedIndex BadState = 0
 addedIndex PoolFull = 0
 
@@ -117,5 +121,6 @@ addedIndex PoolFull = 0
 abbrev pub countsAfter : Counts → Added → Counts
 countsAfter counts (Index index after) = after
 countsAfter counts (BadUtf8 place) = counts
+countsAfter counts (CutUtf8 place) = counts
 countsAfter counts BadState = counts
 countsAfter counts PoolFull = counts

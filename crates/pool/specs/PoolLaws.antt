@@ -34,7 +34,7 @@ use Rattle.pool_rows.specs.StringsLaws.{index-most, kept-with, shown-with, inde
 use Rattle.pool_rows.specs.FitLaws.{room-within, entry-room, Fit, fit-of, fit-by, runs-more, runs-same, within}
 use Rattle.pool_rows.specs.declared.Counts.{Counts}
 use Rattle.pool.specs.declared.Added.{Added}
-use Rattle.pool.specs.declared.Added.the-variants.{Index, BadUtf8, BadState, PoolFull}
+use Rattle.pool.specs.declared.Added.the-variants.{Index, BadUtf8, CutUtf8, BadState, PoolFull}
 
 -- ---- what an addition makes of a pool
 
@@ -235,7 +235,7 @@ module _ (string bytes entries : List ℕ) (counts : Counts) where
   unfolding added
   wrong i e = rw e
 
-  pub cut : (i : ℕ) → checkFrom 0 string ≡ utf8.CutAt i → added string bytes entries counts ≡ BadUtf8 i
+  pub cut : (i : ℕ) → checkFrom 0 string ≡ utf8.CutAt i → added string bytes entries counts ≡ CutUtf8 i
   unfolding added
   cut i e = rw e
 
@@ -265,6 +265,7 @@ module _ (string bytes entries : List ℕ) (counts : Counts) where
       (entriesAfter string counts (Index index after) entries)
       index after
   Leaves (BadUtf8 place) = Unit {0}
+  Leaves (CutUtf8 place) = Unit {0}
   Leaves BadState = Unit {0}
   Leaves PoolFull = Unit {0}
 
@@ -326,6 +327,7 @@ module _ (string bytes entries : List ℕ) (counts : Counts) where
         go : (q : Added) → (numberOf q ≡ none → ⊥) → isNew counts q ≡ false
         go (Index index after) k = absurd (k refl)
         go (BadUtf8 place) k = refl
+        go (CutUtf8 place) k = refl
         go BadState k = refl
         go PoolFull k = refl
 

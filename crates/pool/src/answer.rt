@@ -1,9 +1,10 @@
-// Document 01's numbers of what adding a string answers, for whoever prints it or hands it on.
+// The documents' numbers of what adding a string answers, for whoever prints it or hands it on.
 ghost use mathlib.Core.Path.{_≡_};
 ghost use Rattle.pool.specs.Pool.{numberOf, placeOf, addedIndex};
 use crate::Added;
 use base::refusals::BAD_STATE;
 use base::refusals::BAD_UTF8;
+use base::refusals::CUT_UTF8;
 use base::refusals::NO_REFUSAL;
 use base::refusals::POOL_FULL;
 
@@ -17,6 +18,7 @@ pub fn number_of(added: Added) -> u32
             counts: _,
         } => NO_REFUSAL,
         Added::BadUtf8(_) => BAD_UTF8,
+        Added::CutUtf8(_) => CUT_UTF8,
         Added::BadState => BAD_STATE,
         Added::PoolFull => POOL_FULL,
     }
@@ -32,6 +34,7 @@ pub fn place_of(added: Added) -> usize
             counts: _,
         } => 0,
         Added::BadUtf8(i) => i,
+        Added::CutUtf8(i) => i,
         Added::BadState => 0,
         Added::PoolFull => 0,
     }
@@ -44,6 +47,7 @@ pub fn index_of(added: Added) -> u32
     match added {
         Added::Index { index, counts: _ } => index,
         Added::BadUtf8(_) => 0,
+        Added::CutUtf8(_) => 0,
         Added::BadState => 0,
         Added::PoolFull => 0,
     }

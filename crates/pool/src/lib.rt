@@ -18,8 +18,10 @@ use pool_rows::room_of;
 pub enum Added {
     // The string's index, and the counts after the addition; those are as before where the string was there.
     Index { index: u32, counts: Counts },
-    // Refusal 3, with the offset of the first ill-formed sequence.
+    // Refusal 3: the string's bytes are wrong from this offset on.
     BadUtf8(usize),
+    // Refusal 15: the string's end cuts the character that begins at this offset.
+    CutUtf8(usize),
     // Refusal 8: the pool is unfit. Its place is 0.
     BadState,
     // Refusal 13: the string is not there, and no entry or too few bytes are free. Its place is 0.
@@ -62,6 +64,7 @@ pub fn is_new(counts: Counts, answer: Added) -> bool
     match answer {
         Added::Index { index, counts: _ } => index == counts.entries,
         Added::BadUtf8(_) => false,
+        Added::CutUtf8(_) => false,
         Added::BadState => false,
         Added::PoolFull => false,
     }
@@ -108,7 +111,7 @@ pub fn add_to_fit(string: &[u8], bytes: &mut [u8], entries: &mut [u32], counts: 
     answer
 }
 
-// Adds a string to a pool: its index, and the counts after it. Refused are a string that is ill-formed, then a pool that is unfit, then a
+// Adds a string to a pool: its index, and the counts after it. Refused are a string that is wrong or cut, then a pool that is unfit, then a
 // string that is not there where no entry or too few bytes are free. Only a new string writes: its bytes behind those in use, and its entry
 // behind those in use.
 pub fn add_string(string: &[u8], bytes: &mut [u8], entries: &mut [u32], counts: Counts) -> Added
@@ -117,7 +120,7 @@ pub fn add_string(string: &[u8], bytes: &mut [u8], entries: &mut [u32], counts: 
 {
     match utf8::check_utf8(string) {
         utf8::Utf8Check::BadAt(i) => Added::BadUtf8(i),
-        utf8::Utf8Check::CutAt(i) => Added::BadUtf8(i),
+        utf8::Utf8Check::CutAt(i) => Added::CutUtf8(i),
         utf8::Utf8Check::Fine => {
             if !is_pool_fit(bytes, entries, counts) {
                 return Added::BadState;

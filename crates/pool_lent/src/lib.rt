@@ -89,7 +89,7 @@ fn add_to_fit(
     answer
 }
 
-// The answer for any string, in a pool that is fit or not: refusals 3, 8, 13 in this order.
+// The answer for any string, in a pool that is fit or not: refusals 3 or 15, 8, 13 in this order.
 fn add_bytes(
     string: &[u8],
     bytes: &mut [u8],
@@ -104,7 +104,7 @@ fn add_bytes(
 {
     match utf8::check_utf8(string) {
         utf8::Utf8Check::BadAt(i) => Added::BadUtf8(i),
-        utf8::Utf8Check::CutAt(i) => Added::BadUtf8(i),
+        utf8::Utf8Check::CutAt(i) => Added::CutUtf8(i),
         utf8::Utf8Check::Fine => {
             if !fit {
                 return Added::BadState;
@@ -124,6 +124,7 @@ fn counts_after(counts: Counts, answer: Added) -> Counts
             counts: after,
         } => after,
         Added::BadUtf8(_) => counts,
+        Added::CutUtf8(_) => counts,
         Added::BadState => counts,
         Added::PoolFull => counts,
     }

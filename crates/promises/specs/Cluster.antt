@@ -1,13 +1,13 @@
--- The promise of `cluster::first_cluster`, case by case in document 01's order: 1 as a source, 2, 3, and then the first cluster.
+-- The promise of `cluster::first_cluster`, case by case in the documents' order: 1 as a source, 2, 3 or 15, and then the first cluster.
 -- Assumes nothing.
 use Prim.Native.Nat.{ℕ, _<_, _≤_}
 use mathlib.Core.Path.{_≡_}
 use mathlib.Core.List.{List, [], _∷_}
 use lib.ListN.{length, take}
-use Rattle.base.specs.Refusal.{none, tooLong, badTable, badUtf8, sourceMost}
+use Rattle.base.specs.Refusal.{none, tooLong, badTable, badUtf8, cutUtf8, sourceMost}
 use Rattle.utf8.specs.Encode.{encodeAll, WellFormed}
 use Rattle.utf8.specs.Chars.{chars}
-use Rattle.utf8.specs.Meaning.{Longest}
+use Rattle.utf8.specs.Meaning.{Arriving, Damaged}
 use Rattle.property.specs.Table.{propertiesAt}
 use Rattle.fitness.specs.Fit.{tableCheck}
 use Rattle.fitness.specs.declared.TableCheck.the-variants.{Fit, BadTable}
@@ -28,9 +28,13 @@ clusterSays r = says (numberOf r) (placeOf r)
 pub record FirstClusterPromise (source table : List ℕ) (r : Cluster) : Type 0 where
   pub too-long : sourceMost < length source → clusterSays r ≡ says tooLong 0
   pub bad-table : length source ≤ sourceMost → (i : ℕ) → tableCheck table ≡ BadTable i → clusterSays r ≡ says badTable i
-  pub bad-utf8 : length source ≤ sourceMost → tableCheck table ≡ Fit → (n : ℕ) → Longest source n → clusterSays r ≡ says badUtf8 n
+  pub bad-utf8 : length source ≤ sourceMost → tableCheck table ≡ Fit → (n : ℕ) → Damaged source n → clusterSays r ≡ says badUtf8 n
+  pub cut-utf8 : length source ≤ sourceMost → tableCheck table ≡ Fit → (n : ℕ) → Arriving source n → clusterSays r ≡ says cutUtf8 n
   pub no-bytes : source ≡ [] → tableCheck table ≡ Fit → (clusterSays r ≡ says none 0) × (lenOf r ≡ 0)
   pub cluster :
       length source ≤ sourceMost → tableCheck table ≡ Fit → WellFormed source → (n : ℕ)
       → Shortest (propertiesAt table) baseEdition (chars source) n
       → (clusterSays r ≡ says none 0) × (lenOf r ≡ length (encodeAll (take n (chars source))))
+  -- 3 and 15 are given nowhere else
+  pub only-bad : numberOf r ≡ badUtf8 → Damaged source (placeOf r)
+  pub only-cut : numberOf r ≡ cutUtf8 → Arriving source (placeOf r)

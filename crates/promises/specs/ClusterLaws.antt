@@ -3,20 +3,21 @@
 -- Assumes nothing.
 use Prim.Native.Nat.{ℕ, _<_, _≤_}
 use native.Mathlib.Omega.{arith}
-use mathlib.Core.Path.{_≡_, refl, sym, ap, _∙_}
+use mathlib.Core.Path.{_≡_, refl, sym, ap, subst, _∙_}
 use mathlib.Core.List.{List, [], _∷_}
 use lib.ListN.{length, take}
-use Rattle.base.specs.Refusal.{none, sourceMost}
+use Rattle.base.specs.Refusal.{none, badUtf8, cutUtf8, sourceMost}
 use Rattle.utf8.specs.Encode.{encodeAll, WellFormed}
 use Rattle.utf8.specs.Chars.{chars}
+use Rattle.utf8.specs.Meaning.{Arriving, Damaged}
 use Rattle.property.specs.Table.{propertiesAt}
 use Rattle.fitness.specs.Fit.{tableCheck}
 use Rattle.fitness.specs.declared.TableCheck.the-variants.{Fit, BadTable}
 use Rattle.cluster.specs.First.{Shortest, firstSize, firstEnd}
 use Rattle.cluster.specs.FirstLaws.{first-is-shortest, one-shortest}
-use Rattle.cluster.specs.Call.{firstCluster, lenOf}
+use Rattle.cluster.specs.Call.{firstCluster, numberOf, placeOf, lenOf}
 use Rattle.input.specs.Input.{baseEdition}
-use Rattle.input.specs.InputLaws.{is-long, is-table, is-ill}
+use Rattle.input.specs.InputLaws.{is-long, is-table, is-bad, is-cut, only-bad, only-cut}
 use Rattle.cluster.specs.CallLaws.{refused, unrefused, no-bytes}
 use Rattle.cluster.specs.declared.Cluster.{Cluster}
 use Rattle.cluster.specs.declared.Cluster.the-variants as answer
@@ -39,6 +40,14 @@ module _ (source table : List ℕ) where
       in
       unrefused source table (record { short = h; fit = e; well = w }) ∙ ap answer.Length q
 
+  bad-only : numberOf (firstCluster source table) ≡ badUtf8 → Damaged source (placeOf (firstCluster source table))
+  unfolding firstCluster
+  bad-only = only-bad sourceMost source table answer.Refused numberOf placeOf (answer.Length _) (λ x. refl) (λ x. refl) (λ m. omega arith)
+
+  cut-only : numberOf (firstCluster source table) ≡ cutUtf8 → Arriving source (placeOf (firstCluster source table))
+  unfolding firstCluster
+  cut-only = only-cut sourceMost source table answer.Refused numberOf placeOf (answer.Length _) (λ x. refl) (λ x. refl) (λ m. omega arith)
+
   pub first-cluster-promise : (r : Cluster) → FirstClusterEnsures source table r → FirstClusterPromise source table r
   first-cluster-promise r e =
       let has-length : (n : ℕ) → r ≡ answer.Length n → (clusterSays r ≡ says none 0) × (lenOf r ≡ n) =
@@ -47,9 +56,12 @@ module _ (source table : List ℕ) where
       record {
         too-long = λ h. ap clusterSays (e ∙ refused source table (is-long sourceMost source table h));
         bad-table = λ h i f. ap clusterSays (e ∙ refused source table (is-table sourceMost source table h i f));
-        bad-utf8 = λ h f n l. ap clusterSays (e ∙ refused source table (is-ill sourceMost source table h f n l));
+        bad-utf8 = λ h f n w. ap clusterSays (e ∙ refused source table (is-bad sourceMost source table h f n w));
+        cut-utf8 = λ h f n w. ap clusterSays (e ∙ refused source table (is-cut sourceMost source table h f n w));
         no-bytes = λ z f. has-length 0 (e ∙ ap (λ (s : List ℕ). firstCluster s table) z ∙ no-bytes table f);
         cluster = λ h f w n s. has-length _ (e ∙ first h f w n s);
+        only-bad = λ m. subst (λ (x : Cluster). Damaged source (placeOf x)) (sym e) (bad-only (ap numberOf (sym e) ∙ m));
+        only-cut = λ m. subst (λ (x : Cluster). Arriving source (placeOf x)) (sym e) (cut-only (ap numberOf (sym e) ∙ m));
       }
 
   pub first-cluster-has-one-answer : (r q : Cluster) → FirstClusterEnsures source table r → FirstClusterEnsures source table q → r ≡ q

@@ -1,4 +1,4 @@
--- The promise of `parse::parse`, case by case in document 01's order: 1, 2, 3, 8, which leave the pool as it is, and then what
+-- The promise of `parse::parse`, case by case in the documents' order: 1, 2, 3 or 15, 8, which leave the pool as it is, and then what
 -- string_format_options.rs's one pass over the format string comes to, with 13 where an addition found no room.
 -- Assumes nothing.
 use Prim.Native.Nat.{ℕ, _<_, _≤_}
@@ -6,9 +6,9 @@ use mathlib.Core.Path.{_≡_}
 use mathlib.Core.Bool.{true, false}
 use mathlib.Core.List.{List}
 use lib.ListN.{length}
-use Rattle.base.specs.Refusal.{tooLong, badTable, badUtf8, badState, expectedNumber, formatNumberIsTooLarge, unexpectedToken, poolFull, formatMost}
+use Rattle.base.specs.Refusal.{tooLong, badTable, badUtf8, cutUtf8, badState, expectedNumber, formatNumberIsTooLarge, unexpectedToken, poolFull, formatMost}
 use Rattle.utf8.specs.Encode.{WellFormed}
-use Rattle.utf8.specs.Meaning.{Longest}
+use Rattle.utf8.specs.Meaning.{Arriving, Damaged}
 use Rattle.fitness.specs.Fit.{tableCheck}
 use Rattle.fitness.specs.declared.TableCheck.the-variants.{Fit, BadTable}
 use Rattle.pool_rows.specs.Rows.{fitPool}
@@ -22,7 +22,7 @@ use Rattle.promises.specs.Said.{Said, says}
 abbrev pub parseSays : After → Said
 parseSays r = says (numberOf (r .answer)) (valueOf (r .answer))
 
--- refusals 1, 2, 3 and 8 are not given
+-- refusals 1, 2, 3, 15 and 8 are not given
 pub record Parsable (format table bytes entries : List ℕ) (counts : Counts) : Type 0 where
   pub short : length format ≤ formatMost
   pub fit : tableCheck table ≡ Fit
@@ -33,10 +33,14 @@ pub record Parsable (format table bytes entries : List ℕ) (counts : Counts) : 
 pub record ParsePromise (format table bytes entries : List ℕ) (counts : Counts) (newBytes newEntries : List ℕ) (r : After) : Type 0 where
   pub too-long : formatMost < length format → parseSays r ≡ says tooLong 0
   pub bad-table : length format ≤ formatMost → (i : ℕ) → tableCheck table ≡ BadTable i → parseSays r ≡ says badTable i
-  pub bad-utf8 : length format ≤ formatMost → tableCheck table ≡ Fit → (n : ℕ) → Longest format n → parseSays r ≡ says badUtf8 n
+  pub bad-utf8 : length format ≤ formatMost → tableCheck table ≡ Fit → (n : ℕ) → Damaged format n → parseSays r ≡ says badUtf8 n
+  pub cut-utf8 : length format ≤ formatMost → tableCheck table ≡ Fit → (n : ℕ) → Arriving format n → parseSays r ≡ says cutUtf8 n
   pub bad-state :
       length format ≤ formatMost → tableCheck table ≡ Fit → WellFormed format → fitPool bytes entries counts ≡ false
       → parseSays r ≡ says badState 0
+  -- 3 and 15 are given nowhere else
+  pub only-bad : numberOf (r .answer) ≡ badUtf8 → Damaged format (valueOf (r .answer))
+  pub only-cut : numberOf (r .answer) ≡ cutUtf8 → Arriving format (valueOf (r .answer))
   -- these leave the counts and both rows
   pub kept :
       (Parsable format table bytes entries counts → ⊥) → (r .counts ≡ counts) × (newBytes ≡ bytes) × (newEntries ≡ entries)

@@ -2,25 +2,89 @@
 --     parse-promise, parse-has-one-answer
 -- Assumes nothing.
 use Prim.Native.Nat.{ℕ}
-use mathlib.Core.Path.{_≡_, refl, ap, _∙_}
+use native.Mathlib.Omega.{arith}
+use mathlib.Core.Path.{_≡_, refl, sym, ap, subst, _∙_}
 use mathlib.Core.Bool.{Bool, true, false}
 use mathlib.Core.List.{List}
-use Rattle.base.specs.Refusal.{formatMost}
+use Rattle.base.specs.Pick.{pick}
+use Rattle.base.specs.PickLaws.{by-test}
+use Rattle.base.specs.Refusal.{badUtf8, cutUtf8, formatMost}
+use Rattle.utf8.specs.Meaning.{Arriving, Damaged}
 use Rattle.input.specs.Input.{inputCheck}
-use Rattle.input.specs.InputLaws.{is-long, is-table, is-ill, is-fine, fine-of}
+use Rattle.input.specs.InputLaws.{is-long, is-table, is-bad, is-cut, is-fine, fine-of, only-bad, only-cut}
+use Rattle.input.specs.Input as input
+use Rattle.input.specs.declared.Refusal.{Refusal}
+use Rattle.input.specs.declared.Refusal.the-variants as refusal
 use Rattle.input.specs.declared.Input.{Input}
 use Rattle.input.specs.declared.Input.the-variants.{Fine, Refused}
 use Rattle.pool_rows.specs.Rows.{fitPool}
 use Rattle.pool_rows.specs.declared.Counts.{Counts}
+use Rattle.format.specs.declared.OptionalNumber.{OptionalNumber}
+use Rattle.format.specs.declared.Options.{Options}
 use Rattle.format.specs.declared.Outcome.{Outcome}
-use Rattle.parse.specs.Call.{lent, answerOf, answer, parsed, Comes, comes, call, Parses, numberOf, valueOf}
+use Rattle.format.specs.declared.Outcome.the-variants as outcome
+use Rattle.parse.specs.Call.{lent, onOutcome, answerOf, answer, parsed, Comes, comes, refusedAs, call, Parses, numberOf, valueOf}
 use Rattle.parse.specs.CallLaws.{called, one-answer, parses-refused, parses-unfit}
 use Rattle.parse.specs.declared.After.{After}
 use Rattle.parse.specs.declared.Parsed.{Parsed}
+use Rattle.parse.specs.declared.Parsed.the-variants.{BadState}
 use Rattle.promises.specs.Said.{Said, says}
 use Rattle.promises.specs.Parse.{parseSays, Parsable, ParsePromise}
 
+-- a refusal keeps its number and place
+refused-number : (x : Refusal) → numberOf (refusedAs x) ≡ input.numberOf x
+refused-number refusal.TooLong = refl
+refused-number (refusal.BadTable i) = refl
+refused-number (refusal.BadUtf8 i) = refl
+refused-number (refusal.CutUtf8 i) = refl
+
+refused-value : (x : Refusal) → valueOf (refusedAs x) ≡ input.placeOf x
+refused-value refusal.TooLong = refl
+refused-value (refusal.BadTable i) = refl
+refused-value (refusal.BadUtf8 i) = refl
+refused-value (refusal.CutUtf8 i) = refl
+
+-- a reading's answer is neither 3 nor 15
+abbrev Works : Parsed → Type 0
+Works x = (numberOf x ≡ badUtf8 → ⊥) × (numberOf x ≡ cutUtf8 → ⊥)
+
+works : (options : Options) (o : Outcome) (index : OptionalNumber) (full : Bool) → Works (answerOf options o index full)
+works options o index full = by-test Works full (λ _. (λ m. omega arith, λ m. omega arith)) (λ _. ends o)
+  where
+    ends : (o : Outcome) → Works (onOutcome o options index)
+    ends outcome.Fine = (λ m. omega arith, λ m. omega arith)
+    ends (outcome.ExpectedNumber c) = (λ m. omega arith, λ m. omega arith)
+    ends (outcome.TooLarge n) = (λ m. omega arith, λ m. omega arith)
+    ends (outcome.UnexpectedToken c) = (λ m. omega arith, λ m. omega arith)
+
 module _ (format table bytes entries : List ℕ) (counts : Counts) where
+  abbrev told-number : Comes → ℕ
+  told-number c = numberOf (c .answer)
+
+  abbrev told-value : Comes → ℕ
+  told-value c = valueOf (c .answer)
+
+  -- what a parse that is not refused before any work comes to
+  abbrev worked : Comes
+  worked =
+      pick (fitPool bytes entries counts)
+      (comes (answer (parsed format table (lent bytes entries counts))) (parsed format table (lent bytes entries counts) .pool))
+      (comes BadState (lent bytes entries counts))
+
+  fine-worked : Works (worked .answer)
+  fine-worked =
+      by-test (λ (c : Comes). Works (c .answer)) (fitPool bytes entries counts) (λ _. works _ _ _ _) (λ _. (λ m. omega arith, λ m. omega arith))
+
+  bad-only : told-number (call format table (lent bytes entries counts)) ≡ badUtf8
+      → Damaged format (told-value (call format table (lent bytes entries counts)))
+  unfolding call
+  bad-only = only-bad formatMost format table _ told-number told-value worked refused-number refused-value (fine-worked .0)
+
+  cut-only : told-number (call format table (lent bytes entries counts)) ≡ cutUtf8
+      → Arriving format (told-value (call format table (lent bytes entries counts)))
+  unfolding call
+  cut-only = only-cut formatMost format table _ told-number told-value worked refused-number refused-value (fine-worked .1)
+
   -- the pool stays
   abbrev Kept : List ℕ → List ℕ → After → Type 0
   Kept newBytes newEntries r = (r .counts ≡ counts) × (newBytes ≡ bytes) × (newEntries ≡ entries)
@@ -79,8 +143,11 @@ module _ (format table bytes entries : List ℕ) (counts : Counts) where
         record {
           too-long = λ h. same (parses-refused (is-long formatMost format table h));
           bad-table = λ h i e. same (parses-refused (is-table formatMost format table h i e));
-          bad-utf8 = λ h t n l. same (parses-refused (is-ill formatMost format table h t n l));
+          bad-utf8 = λ h t n w. same (parses-refused (is-bad formatMost format table h t n w));
+          cut-utf8 = λ h t n w. same (parses-refused (is-cut formatMost format table h t n w));
           bad-state = λ h t w f. same (parses-unfit (is-fine formatMost format table (record { short = h; fit = t; well = w })) f);
+          only-bad = λ m. subst (λ (x : Parsed). Damaged format (valueOf x)) (sym (p .answer-is)) (bad-only (ap numberOf (sym (p .answer-is)) ∙ m));
+          only-cut = λ m. subst (λ (x : Parsed). Arriving format (valueOf x)) (sym (p .answer-is)) (cut-only (ap numberOf (sym (p .answer-is)) ∙ m));
           kept = by-input (inputCheck formatMost format table) refl;
           full = λ g f. ap told (by-end g true f refl);
           fine = λ g f e. by-end g false f e;

@@ -1,4 +1,4 @@
--- The promise of `pool::add_string`, case by case in document 01's order: 3, 8, 13, and then the string's index; and what it leaves of the
+-- The promise of `pool::add_string`, case by case in the documents' order: 3 or 15, 8, 13, and then the string's index; and what it leaves of the
 -- pool.
 -- Assumes nothing.
 use Prim.Native.Nat.{ℕ, _+_, _<_, _≤_}
@@ -6,9 +6,9 @@ use mathlib.Core.Path.{_≡_}
 use mathlib.Core.Bool.{true, false}
 use mathlib.Core.List.{List, []}
 use lib.ListN.{length, getD}
-use Rattle.base.specs.Refusal.{none, badUtf8, badState, poolFull}
+use Rattle.base.specs.Refusal.{none, badUtf8, cutUtf8, badState, poolFull}
 use Rattle.utf8.specs.Encode.{WellFormed}
-use Rattle.utf8.specs.Meaning.{Longest}
+use Rattle.utf8.specs.Meaning.{Arriving, Damaged}
 use Rattle.pool_rows.specs.Rows.{stringsOf, byteRoom, entryRoom, fitPool}
 use Rattle.pool.specs.Pool.{oneMore, written, entered}
 use Rattle.pool.specs.Pool.{Grown, numberOf, placeOf, addedIndex, countsAfter}
@@ -35,7 +35,8 @@ Absent string bytes entries counts = (k : ℕ) → StandsAt string bytes entries
 
 -- what it ensures is `AddsString`. The cases shut each other out, and leave nothing out
 pub record AddStringPromise (string : List ℕ) (counts : Counts) (bytes entries newBytes newEntries : List ℕ) (r : Added) : Type 0 where
-  pub bad-utf8 : (n : ℕ) → Longest string n → addedSays r ≡ says badUtf8 n
+  pub bad-utf8 : (n : ℕ) → Damaged string n → addedSays r ≡ says badUtf8 n
+  pub cut-utf8 : (n : ℕ) → Arriving string n → addedSays r ≡ says cutUtf8 n
   pub bad-state : WellFormed string → fitPool bytes entries counts ≡ false → addedSays r ≡ says badState 0
   pub no-entry :
       Taken string bytes entries counts → Absent string bytes entries counts → entryRoom entries ≤ counts .entries
@@ -57,6 +58,9 @@ pub record AddStringPromise (string : List ℕ) (counts : Counts) (bytes entries
       × (countsAfter counts r ≡ oneMore counts (length string))
       × (newBytes ≡ written bytes (counts .bytes) string)
       × (newEntries ≡ entered entries (counts .entries) (counts .bytes) (length string))
+  -- 3 and 15 are given nowhere else
+  pub only-bad : numberOf r ≡ badUtf8 → Damaged string (placeOf r)
+  pub only-cut : numberOf r ≡ cutUtf8 → Arriving string (placeOf r)
   -- a refusal writes nothing
   pub kept : (numberOf r ≡ none → ⊥) → (countsAfter counts r ≡ counts) × (newBytes ≡ bytes) × (newEntries ≡ entries)
   -- after an index the pool is fit again, and its strings are those before, with this one at their end where it was absent

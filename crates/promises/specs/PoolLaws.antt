@@ -3,36 +3,62 @@
 -- Assumes nothing.
 use Prim.Native.Nat.{ℕ, _+_, _<_, _≤_}
 use native.Mathlib.Omega.{arith}
-use mathlib.Core.Path.{_≡_, refl, sym, ap, _∙_}
+use mathlib.Core.Path.{_≡_, refl, sym, ap, subst, _∙_}
 use mathlib.Core.List.{List}
 use lib.ListN.{length}
 use borrow.Author.Tests.{eq-eqb}
-use Rattle.base.specs.Refusal.{none}
+use Rattle.base.specs.Pick.{pick}
+use Rattle.base.specs.PickLaws.{by-test, by-lt}
+use Rattle.base.specs.Refusal.{none, badUtf8, cutUtf8}
 use Rattle.utf8.specs.Chars.{checkFrom}
 use Rattle.utf8.specs.CharsLaws.{fine-of-well}
-use Rattle.utf8.specs.Meaning.{Longest}
-use Rattle.utf8.specs.MeaningLaws.{check-is, ill-formed}
+use Rattle.utf8.specs.Meaning.{Arriving, Damaged}
+use Rattle.utf8.specs.MeaningLaws.{check-is, is-check}
 use Rattle.utf8.specs.declared.Utf8Check.{Utf8Check}
-use Rattle.pool_rows.specs.Rows.{stringsOf, indexOf, byteRoom, entryRoom}
-use Rattle.pool.specs.Pool.{oneMore, addedToFit, onUtf8, added, isNew}
-use Rattle.pool.specs.Pool.{AddsString, Grown, countsAfter, numberOf, addedIndex}
+use Rattle.utf8.specs.declared.Utf8Check.the-variants as utf8
+use Rattle.pool_rows.specs.Rows.{stringsOf, indexOf, byteRoom, entryRoom, fitPool}
+use Rattle.pool.specs.Pool.{oneMore, placed, addedToFit, onUtf8, added, isNew}
+use Rattle.pool.specs.Pool.{AddsString, Grown, countsAfter, numberOf, placeOf, addedIndex}
 use Rattle.pool_rows.specs.StringsLaws.{index-at, index-none, strings-long}
-use Rattle.pool.specs.PoolLaws.{placed-no-entry, placed-few-bytes, placed-new, unfit, unrefused, grows}
+use Rattle.pool.specs.PoolLaws.{placed-no-entry, placed-few-bytes, placed-new, wrong, cut, unfit, unrefused, grows}
 use Rattle.pool.specs.PoolLaws.{new-bytes, new-entries, there-costs-nothing, refused-writes-nothing, index-kept, index-shows, one-answer}
 use Rattle.pool_rows.specs.declared.Counts.{Counts}
 use Rattle.pool.specs.declared.Added.{Added}
-use Rattle.pool.specs.declared.Added.the-variants.{Index, BadUtf8, BadState, PoolFull}
+use Rattle.pool.specs.declared.Added.the-variants.{Index, BadUtf8, CutUtf8, BadState, PoolFull}
 use Rattle.promises.specs.Pool.{addedSays, Taken, StandsAt, Absent, AddStringPromise}
 
 module _ (string bytes entries : List ℕ) (counts : Counts) where
   abbrev strings : List (List ℕ)
   strings = stringsOf bytes entries (counts .entries)
 
-  ill : (n : ℕ) → Longest string n → added string bytes entries counts ≡ BadUtf8 n
+  is-bad : (n : ℕ) → Damaged string n → added string bytes entries counts ≡ BadUtf8 n
+  is-bad n w = wrong string bytes entries counts n (is-check string (utf8.BadAt n) w)
+
+  is-cut : (n : ℕ) → Arriving string n → added string bytes entries counts ≡ CutUtf8 n
+  is-cut n w = cut string bytes entries counts n (is-check string (utf8.CutAt n) w)
+
+  -- 3 and 15 are those of the string
+  abbrev Told : Added → Type 0
+  Told x = (numberOf x ≡ badUtf8 → Damaged string (placeOf x)) × (numberOf x ≡ cutUtf8 → Arriving string (placeOf x))
+
+  told-fit : Told (addedToFit string bytes entries counts)
+  unfolding placed
+  told-fit =
+      by-lt Told (indexOf string strings) (counts .entries) (λ _. (λ m. absurd (omega arith), λ m. absurd (omega arith)))
+      (λ _. by-lt Told (entryRoom entries) (counts .entries + 1) (λ _. (λ m. absurd (omega arith), λ m. absurd (omega arith)))
+      (λ _. by-lt Told (byteRoom bytes) (counts .bytes + length string) (λ _. (λ m. absurd (omega arith), λ m. absurd (omega arith)))
+      (λ _. (λ m. absurd (omega arith), λ m. absurd (omega arith)))))
+
+  told : Told (added string bytes entries counts)
   unfolding added
-  ill n l =
-      ill-formed string n (λ (u : Utf8Check). (a : Added) → onUtf8 u a ≡ BadUtf8 n) (checkFrom 0 string) l
-      (check-is string (checkFrom 0 string) refl) (λ a. refl) (λ a. refl) _
+  told = go (checkFrom 0 string) refl
+    where
+      go : (u : Utf8Check) → checkFrom 0 string ≡ u
+          → Told (onUtf8 u (pick (fitPool bytes entries counts) (addedToFit string bytes entries counts) BadState))
+      go utf8.Fine e =
+          by-test Told (fitPool bytes entries counts) (λ _. told-fit) (λ _. (λ m. absurd (omega arith), λ m. absurd (omega arith)))
+      go (utf8.BadAt n) e = (λ m. check-is string (utf8.BadAt n) e, λ m. absurd (omega arith))
+      go (utf8.CutAt n) e = (λ m. absurd (omega arith), λ m. check-is string (utf8.CutAt n) e)
 
   taken : Taken string bytes entries counts → added string bytes entries counts ≡ addedToFit string bytes entries counts
   taken t = unrefused string bytes entries counts (fine-of-well 0 string (t .well)) (t .fit)
@@ -66,6 +92,7 @@ module _ (string bytes entries : List ℕ) (counts : Counts) where
     index-of : (q : Added) → r ≡ q → numberOf q ≡ none → r ≡ Index (addedIndex q) (countsAfter counts q)
     index-of (Index index after) e n = e
     index-of (BadUtf8 place) e n = absurd (omega arith)
+    index-of (CutUtf8 place) e n = absurd (omega arith)
     index-of BadState e n = absurd (omega arith)
     index-of PoolFull e n = absurd (omega arith)
 
@@ -75,13 +102,15 @@ module _ (string bytes entries : List ℕ) (counts : Counts) where
     counts-kept : (q : Added) → (numberOf q ≡ none → ⊥) → countsAfter counts q ≡ counts
     counts-kept (Index index after) h = absurd (h refl)
     counts-kept (BadUtf8 place) h = refl
+    counts-kept (CutUtf8 place) h = refl
     counts-kept BadState h = refl
     counts-kept PoolFull h = refl
 
     pub add-string-promise : AddStringPromise string counts bytes entries newBytes newEntries r
     add-string-promise =
         record {
-          bad-utf8 = λ n l. ap addedSays (p .answer ∙ ill n l);
+          bad-utf8 = λ n w. ap addedSays (p .answer ∙ is-bad n w);
+          cut-utf8 = λ n w. ap addedSays (p .answer ∙ is-cut n w);
           bad-state = λ w f. ap addedSays (p .answer ∙ unfit string bytes entries counts (fine-of-well 0 string w) f);
           no-entry = λ t a h. ap addedSays (no-room-entry t a h);
           few-bytes = λ t a h k. ap addedSays (no-room-bytes t a h k);
@@ -101,6 +130,8 @@ module _ (string bytes entries : List ℕ) (counts : Counts) where
                 p .bytes-left ∙ new-bytes string counts (added string bytes entries counts) new bytes,
                 p .entries-left ∙ new-entries string counts (added string bytes entries counts) new entries,
               );
+          only-bad = subst Told (sym (p .answer)) told .0;
+          only-cut = subst Told (sym (p .answer)) told .1;
           kept =
               λ h.
               let c = refused-writes-nothing string bytes entries counts newBytes newEntries r p h in

@@ -1,12 +1,12 @@
--- The promise of `scan::scan`, case by case in document 01's order: 1, 2, 3, then the records of the source's reading, as many as have
+-- The promise of `scan::scan`, case by case in the documents' order: 1, 2, 3 or 15, then the records of the source's reading, as many as have
 -- room, with a status, or refusal 4 or 5. What it ensures is `Scans`.
 -- Assumes nothing.
 use Prim.Native.Nat.{ℕ, _<_, _≤_}
 use mathlib.Core.Path.{_≡_}
 use mathlib.Core.List.{List}
 use lib.ListN.{length, take}
-use Rattle.base.specs.Refusal.{none, tooLong, badTable, badUtf8, listFull, modesFull, sourceMost}
-use Rattle.utf8.specs.Meaning.{Longest}
+use Rattle.base.specs.Refusal.{none, tooLong, badTable, badUtf8, cutUtf8, listFull, modesFull, sourceMost}
+use Rattle.utf8.specs.Meaning.{Arriving, Damaged}
 use Rattle.fitness.specs.Fit.{tableCheck}
 use Rattle.fitness.specs.declared.TableCheck.the-variants.{Fit, BadTable}
 use Rattle.input.specs.Input as input
@@ -52,7 +52,7 @@ refuses number place count = record { status = refused; count = count; said = sa
 
 -- ---- the promise
 
--- refusals 1, 2 and 3 are not given
+-- refusals 1, 2, 3 and 15 are not given
 abbrev pub Readable : List ℕ → List ℕ → Type 0
 Readable source table = input.Readable sourceMost source table
 
@@ -66,12 +66,14 @@ stop source table = readingOf source table .stop
 -- the cases shut each other out, and leave nothing out. The current byte is where the last record that was written ends (0 where there is
 -- none)
 pub record ScanPromise (source table old : List ℕ) (r : Scanned) (new : List ℕ) : Type 0 where
-  -- 1, 2, 3: no record, and the list stays
+  -- 1, 2, 3, 15: no record, and the list stays
   pub too-long : sourceMost < length source → (scanSays r ≡ refuses tooLong 0 0) × (new ≡ old)
   pub bad-table : length source ≤ sourceMost → (i : ℕ) → tableCheck table ≡ BadTable i
       → (scanSays r ≡ refuses badTable i 0) × (new ≡ old)
-  pub bad-utf8 : length source ≤ sourceMost → tableCheck table ≡ Fit → (n : ℕ) → Longest source n
+  pub bad-utf8 : length source ≤ sourceMost → tableCheck table ≡ Fit → (n : ℕ) → Damaged source n
       → (scanSays r ≡ refuses badUtf8 n 0) × (new ≡ old)
+  pub cut-utf8 : length source ≤ sourceMost → tableCheck table ≡ Fit → (n : ℕ) → Arriving source n
+      → (scanSays r ≡ refuses cutUtf8 n 0) × (new ≡ old)
   -- all records have room, and the Rust would answer None
   pub ended : Readable source table → stop source table ≡ reading.ended → length (rows source table) ≤ room old
       → scanSays r ≡ ends end (length (rows source table)) (endOf 0 (rows source table))
@@ -89,3 +91,6 @@ pub record ScanPromise (source table old : List ℕ) (r : Scanned) (new : List �
       → scanSays r ≡ refuses modesFull (endOf 0 (rows source table)) (length (rows source table))
   -- every word: the records that have room, and then what was there before
   pub words : Readable source table → new ≡ putRows old (take (room old) (rows source table))
+  -- 3 and 15 are given nowhere else
+  pub only-bad : numberOf r ≡ badUtf8 → Damaged source (placeOf r)
+  pub only-cut : numberOf r ≡ cutUtf8 → Arriving source (placeOf r)

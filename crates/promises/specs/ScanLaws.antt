@@ -12,14 +12,15 @@ use lib.ListN.{length, take}
 use lib.Seq.{take-all, length-take-le}
 use borrow.Author.Tests.{lt-ltb, le-ltb}
 use Rattle.base.specs.PickLaws.{by-test, by-lt, split-lt}
-use Rattle.base.specs.Refusal.{listFull, sourceMost}
+use Rattle.base.specs.Refusal.{badUtf8, cutUtf8, listFull, sourceMost}
+use Rattle.utf8.specs.Meaning.{Arriving, Damaged}
 use Rattle.input.specs.Input.{inputCheck}
-use Rattle.input.specs.InputLaws.{is-long, is-table, is-ill, is-fine, by-input}
+use Rattle.input.specs.InputLaws.{is-long, is-table, is-bad, is-cut, is-fine, by-input, only-bad, only-cut}
 use Rattle.rows.specs.Row.{room, putRows, putRowsAt}
 use Rattle.rows.specs.RowLaws.{rows-one-by-one}
 use Rattle.rows.specs.declared.Row.{Row}
 use Rattle.reading.specs.Reading as reading
-use Rattle.reading.specs.Scan.{endOf, whole, byRoom, readingOf, scanned, writtenBy, written, Scans, numberOf, countOf}
+use Rattle.reading.specs.Scan.{endOf, whole, byRoom, readingOf, scanned, writtenBy, written, Scans, numberOf, placeOf, countOf}
 use Rattle.reading.specs.ScanLaws.{scans-refused, scans-fine, one-answer}
 use Rattle.reading.specs.declared.Scanned.{Scanned}
 use Rattle.reading.specs.declared.Scanned.the-variants as answer
@@ -45,6 +46,34 @@ module _ (n k b : ℕ) where
 
   has-room : k < n → whole n k b reading.deep ≡ answer.ModesFull k b
   has-room h = rw (lt-ltb k n h)
+
+-- a reading gets no refusal but 4 and 5
+module _ (n : ℕ) (q : reading.Reading) where
+  abbrev Works : Scanned → Type 0
+  Works x = (numberOf x ≡ badUtf8 → ⊥) × (numberOf x ≡ cutUtf8 → ⊥)
+
+  works : Works (byRoom n 0 0 q)
+  works = by-test Works (ltb n (0 + length (q .rows))) (λ _. (λ m. omega arith, λ m. omega arith)) (λ _. stops (q .stop))
+    where
+      stops : (why : reading.Stop) → Works (whole n (0 + length (q .rows)) (endOf 0 (q .rows)) why)
+      stops reading.ended = (λ m. omega arith, λ m. omega arith)
+      stops reading.stuck = (λ m. omega arith, λ m. omega arith)
+      stops reading.deep =
+          by-test Works (ltb (0 + length (q .rows)) n) (λ _. (λ m. omega arith, λ m. omega arith)) (λ _. (λ m. omega arith, λ m. omega arith))
+
+-- so 3 and 15 are those of the checks
+module _ (source table : List ℕ) (n : ℕ) where
+  bad-only : numberOf (scanned source table n) ≡ badUtf8 → Damaged source (placeOf (scanned source table n))
+  unfolding scanned
+  bad-only =
+      only-bad sourceMost source table answer.Refused numberOf placeOf (byRoom n 0 0 (readingOf source table)) (λ x. refl) (λ x. refl)
+      (works n (readingOf source table) .0)
+
+  cut-only : numberOf (scanned source table n) ≡ cutUtf8 → Arriving source (placeOf (scanned source table n))
+  unfolding scanned
+  cut-only =
+      only-cut sourceMost source table answer.Refused numberOf placeOf (byRoom n 0 0 (readingOf source table)) (λ x. refl) (λ x. refl)
+      (works n (readingOf source table) .1)
 
 -- ---- the promise
 
@@ -78,7 +107,8 @@ module _ (source table old : List ℕ) where
         record {
           too-long = λ h. kept (scans-refused (is-long sourceMost source table h));
           bad-table = λ h i e. kept (scans-refused (is-table sourceMost source table h i e));
-          bad-utf8 = λ h f i l. kept (scans-refused (is-ill sourceMost source table h f i l));
+          bad-utf8 = λ h f i w. kept (scans-refused (is-bad sourceMost source table h f i w));
+          cut-utf8 = λ h f i w. kept (scans-refused (is-cut sourceMost source table h f i w));
           ended = λ g e h. ap scanSays (by-stop g e h);
           is-stuck = λ g e h. ap scanSays (by-stop g e h);
           list-full = λ g h. ap scanSays (by-reading g ∙ not-all-fit n (readingOf source table) h);
@@ -86,6 +116,8 @@ module _ (source table old : List ℕ) where
           modes-full = λ g e h. ap scanSays (by-stop g e (omega arith) ∙ has-room n k (endOf 0 (rows source table)) h);
           words = λ g. one-answer source table old r _ new _ p (read g) .1 ∙ ap (λ (i : ℕ). putRowsAt old 0 (take i (rows source table))) z
               ∙ rows-one-by-one old (take n (rows source table));
+          only-bad = λ m. subst (λ (x : Scanned). Damaged source (placeOf x)) (sym (p .answer)) (bad-only source table n (ap numberOf (sym (p .answer)) ∙ m));
+          only-cut = λ m. subst (λ (x : Scanned). Arriving source (placeOf x)) (sym (p .answer)) (cut-only source table n (ap numberOf (sym (p .answer)) ∙ m));
         }
 
 pub scan-has-one-answer : (source table old : List ℕ) (r q : Scanned) (new other : List ℕ) → Scans source table old r new

@@ -3,11 +3,11 @@
 use Prim.Native.Nat.{ℕ}
 use mathlib.Core.Path.{_≡_}
 use mathlib.Core.List.{List}
-use Rattle.base.specs.Refusal.{none, badUtf8}
+use Rattle.base.specs.Refusal.{none, badUtf8, cutUtf8}
 use Rattle.utf8.specs.Encode.{WellFormed}
 use Rattle.utf8.specs.Read.{readAt}
 use Rattle.utf8.specs.Chars.{checkFrom}
-use Rattle.utf8.specs.Meaning.{ReadIs, Longest, CheckIs}
+use Rattle.utf8.specs.Meaning.{ReadIs, Arriving, Damaged, CheckIs}
 use Rattle.utf8.specs.Answer.{numberOf, placeOf}
 use Rattle.utf8.specs.declared.Read.{Read}
 use Rattle.utf8.specs.declared.Utf8Check.{Utf8Check}
@@ -24,10 +24,13 @@ CheckUtf8Ensures s r = r ≡ checkFrom 0 s
 abbrev pub checkSays : Utf8Check → Said
 checkSays r = says (numberOf r) (placeOf r)
 
--- the promise of `check_utf8`: no refusal exactly for the encoding of some scalar values; else 3, and its place is the end of the longest
--- well-formed beginning. Which of wrong and cut it is, `CheckIs` says
+-- the promise of `check_utf8`: no refusal exactly for the encoding of some scalar values; else the place is the end of the longest well-formed
+-- beginning, with 15 exactly where what stands there is a proper beginning of a character stopped by the end, and with 3 where it is not
 pub record CheckUtf8Promise (s : List ℕ) (r : Utf8Check) : Type 0 where
   pub fine : WellFormed s → checkSays r ≡ says none 0
-  pub refused : (n : ℕ) → Longest s n → checkSays r ≡ says badUtf8 n
-  pub only-these : numberOf r ≡ none → WellFormed s
+  pub bad-utf8 : (n : ℕ) → Damaged s n → checkSays r ≡ says badUtf8 n
+  pub cut-utf8 : (n : ℕ) → Arriving s n → checkSays r ≡ says cutUtf8 n
+  pub only-fine : numberOf r ≡ none → WellFormed s
+  pub only-bad : numberOf r ≡ badUtf8 → Damaged s (placeOf r)
+  pub only-cut : numberOf r ≡ cutUtf8 → Arriving s (placeOf r)
   pub means : CheckIs s r

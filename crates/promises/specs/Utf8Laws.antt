@@ -6,10 +6,10 @@ use Prim.Native.Nat.{ℕ}
 use native.Mathlib.Omega.{arith}
 use mathlib.Core.Path.{_≡_, refl, sym, ap}
 use mathlib.Core.List.{List}
-use Rattle.base.specs.Refusal.{none, badUtf8}
+use Rattle.base.specs.Refusal.{none, badUtf8, cutUtf8}
 use Rattle.utf8.specs.Encode.{WellFormed}
-use Rattle.utf8.specs.Meaning.{ReadIs, Longest, CheckIs}
-use Rattle.utf8.specs.MeaningLaws.{read-is, one-read, check-is, one-check, ill-formed}
+use Rattle.utf8.specs.Meaning.{ReadIs, Arriving, Damaged, CheckIs}
+use Rattle.utf8.specs.MeaningLaws.{read-is, one-read, check-is, one-check}
 use Rattle.utf8.specs.Answer.{numberOf, placeOf}
 use Rattle.utf8.specs.declared.Read.{Read}
 use Rattle.utf8.specs.declared.Utf8Check.{Utf8Check}
@@ -25,24 +25,35 @@ pub read-char-has-one-answer : (s : List ℕ) (at : ℕ) (r q : Read) → ReadCh
 read-char-has-one-answer s at r q e m = one-read s at r q (read-char-promise s at r e) m
 
 -- what an answer says, by what it means
-refused-at : (s : List ℕ) (n : ℕ) (r : Utf8Check) → Longest s n → CheckIs s r → checkSays r ≡ says badUtf8 n
-refused-at s n r l w = ill-formed s n (λ (x : Utf8Check). checkSays x ≡ says badUtf8 n) r l w refl refl
+said-by : (s : List ℕ) (r q : Utf8Check) → CheckIs s r → CheckIs s q → checkSays r ≡ checkSays q
+said-by s r q m w = ap checkSays (one-check s r q m w)
 
-fine-at : (s : List ℕ) (r : Utf8Check) → WellFormed s → CheckIs s r → checkSays r ≡ says none 0
-fine-at s r w m = ap checkSays (one-check s r Fine m w)
-
+-- what it means, by its number
 fine-only : (s : List ℕ) (r : Utf8Check) → CheckIs s r → numberOf r ≡ none → WellFormed s
 fine-only s Fine w e = w
 fine-only s (BadAt n) w e = absurd (omega arith)
 fine-only s (CutAt n) w e = absurd (omega arith)
 
+bad-only : (s : List ℕ) (r : Utf8Check) → CheckIs s r → numberOf r ≡ badUtf8 → Damaged s (placeOf r)
+bad-only s Fine w e = absurd (omega arith)
+bad-only s (BadAt n) w e = w
+bad-only s (CutAt n) w e = absurd (omega arith)
+
+cut-only : (s : List ℕ) (r : Utf8Check) → CheckIs s r → numberOf r ≡ cutUtf8 → Arriving s (placeOf r)
+cut-only s Fine w e = absurd (omega arith)
+cut-only s (BadAt n) w e = absurd (omega arith)
+cut-only s (CutAt n) w e = w
+
 pub check-utf8-promise : (s : List ℕ) (r : Utf8Check) → CheckUtf8Ensures s r → CheckUtf8Promise s r
 check-utf8-promise s r e =
     let m = check-is s r (sym e) in
     record {
-      fine = λ w. fine-at s r w m;
-      refused = λ n l. refused-at s n r l m;
-      only-these = fine-only s r m;
+      fine = λ w. said-by s r Fine m w;
+      bad-utf8 = λ n w. said-by s r (BadAt n) m w;
+      cut-utf8 = λ n w. said-by s r (CutAt n) m w;
+      only-fine = fine-only s r m;
+      only-bad = bad-only s r m;
+      only-cut = cut-only s r m;
       means = m;
     }
 

@@ -104,7 +104,7 @@ pub fn read_on(
 }
 
 // Writes the records of a source at the start of the list. Refused are a source that is too long, then a table that is unfit, then bytes
-// that are ill-formed, wrong or cut, each before a word is written; then a token for which there is no record or no mode left.
+// that are wrong or cut, each before a word is written; then a token for which there is no record or no mode left.
 pub fn scan(source: &[u8], table: &[u32], list: &mut [u32]) -> Scanned
     ensures { λ r. ⌜ Scans (now (source .entry)) (now (table .entry)) (now (list .entry)) r (now (list .exit)) ⌝ }
 {

@@ -29,8 +29,18 @@ pub record Longest (s : List ℕ) (n : ℕ) : Type 0 where
   pub short : n < length s
   pub none-longer : (m : ℕ) → n < m → m ≤ length s → WellFormed (take m s) → ⊥
 
--- r says whether s is well formed; if not, where it is not, and whether a character begins there that the end cuts
+-- document 02, C-3: from n on, s is a proper beginning of some character's encoding, stopped by the end
+pub record Arriving (s : List ℕ) (n : ℕ) : Type 0 where
+  pub before : Longest s n
+  pub begins : Begins (drop n s)
+
+-- or it is not: what stands there is wrong, whatever may still come
+pub record Damaged (s : List ℕ) (n : ℕ) : Type 0 where
+  pub before : Longest s n
+  pub begins-none : Begins (drop n s) → ⊥
+
+-- r says whether s is well formed; if not, where it is not, and whether it is wrong there or still arriving
 abbrev pub CheckIs : List ℕ → Utf8Check → Type 0
 CheckIs s Fine = WellFormed s
-CheckIs s (BadAt n) = Longest s n × (Begins (drop n s) → ⊥)
-CheckIs s (CutAt n) = Longest s n × Begins (drop n s)
+CheckIs s (BadAt n) = Damaged s n
+CheckIs s (CutAt n) = Arriving s n

@@ -4,7 +4,6 @@
 --     check-is, is-check    `checkFrom 0 s` is r exactly where r says whether s is well formed, and where not
 --     one-check             of two such answers, both are the same
 --     one-longest           there is one longest well-formed beginning
---     ill-formed            ill-formed bytes, for a caller to whom wrong ones and cut ones are one refusal
 -- Assumes nothing.
 use Prim.Native.Nat.{ℕ, _+_, _<_, _≤_}
 use native.Mathlib.Omega.{arith}
@@ -19,7 +18,7 @@ use Rattle.utf8.specs.Read.{decodeHead, readAt}
 use Rattle.utf8.specs.ReadLaws.{complete, cut-begins, begins-cut}
 use Rattle.utf8.specs.Chars.{checkFrom}
 use Rattle.utf8.specs.CharsLaws.{at-char, bad-at, cut-at, check-past, Stops, stopped, fine-of-well, well-of-fine, never-stops}
-use Rattle.utf8.specs.Meaning.{CharAt, ReadIs, Longest, CheckIs}
+use Rattle.utf8.specs.Meaning.{CharAt, ReadIs, Longest, Arriving, Damaged, CheckIs}
 use Rattle.utf8.specs.declared.Read.{Read}
 use Rattle.utf8.specs.declared.Read.the-variants.{Char, Bad, Cut}
 use Rattle.utf8.specs.declared.Utf8Check.{Utf8Check}
@@ -105,8 +104,8 @@ module _ (s : List ℕ) where
     where
       go : (r : Read) → readAt s n ≡ r → CheckIs s (checkFrom 0 s)
       go (Char c k) e = absurd (subst Stops e t)
-      go Bad e = rw (check-behind s n (omega arith) w, bad-at s n h e) (longest s n w h t, read-is s n Bad e .1)
-      go Cut e = rw (check-behind s n (omega arith) w, cut-at s n h e) (longest s n w h t, read-is s n Cut e)
+      go Bad e = rw (check-behind s n (omega arith) w, bad-at s n h e) (record { before = longest s n w h t; begins-none = read-is s n Bad e .1 })
+      go Cut e = rw (check-behind s n (omega arith) w, cut-at s n h e) (record { before = longest s n w h t; begins = read-is s n Cut e })
 
   answer : (cs : List ℕ) → Scalars cs → (rest : List ℕ) → s ≡ encodeAll cs ++ rest → Stops (decodeHead rest) → CheckIs s (checkFrom 0 s)
   answer cs w [] p t =
@@ -130,12 +129,12 @@ module _ (s : List ℕ) where
   pub is-check : (r : Utf8Check) → CheckIs s r → checkFrom 0 s ≡ r
   is-check Fine w = fine-of-well 0 s w
   is-check (CutAt n) w =
-      let g = w .0 in
-      check-behind s n (omega (arith, g .short)) (g .well) ∙ cut-at s n (g .short) (begins-cut (drop n s) (w .1))
+      let g = w .before in
+      check-behind s n (omega (arith, g .short)) (g .well) ∙ cut-at s n (g .short) (begins-cut (drop n s) (w .begins))
   is-check (BadAt n) w =
-      let g = w .0 in
+      let g = w .before in
       check-behind s n (omega (arith, g .short)) (g .well)
-      ∙ bad-at s n (g .short) (is-read s n Bad (λ c k v. stops-at n g c k (is-read s n (Char c k) v), w .1))
+      ∙ bad-at s n (g .short) (is-read s n Bad (λ c k v. stops-at n g c k (is-read s n (Char c k) v), w .begins-none))
 
   pub one-check : (r q : Utf8Check) → CheckIs s r → CheckIs s q → r ≡ q
   one-check r q v w = sym (is-check r v) ∙ is-check q w
@@ -148,9 +147,3 @@ not-longer s m n l k = split-lt m n (λ h. absurd (l .none-longer n h (omega (ar
 
 pub one-longest : (s : List ℕ) (m n : ℕ) → Longest s m → Longest s n → m ≡ n
 one-longest s m n l k = omega (arith, not-longer s m n l k, not-longer s n m k l)
-
--- what holds of both refusals at the end of that beginning holds of the answer
-pub ill-formed : (s : List ℕ) (n : ℕ) (P : Utf8Check → Type 0) (r : Utf8Check) → Longest s n → CheckIs s r → P (BadAt n) → P (CutAt n) → P r
-ill-formed s n P Fine l w bad cut = absurd (l .none-longer (length s) (l .short) (omega arith) (rw (take-length s) w))
-ill-formed s n P (BadAt m) l w bad cut = subst (λ (i : ℕ). P (BadAt i)) (one-longest s n m l (w .0)) bad
-ill-formed s n P (CutAt m) l w bad cut = subst (λ (i : ℕ). P (CutAt i)) (one-longest s n m l (w .0)) cut

@@ -1,10 +1,11 @@
-// Document 01's numbers of what `read_char` and `check_utf8` answer, for whoever prints them or hands them on.
+// The documents' numbers of what `read_char` and `check_utf8` answer, for whoever prints them or hands them on.
 ghost use mathlib.Core.Path.{_≡_};
 ghost use Rattle.utf8.specs.Lengths.{lenOf};
-ghost use Rattle.utf8.specs.Answer.{readNumber, codeOf, cutOf, numberOf, placeOf, checkCut};
+ghost use Rattle.utf8.specs.Answer.{readNumber, codeOf, numberOf, placeOf};
 use crate::Read;
 use crate::Utf8Check;
 use base::refusals::BAD_UTF8;
+use base::refusals::CUT_UTF8;
 use base::refusals::NO_REFUSAL;
 
 // The number of a reading's refusal; 0 where there is none.
@@ -14,7 +15,7 @@ pub fn read_number(read: Read) -> u32
     match read {
         Read::Char { code: _, len: _ } => NO_REFUSAL,
         Read::Bad => BAD_UTF8,
-        Read::Cut => BAD_UTF8,
+        Read::Cut => CUT_UTF8,
     }
 }
 
@@ -40,17 +41,6 @@ pub fn read_len(read: Read) -> usize
     }
 }
 
-// 1 where the end cuts a character.
-pub fn read_cut(read: Read) -> u32
-    ensures { λ r. ⌜ r ≡ cutOf read ⌝ }
-{
-    match read {
-        Read::Char { code: _, len: _ } => 0,
-        Read::Bad => 0,
-        Read::Cut => 1,
-    }
-}
-
 // The number of a check's refusal; 0 where there is none.
 pub fn check_number(check: Utf8Check) -> u32
     ensures { λ r. ⌜ r ≡ numberOf check ⌝ }
@@ -58,7 +48,7 @@ pub fn check_number(check: Utf8Check) -> u32
     match check {
         Utf8Check::Fine => NO_REFUSAL,
         Utf8Check::BadAt(_) => BAD_UTF8,
-        Utf8Check::CutAt(_) => BAD_UTF8,
+        Utf8Check::CutAt(_) => CUT_UTF8,
     }
 }
 
@@ -70,16 +60,5 @@ pub fn check_place(check: Utf8Check) -> usize
         Utf8Check::Fine => 0,
         Utf8Check::BadAt(i) => i,
         Utf8Check::CutAt(i) => i,
-    }
-}
-
-// 1 where the end cuts a character.
-pub fn check_cut(check: Utf8Check) -> u32
-    ensures { λ r. ⌜ r ≡ checkCut check ⌝ }
-{
-    match check {
-        Utf8Check::Fine => 0,
-        Utf8Check::BadAt(_) => 0,
-        Utf8Check::CutAt(_) => 1,
     }
 }

@@ -12,6 +12,9 @@ enum-known-refusal c = search needs
 enum-known-refusal-2 : tie.Need-enum-known-refusal-2
 enum-known-refusal-2 c = search needs
 
+enum-known-refusal-3 : tie.Need-enum-known-refusal-3
+enum-known-refusal-3 c = search needs
+
 returns : tie.Need-returns
 returns c = search needs
 
@@ -21,7 +24,10 @@ returns-2 c = rw (c .before .refusal .given .1)
 returns-3 : tie.Need-returns-3
 returns-3 c = rw (c .before .refusal2 .given .1)
 
+returns-4 : tie.Need-returns-4
+returns-4 c = rw (c .before .refusal3 .given .1)
+
 pub refused-spec : {M : Type 1} → statement M
 refused-spec =
     tie.close
-    (tie.spec enum-told enum-known-refusal enum-known-refusal-2 returns returns-2 returns-3)
+    (tie.spec enum-told enum-known-refusal enum-known-refusal-2 enum-known-refusal-3 returns returns-2 returns-3 returns-4)

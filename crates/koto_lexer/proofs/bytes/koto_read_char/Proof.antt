@@ -1,7 +1,7 @@
 -- `bytes::koto_read_char` meets its contract: each number is that of what was read. Assumes nothing.
 use mathlib.Core.Path.{ap, _∙_}
 use Rattle.utf8.specs.Lengths.{lenOf}
-use Rattle.utf8.specs.Answer.{readNumber, codeOf, cutOf}
+use Rattle.utf8.specs.Answer.{readNumber, codeOf}
 use borrow.Author.Needs.{needs}
 use Rattle.koto_lexer.proofs.bytes.koto_read_char.Statement.{statement}
 use Rattle.koto_lexer.proofs.bytes.koto_read_char.Tie as tie
@@ -15,23 +15,18 @@ read-code-requires c κs = search needs
 read-len-requires : tie.Need-read-len-requires
 read-len-requires c κs = search needs
 
-read-cut-requires : tie.Need-read-cut-requires
-read-cut-requires c κs = search needs
-
 read-number-requires : tie.Need-read-number-requires
 read-number-requires c κs = search needs
 
 returns : tie.Need-returns
 returns c =
-    let at-cut = c .before in
-    let at-len = at-cut .before in
+    let at-len = c .before in
     let at-code = at-len .before in
     let e = at-code .before .read-char .ensures in
     record {
       number = c .read-number .ensures ∙ ap readNumber e;
       code-is = at-code .read-code .ensures ∙ ap codeOf e;
       len-is = at-len .read-len .ensures ∙ ap lenOf e;
-      cut-is = at-cut .read-cut .ensures ∙ ap cutOf e;
     }
 
 pub koto-read-char-spec : {M : Type 1} → statement M
@@ -41,6 +36,5 @@ koto-read-char-spec =
     read-char-requires
     read-code-requires
     read-len-requires
-    read-cut-requires
     read-number-requires
     returns)

@@ -59,6 +59,12 @@ enum-told-8 c = search needs
 no-numbers-requires-8 : tie.Need-no-numbers-requires-8
 no-numbers-requires-8 c κs = search needs
 
+enum-told-9 : tie.Need-enum-told-9
+enum-told-9 c = search needs
+
+no-numbers-requires-9 : tie.Need-no-numbers-requires-9
+no-numbers-requires-9 c κs = search needs
+
 returns : tie.Need-returns
 returns c = c .options-numbers .ensures ∙ ap numbersOf (sym (c .before .before .parsed .given .1))
 
@@ -86,6 +92,9 @@ returns-8 c = search needs
 returns-9 : tie.Need-returns-9
 returns-9 c = search needs
 
+returns-10 : tie.Need-returns-10
+returns-10 c = search needs
+
 pub numbers-of-spec : {M : Type 1} → statement M
 numbers-of-spec =
     tie.close
@@ -108,6 +117,8 @@ numbers-of-spec =
     no-numbers-requires-7
     enum-told-8
     no-numbers-requires-8
+    enum-told-9
+    no-numbers-requires-9
     returns
     returns-2
     returns-3
@@ -116,4 +127,5 @@ numbers-of-spec =
     returns-6
     returns-7
     returns-8
-    returns-9)
+    returns-9
+    returns-10)
