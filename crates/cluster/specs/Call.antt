@@ -1,4 +1,4 @@
--- The public call `first_cluster`: its answer, refusals too, in the documents' order: 1 as a source, 2, 3 or 15. No bytes give length 0.
+-- The public call `first_cluster`: its answer, refusals too, in the documents' order: 1 as a source, 17, 2, 3 or 15. No bytes give length 0.
 -- Assumes nothing.
 use Prim.Native.Nat.{ℕ}
 use mathlib.Core.List.{List}
@@ -6,15 +6,15 @@ use Rattle.base.specs.Refusal.{none, sourceMost}
 use Rattle.utf8.specs.Chars.{chars}
 use Rattle.property.specs.Table.{propertiesAt}
 use Rattle.input.specs.Input as input
-use Rattle.input.specs.Input.{baseEdition, inputCheck, onInput}
+use Rattle.input.specs.Input.{inputCheck, onInput}
 use Rattle.cluster.specs.First.{firstEnd}
 use Rattle.cluster.specs.declared.Cluster.{Cluster}
 use Rattle.cluster.specs.declared.Cluster.the-variants.{Length, Refused}
 
--- the answer for the bytes of a source and the numbers of a table
-unfoldable pub firstCluster : List ℕ → List ℕ → Cluster
-firstCluster source table =
-    onInput Refused (inputCheck sourceMost source table) (Length (firstEnd (propertiesAt table) baseEdition 0 (chars source)))
+-- the answer for the bytes of a source, the numbers of a table, and an edition
+unfoldable pub firstCluster : List ℕ → List ℕ → ℕ → Cluster
+firstCluster source table edition =
+    onInput Refused (inputCheck sourceMost source table edition) (Length (firstEnd (propertiesAt table) edition 0 (chars source)))
 
 -- ---- the documents' numbers of an answer
 

@@ -6,6 +6,7 @@
 -- Assumes nothing.
 use Prim.Native.Nat.{ℕ, _≤_}
 use mathlib.Core.Path.{_≡_, refl}
+use mathlib.Core.Bool.{true}
 use mathlib.Core.List.{List, []}
 use lib.ListN.{length}
 use Rattle.base.specs.Refusal.{sourceMost}
@@ -14,7 +15,7 @@ use Rattle.utf8.specs.Chars.{chars, charsIn, checkIn}
 use Rattle.property.specs.Table.{propertiesAt}
 use Rattle.fitness.specs.Fit.{tableCheck}
 use Rattle.fitness.specs.declared.TableCheck.the-variants.{Fit}
-use Rattle.input.specs.Input.{baseEdition, inputCheck, Readable}
+use Rattle.input.specs.Input.{isEdition, inputCheck, Readable}
 use Rattle.input.specs.InputLaws.{is-fine}
 use Rattle.input.specs.declared.Refusal.{Refusal}
 use Rattle.input.specs.declared.Input.the-variants as input
@@ -23,20 +24,21 @@ use Rattle.cluster.specs.FirstLaws.{Agree, same-first}
 use Rattle.cluster.specs.Call.{firstCluster}
 use Rattle.cluster.specs.declared.Cluster.the-variants.{Length, Refused}
 
-pub refused : (source table : List ℕ) {x : Refusal} → inputCheck sourceMost source table ≡ input.Refused x → firstCluster source table ≡ Refused x
+pub refused : (source table : List ℕ) (edition : ℕ) {x : Refusal} → inputCheck sourceMost source table edition ≡ input.Refused x
+    → firstCluster source table edition ≡ Refused x
 unfolding firstCluster
-refused source table e = rw e
+refused source table edition e = rw e
 
-pub unrefused : (source table : List ℕ) → Readable sourceMost source table
-    → firstCluster source table ≡ Length (firstEnd (propertiesAt table) baseEdition 0 (chars source))
+pub unrefused : (source table : List ℕ) (edition : ℕ) → Readable sourceMost source table edition
+    → firstCluster source table edition ≡ Length (firstEnd (propertiesAt table) edition 0 (chars source))
 unfolding firstCluster
-unrefused source table g = rw (is-fine sourceMost source table g)
+unrefused source table edition g = rw (is-fine sourceMost source table edition g)
 
-pub no-bytes : (table : List ℕ) → tableCheck table ≡ Fit → firstCluster [] table ≡ Length 0
+pub no-bytes : (table : List ℕ) (edition : ℕ) → isEdition edition ≡ true → tableCheck table ≡ Fit → firstCluster [] table edition ≡ Length 0
 unfolding firstCluster inputCheck checkIn charsIn encodeAll
-no-bytes table e = rw e
+no-bytes table edition k e = rw (k, e)
 
-pub same-call : (source t u : List ℕ) → tableCheck t ≡ Fit → tableCheck u ≡ Fit → Agree (propertiesAt t) (propertiesAt u) (chars source)
-    → firstCluster source t ≡ firstCluster source u
+pub same-call : (source t u : List ℕ) (edition : ℕ) → tableCheck t ≡ Fit → tableCheck u ≡ Fit
+    → Agree (propertiesAt t) (propertiesAt u) (chars source) → firstCluster source t edition ≡ firstCluster source u edition
 unfolding firstCluster inputCheck
-same-call source t u e f a = rw (e, f, same-first (propertiesAt t) (propertiesAt u) baseEdition (chars source) a)
+same-call source t u edition e f a = rw (e, f, same-first (propertiesAt t) (propertiesAt u) edition (chars source) a)

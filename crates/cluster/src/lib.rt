@@ -8,7 +8,6 @@ ghost use Rattle.utf8.specs.Chars.{chars};
 ghost use Rattle.property.specs.Table.{propertiesAt, Rises};
 ghost use Rattle.cluster.specs.First.{firstEnd};
 ghost use Rattle.cluster.specs.Call.{firstCluster};
-use input::EDITION;
 use input::Input;
 use input::Refusal;
 use input::SOURCE_MOST;
@@ -44,13 +43,14 @@ pub fn cluster_end(source: &[u8], table: &[u32], edition: u32, at: usize) -> usi
     i
 }
 
-// The length in bytes of the first cluster of a source; no bytes give 0. Refused are a source that is too long, then a table that is unfit,
-// with the place of its fault, then bytes that are wrong or cut, with their offset.
-pub fn first_cluster(source: &[u8], table: &[u32]) -> Cluster
-    ensures { λ r. ⌜ r ≡ firstCluster (now (source .entry)) (now (table .entry)) ⌝ }
+// The length in bytes of the first cluster of a source, in edition 1 (without GB9c) or 2 (with it); no bytes give 0. Refused are a source that
+// is too long, then a number that is no edition, then a table that is unfit, with the place of its fault, then bytes that are wrong or cut,
+// with their offset.
+pub fn first_cluster(source: &[u8], table: &[u32], edition: u32) -> Cluster
+    ensures { λ r. ⌜ r ≡ firstCluster (now (source .entry)) (now (table .entry)) edition ⌝ }
 {
-    match input::check_input(source, table, SOURCE_MOST) {
+    match input::check_input(source, table, edition, SOURCE_MOST) {
         Input::Refused(refusal) => Cluster::Refused(refusal),
-        Input::Fine => Cluster::Length(cluster_end(source, table, EDITION, 0)),
+        Input::Fine => Cluster::Length(cluster_end(source, table, edition, 0)),
     }
 }

@@ -2,6 +2,7 @@
 ghost use mathlib.Core.Path.{_≡_};
 ghost use Rattle.input.specs.Input.{numberOf, placeOf};
 use crate::Refusal;
+use base::refusals::BAD_EDITION;
 use base::refusals::BAD_TABLE;
 use base::refusals::BAD_UTF8;
 use base::refusals::CUT_UTF8;
@@ -13,6 +14,7 @@ pub fn number_of(refusal: Refusal) -> u32
 {
     match refusal {
         Refusal::TooLong => TOO_LONG,
+        Refusal::BadEdition => BAD_EDITION,
         Refusal::BadTable(_) => BAD_TABLE,
         Refusal::BadUtf8(_) => BAD_UTF8,
         Refusal::CutUtf8(_) => CUT_UTF8,
@@ -25,6 +27,7 @@ pub fn place_of(refusal: Refusal) -> usize
 {
     match refusal {
         Refusal::TooLong => 0,
+        Refusal::BadEdition => 0,
         Refusal::BadTable(i) => i,
         Refusal::BadUtf8(i) => i,
         Refusal::CutUtf8(i) => i,

@@ -1,19 +1,18 @@
 -- The public call `parse`: string_format_options.rs `StringFormatOptions::parse` with its pool, in one pass, as the Rust has it. Document
--- 01's refusals 1, 2, 3 (or 15 of document 02), 8 come before it, in this order, and write nothing; 10 to 12 are the Rust's errors, and 13 is an
--- addition without room, which ends the parse. Strings added before stay.
+-- 01's refusals 1, 2, 3, 8 come before it, in this order, with document 02's 17 after 1 and 15 in the place of 3, and write nothing; 10 to 12
+-- are the Rust's errors, and 13 is an addition without room, which ends the parse. Strings added before stay.
 -- Assumes nothing.
 use Prim.Native.Nat.{ℕ}
 use mathlib.Core.Path.{_≡_}
 use mathlib.Core.Bool.{Bool, true, false}
 use mathlib.Core.List.{List}
 use Rattle.base.specs.Pick.{pick}
-use Rattle.base.specs.Refusal.{none, tooLong, badTable, badUtf8, cutUtf8, badState, expectedNumber, formatNumberIsTooLarge, unexpectedToken, poolFull, formatMost}
+use Rattle.base.specs.Refusal.{none, tooLong, badEdition, badTable, badUtf8, cutUtf8, badState, expectedNumber, formatNumberIsTooLarge, unexpectedToken, poolFull, formatMost}
 use Rattle.utf8.specs.Chars.{chars}
 use Rattle.property.specs.Table.{propertiesAt}
 use Rattle.input.specs.Input.{inputCheck, onInput}
 use Rattle.input.specs.declared.Refusal.{Refusal}
 use Rattle.input.specs.declared.Refusal.the-variants as refusal
-use Rattle.input.specs.Input.{baseEdition}
 use Rattle.pool_rows.specs.Rows.{fitPool}
 use Rattle.pool.specs.Pool.{added, bytesAfter, entriesAfter}
 use Rattle.pool_rows.specs.declared.Counts.{Counts}
@@ -29,7 +28,7 @@ use Rattle.format.specs.declared.Outcome.the-variants as outcome
 use Rattle.parse.specs.declared.Adding.{Adding}
 use Rattle.parse.specs.declared.After.{After}
 use Rattle.parse.specs.declared.Parsed.{Parsed}
-use Rattle.parse.specs.declared.Parsed.the-variants.{Read, TooLong, BadTable, BadUtf8, CutUtf8, BadState, ExpectedNumber, FormatNumberIsTooLarge, UnexpectedToken, PoolFull}
+use Rattle.parse.specs.declared.Parsed.the-variants.{Read, TooLong, BadEdition, BadTable, BadUtf8, CutUtf8, BadState, ExpectedNumber, FormatNumberIsTooLarge, UnexpectedToken, PoolFull}
 
 -- ---- the pool in a parse
 
@@ -88,8 +87,8 @@ abbrev pub answerOf : Options → Outcome → OptionalNumber → Bool → Parsed
 answerOf options outcome index full = pick full PoolFull (onOutcome outcome options index)
 
 -- the parse of a format string, in one pass
-unfoldable pub parsed : List ℕ → List ℕ → Pool → form.OnePass Pool
-parsed format table p = parseWith (λ q part. addTo q (stringOf format part)) (propertiesAt table) baseEdition p (chars format)
+unfoldable pub parsed : List ℕ → List ℕ → ℕ → Pool → form.OnePass Pool
+parsed format table edition p = parseWith (λ q part. addTo q (stringOf format part)) (propertiesAt table) edition p (chars format)
 
 abbrev pub answer : form.OnePass Pool → Parsed
 answer r = answerOf (r .options) (r .outcome) (r .pool .index) (r .pool .full)
@@ -107,30 +106,32 @@ comes r p = record { answer = r; pool = p }
 -- a refusal that comes before any work, as an answer
 abbrev pub refusedAs : Refusal → Parsed
 refusedAs refusal.TooLong = TooLong
+refusedAs refusal.BadEdition = BadEdition
 refusedAs (refusal.BadTable i) = BadTable i
 refusedAs (refusal.BadUtf8 i) = BadUtf8 i
 refusedAs (refusal.CutUtf8 i) = CutUtf8 i
 
--- refusals 1, 2, 3 or 15, 8 in this order, each of which leaves the pool, and then the parse
-unfoldable pub call : List ℕ → List ℕ → Pool → Comes
-call format table p =
-    onInput (λ (x : Refusal). comes (refusedAs x) p) (inputCheck formatMost format table)
+-- refusals 1, 17, 2, 3 or 15, 8 in this order, each of which leaves the pool, and then the parse
+unfoldable pub call : List ℕ → List ℕ → ℕ → Pool → Comes
+call format table edition p =
+    onInput (λ (x : Refusal). comes (refusedAs x) p) (inputCheck formatMost format table edition)
     (pick (fitPool (p .bytes) (p .entries) (p .counts))
-    (comes (answer (parsed format table p)) (parsed format table p .pool))
+    (comes (answer (parsed format table edition p)) (parsed format table edition p .pool))
     (comes BadState p))
 
 -- what `parse` ensures: its answer, and the counts and every word of both rows after it
-pub record Parses (format table bytes entries : List ℕ) (counts : Counts) (newBytes newEntries : List ℕ) (r : After) : Type 0 where
-  pub answer-is : r .answer ≡ call format table (lent bytes entries counts) .answer
-  pub counts-left : r .counts ≡ call format table (lent bytes entries counts) .pool .counts
-  pub bytes-left : newBytes ≡ call format table (lent bytes entries counts) .pool .bytes
-  pub entries-left : newEntries ≡ call format table (lent bytes entries counts) .pool .entries
+pub record Parses (format table : List ℕ) (edition : ℕ) (bytes entries : List ℕ) (counts : Counts) (newBytes newEntries : List ℕ) (r : After) : Type 0 where
+  pub answer-is : r .answer ≡ call format table edition (lent bytes entries counts) .answer
+  pub counts-left : r .counts ≡ call format table edition (lent bytes entries counts) .pool .counts
+  pub bytes-left : newBytes ≡ call format table edition (lent bytes entries counts) .pool .bytes
+  pub entries-left : newEntries ≡ call format table edition (lent bytes entries counts) .pool .entries
 
 -- ---- the documents' numbers of an answer
 
 abbrev pub numberOf : Parsed → ℕ
 numberOf (Read options index) = none
 numberOf TooLong = tooLong
+numberOf BadEdition = badEdition
 numberOf (BadTable i) = badTable
 numberOf (BadUtf8 i) = badUtf8
 numberOf (CutUtf8 i) = cutUtf8
@@ -144,6 +145,7 @@ numberOf PoolFull = poolFull
 abbrev pub valueOf : Parsed → ℕ
 valueOf (Read options index) = 0
 valueOf TooLong = 0
+valueOf BadEdition = 0
 valueOf (BadTable i) = i
 valueOf (BadUtf8 i) = i
 valueOf (CutUtf8 i) = i

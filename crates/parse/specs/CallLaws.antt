@@ -22,7 +22,6 @@ use Rattle.property.specs.Table.{propertiesAt}
 use Rattle.input.specs.Input.{inputCheck}
 use Rattle.input.specs.declared.Refusal.{Refusal}
 use Rattle.input.specs.declared.Input.the-variants as input
-use Rattle.input.specs.Input.{baseEdition}
 use Rattle.pool_rows.specs.Rows.{fitPool}
 use Rattle.pool.specs.Pool.{added, isNew, bytesAfter, entriesAfter, AddsString}
 use Rattle.pool.specs.PoolLaws.{old-bytes, old-entries, grows, added-again}
@@ -167,23 +166,23 @@ module _ (p : Pool) (x : List ℕ) where
 
 -- ---- the two stages
 
-pub two-stages : (format table : List ℕ) (p : Pool) → WellFormed format
-    → parsed format table p
+pub two-stages : (format table : List ℕ) (edition : ℕ) (p : Pool) → WellFormed format
+    → parsed format table edition p
     ≡ record {
-      options = readOf format table .options;
-      outcome = readOf format table .outcome;
-      pool = addBoth (addPart format addTo) p (readOf format table .added);
+      options = readOf format table edition .options;
+      outcome = readOf format table edition .outcome;
+      pool = addBoth (addPart format addTo) p (readOf format table edition .added);
     }
 unfolding parsed
-two-stages format table p w = parse-two-stages format addTo again (propertiesAt table) baseEdition p w
+two-stages format table edition p w = parse-two-stages format addTo again (propertiesAt table) edition p w
 
 -- ---- the call
 
-module _ {format table bytes entries : List ℕ} {counts : Counts} where
+module _ {format table : List ℕ} {edition : ℕ} {bytes entries : List ℕ} {counts : Counts} where
   -- from what the call comes to
-  pub parses-by : {x : Comes} {newBytes newEntries : List ℕ} {r : After} → call format table (lent bytes entries counts) ≡ x → r .answer ≡ x .answer
+  pub parses-by : {x : Comes} {newBytes newEntries : List ℕ} {r : After} → call format table edition (lent bytes entries counts) ≡ x → r .answer ≡ x .answer
       → r .counts ≡ x .pool .counts → newBytes ≡ x .pool .bytes → newEntries ≡ x .pool .entries
-      → Parses format table bytes entries counts newBytes newEntries r
+      → Parses format table edition bytes entries counts newBytes newEntries r
   parses-by e a c b n =
       record {
         answer-is = a ∙ ap (λ (y : Comes). y .answer) (sym e);
@@ -193,32 +192,32 @@ module _ {format table bytes entries : List ℕ} {counts : Counts} where
       }
 
   -- refusals 1, 2, 3
-  pub parses-refused : {x : Refusal} → inputCheck formatMost format table ≡ input.Refused x
-      → Parses format table bytes entries counts bytes entries (record { answer = refusedAs x; counts = counts })
+  pub parses-refused : {x : Refusal} → inputCheck formatMost format table edition ≡ input.Refused x
+      → Parses format table edition bytes entries counts bytes entries (record { answer = refusedAs x; counts = counts })
   unfolding call
   parses-refused {x} e =
-      let c : call format table (lent bytes entries counts) ≡ comes (refusedAs x) (lent bytes entries counts) = rw e in
+      let c : call format table edition (lent bytes entries counts) ≡ comes (refusedAs x) (lent bytes entries counts) = rw e in
       parses-by {x = comes (refusedAs x) (lent bytes entries counts)} c refl refl refl refl
 
-  module _ (e : inputCheck formatMost format table ≡ input.Fine) where
+  module _ (e : inputCheck formatMost format table edition ≡ input.Fine) where
     -- refusal 8
     pub parses-unfit : fitPool bytes entries counts ≡ false
-        → Parses format table bytes entries counts bytes entries (record { answer = BadState; counts = counts })
+        → Parses format table edition bytes entries counts bytes entries (record { answer = BadState; counts = counts })
     unfolding call
     parses-unfit f =
-        let c : call format table (lent bytes entries counts) ≡ comes BadState (lent bytes entries counts) = rw (e, f) in
+        let c : call format table edition (lent bytes entries counts) ≡ comes BadState (lent bytes entries counts) = rw (e, f) in
         parses-by {x = comes BadState (lent bytes entries counts)} c refl refl refl refl
 
 -- none of them
-pub called : (format table bytes entries : List ℕ) (counts : Counts) → inputCheck formatMost format table ≡ input.Fine → fitPool bytes entries counts ≡ true
-    → call format table (lent bytes entries counts)
-    ≡ comes (answer (parsed format table (lent bytes entries counts))) (parsed format table (lent bytes entries counts) .pool)
+pub called : (format table : List ℕ) (edition : ℕ) (bytes entries : List ℕ) (counts : Counts) → inputCheck formatMost format table edition ≡ input.Fine → fitPool bytes entries counts ≡ true
+    → call format table edition (lent bytes entries counts)
+    ≡ comes (answer (parsed format table edition (lent bytes entries counts))) (parsed format table edition (lent bytes entries counts) .pool)
 unfolding call
-called format table bytes entries counts e f = rw (e, f)
+called format table edition bytes entries counts e f = rw (e, f)
 
 -- no second answer, counts and rows fit
-pub one-answer : {format table bytes entries newBytes newEntries newBytes′ newEntries′ : List ℕ} {counts : Counts} {r q : After}
-    → Parses format table bytes entries counts newBytes newEntries r → Parses format table bytes entries counts newBytes′ newEntries′ q
+pub one-answer : {format table : List ℕ} {edition : ℕ} {bytes entries newBytes newEntries newBytes′ newEntries′ : List ℕ} {counts : Counts} {r q : After}
+    → Parses format table edition bytes entries counts newBytes newEntries r → Parses format table edition bytes entries counts newBytes′ newEntries′ q
     → (r ≡ q) × (newBytes ≡ newBytes′) × (newEntries ≡ newEntries′)
 one-answer {r = r} {q = q} a b = (
   ap (λ (x : Parsed). record { answer = x; counts = r .counts }) (a .answer-is ∙ sym (b .answer-is))

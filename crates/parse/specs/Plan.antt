@@ -11,13 +11,10 @@ use Rattle.utf8.specs.Chars.{chars}
 use Rattle.property.specs.Table.{propertiesAt}
 use Rattle.input.specs.Input.{inputCheck, onInput}
 use Rattle.input.specs.declared.Refusal.{Refusal}
-use Rattle.input.specs.Input.{baseEdition}
 use Rattle.pool_rows.specs.Rows.{fitPool}
 use Rattle.pool_rows.specs.declared.Counts.{Counts}
-use Rattle.format.specs.Parse.{addFill, stringOf}
-use Rattle.format.specs.Parse.{PartIn}
+use Rattle.format.specs.Parse.{addFill, addPart, stringOf, PartIn}
 use Rattle.format.specs.Read.{readFormat}
-use Rattle.format.specs.Parse.{addPart}
 use Rattle.format.specs.declared.OptionalNumber.the-variants.{Nothing}
 use Rattle.format.specs.declared.Fill.{Fill}
 use Rattle.format.specs.declared.Fill.the-variants.{Is, NoFill}
@@ -33,14 +30,14 @@ use Rattle.parse.specs.declared.Parsed.the-variants.{BadState}
 -- ---- before the pool is written to
 
 -- the reading without a pool
-abbrev pub readOf : List ℕ → List ℕ → FormatRead
-readOf format table = readFormat (propertiesAt table) baseEdition (chars format)
+abbrev pub readOf : List ℕ → List ℕ → ℕ → FormatRead
+readOf format table edition = readFormat (propertiesAt table) edition (chars format)
 
--- what `read` answers for a pool that is fit or not: refusals 1, 2, 3, 8 in this order, and then the reading
-unfoldable pub inputOf : List ℕ → List ℕ → Bool → FormatInput
-inputOf format table fit =
-    onInput (λ (x : Refusal). Refused (refusedAs x)) (inputCheck formatMost format table)
-    (pick fit (Read (readOf format table)) (Refused BadState))
+-- what `read` answers for a pool that is fit or not: refusals 1, 17, 2, 3 or 15, 8 in this order, and then the reading
+unfoldable pub inputOf : List ℕ → List ℕ → ℕ → Bool → FormatInput
+inputOf format table edition fit =
+    onInput (λ (x : Refusal). Refused (refusedAs x)) (inputCheck formatMost format table edition)
+    (pick fit (Read (readOf format table edition)) (Refused BadState))
 
 -- ---- what is to be added
 

@@ -23,7 +23,6 @@ use Rattle.input.specs.InputLaws.{fine-of}
 use Rattle.input.specs.declared.Refusal.{Refusal}
 use Rattle.input.specs.declared.Input.{Input}
 use Rattle.input.specs.declared.Input.the-variants as check
-use Rattle.input.specs.Input.{baseEdition}
 use Rattle.pool_rows.specs.Rows.{fitPool}
 use Rattle.pool.specs.Pool.{AddsToFit}
 use Rattle.pool.specs.PoolLaws.{adds-fine}
@@ -101,50 +100,50 @@ module _ (format : List ℕ) where
 -- ---- before the pool is written to
 
 -- a format string that `read` has read: it is well formed, this is its reading, and the pool is fit
-pub record Reads (format table : List ℕ) (fit : Bool) (r : FormatRead) : Type 0 where
-  pub checked : inputCheck formatMost format table ≡ check.Fine
+pub record Reads (format table : List ℕ) (edition : ℕ) (fit : Bool) (r : FormatRead) : Type 0 where
+  pub checked : inputCheck formatMost format table edition ≡ check.Fine
   pub well : WellFormed format
-  pub is : r ≡ readOf format table
+  pub is : r ≡ readOf format table edition
   pub is-fit : fit ≡ true
 
-module _ (format table : List ℕ) where
+module _ (format table : List ℕ) (edition : ℕ) where
   -- what `inputOf` is, by what the checks answer
   abbrev byInput : Input → Bool → FormatInput
-  byInput c fit = onInput (λ (x : Refusal). Refused (refusedAs x)) c (pick fit (Read (readOf format table)) (Refused BadState))
+  byInput c fit = onInput (λ (x : Refusal). Refused (refusedAs x)) c (pick fit (Read (readOf format table edition)) (Refused BadState))
 
-  reads-by : {r : FormatRead} (c : Input) (fit : Bool) → inputCheck formatMost format table ≡ c → byInput c fit ≡ Read r → Reads format table fit r
+  reads-by : {r : FormatRead} (c : Input) (fit : Bool) → inputCheck formatMost format table edition ≡ c → byInput c fit ≡ Read r → Reads format table edition fit r
   reads-by (check.Refused x) fit w e = absurd (let z : _≡_ {A = ℕ} 0 1 = cc in omega arith)
   reads-by check.Fine false w e = absurd (let z : _≡_ {A = ℕ} 0 1 = cc in omega arith)
-  reads-by check.Fine true w e = record { checked = w; well = fine-of formatMost format table w .well; is = cc; is-fit = refl }
+  reads-by check.Fine true w e = record { checked = w; well = fine-of formatMost format table edition w .well; is = cc; is-fit = refl }
 
   module _ (fit : Bool) where
-    pub is-refused : {x : Refusal} → inputCheck formatMost format table ≡ check.Refused x → inputOf format table fit ≡ Refused (refusedAs x)
+    pub is-refused : {x : Refusal} → inputCheck formatMost format table edition ≡ check.Refused x → inputOf format table edition fit ≡ Refused (refusedAs x)
     unfolding inputOf
     is-refused e = rw e
 
-    pub is-unfit : inputCheck formatMost format table ≡ check.Fine → fit ≡ false → inputOf format table fit ≡ Refused BadState
+    pub is-unfit : inputCheck formatMost format table edition ≡ check.Fine → fit ≡ false → inputOf format table edition fit ≡ Refused BadState
     unfolding inputOf
     is-unfit e f = rw (e, f)
 
-    pub is-read : inputCheck formatMost format table ≡ check.Fine → fit ≡ true → {r : FormatRead} → r ≡ readOf format table → inputOf format table fit ≡ Read r
+    pub is-read : inputCheck formatMost format table edition ≡ check.Fine → fit ≡ true → {r : FormatRead} → r ≡ readOf format table edition → inputOf format table edition fit ≡ Read r
     unfolding inputOf
     is-read e f q = rw (e, f, q)
 
-  pub reads : {fit : Bool} {r : FormatRead} → inputOf format table fit ≡ Read r → Reads format table fit r
+  pub reads : {fit : Bool} {r : FormatRead} → inputOf format table edition fit ≡ Read r → Reads format table edition fit r
   unfolding inputOf
-  reads {fit} e = reads-by (inputCheck formatMost format table) fit refl e
+  reads {fit} e = reads-by (inputCheck formatMost format table edition) fit refl e
 
 -- ---- the plan
 
-module _ (format table bytes entries : List ℕ) (counts : Counts) where
+module _ (format table : List ℕ) (edition : ℕ) (bytes entries : List ℕ) (counts : Counts) where
   abbrev fit : Bool
   fit = fitPool bytes entries counts
 
-  can-by : (q : FormatInput) → inputOf format table fit ≡ q → CanPlan format (planOf q counts) bytes entries
+  can-by : (q : FormatInput) → inputOf format table edition fit ≡ q → CanPlan format (planOf q counts) bytes entries
   can-by (Refused a) e = record { first = tt; second = tt }
   can-by (Read r) e =
-      let s : Reads format table fit r = reads format table e in
-      let both = subst (λ (x : FormatRead). AddedIn format (x .added)) (sym (s .is)) (added-in format (propertiesAt table) baseEdition (s .well)) in
+      let s : Reads format table edition fit r = reads format table edition e in
+      let both = subst (λ (x : FormatRead). AddedIn format (x .added)) (sym (s .is)) (added-in format (propertiesAt table) edition (s .well)) in
       record { first = can (r .added .first) (both .first) (s .is-fit); second = can (r .added .second) (both .second) (s .is-fit) }
     where
       can : (fill : Fill) → FillIn format fill → fit ≡ true → CanAdd format (lent bytes entries counts) fill
@@ -152,23 +151,23 @@ module _ (format table bytes entries : List ℕ) (counts : Counts) where
       can NoFill v f = tt
 
   -- what `read` answered, where the pool's fitness was told
-  told : {b : Bool} {q : FormatInput} → b ≡ fit → q ≡ inputOf format table b → q ≡ inputOf format table fit
-  told f e = e ∙ ap (inputOf format table) f
+  told : {b : Bool} {q : FormatInput} → b ≡ fit → q ≡ inputOf format table edition b → q ≡ inputOf format table edition fit
+  told f e = e ∙ ap (inputOf format table edition) f
 
-  pub can-plan : {b : Bool} {q : FormatInput} {plan : Plan} → b ≡ fit → q ≡ inputOf format table b → plan ≡ planOf q counts
+  pub can-plan : {b : Bool} {q : FormatInput} {plan : Plan} → b ≡ fit → q ≡ inputOf format table edition b → plan ≡ planOf q counts
       → CanPlan format plan bytes entries
   can-plan f e p =
       subst (λ (x : Plan). CanPlan format x bytes entries) (sym (p ∙ ap (λ (x : FormatInput). planOf x counts) (told f e)))
-      (can-by (inputOf format table fit) refl)
+      (can-by (inputOf format table edition fit) refl)
 
   -- ---- the call
 
   -- the answer a, with the pool as it was lent
   abbrev Keeps : Parsed → Type 0
-  Keeps a = Parses format table bytes entries counts bytes entries (record { answer = a; counts = counts })
+  Keeps a = Parses format table edition bytes entries counts bytes entries (record { answer = a; counts = counts })
 
   -- what a call comes to that was refused so
-  refused : (c : Input) (b : Bool) → inputCheck formatMost format table ≡ c → fit ≡ b → (a : Parsed) → byInput format table c b ≡ Refused a → Keeps a
+  refused : (c : Input) (b : Bool) → inputCheck formatMost format table edition ≡ c → fit ≡ b → (a : Parsed) → byInput format table edition c b ≡ Refused a → Keeps a
   refused (check.Refused x) b w f a e = let s : refusedAs x ≡ a = cc in subst Keeps s (parses-refused w)
   refused check.Fine false w f a e = let s : BadState ≡ a = cc in subst Keeps s (parses-unfit w f)
   refused check.Fine true w f a e = absurd (let z : _≡_ {A = ℕ} 0 1 = cc in omega arith)
@@ -176,18 +175,18 @@ module _ (format table bytes entries : List ℕ) (counts : Counts) where
   module _ {newBytes newEntries : List ℕ} {two : Adding} where
     -- the pool is as it was lent
     left : {a : Parsed} → pooled newBytes newEntries two ≡ lent bytes entries counts → Keeps a
-        → Parses format table bytes entries counts newBytes newEntries (record { answer = a; counts = two .counts })
+        → Parses format table edition bytes entries counts newBytes newEntries (record { answer = a; counts = two .counts })
     left {a} v p =
-        subst (λ (x : Pool). Parses format table bytes entries counts (x .bytes) (x .entries) (record { answer = a; counts = x .counts })) (sym v) p
+        subst (λ (x : Pool). Parses format table edition bytes entries counts (x .bytes) (x .entries) (record { answer = a; counts = x .counts })) (sym v) p
 
-    ended : (q : FormatInput) → inputOf format table fit ≡ q → pooled newBytes newEntries two ≡ addPlan format (planOf q counts) bytes entries
-        → Parses format table bytes entries counts newBytes newEntries (endBy q two)
+    ended : (q : FormatInput) → inputOf format table edition fit ≡ q → pooled newBytes newEntries two ≡ addPlan format (planOf q counts) bytes entries
+        → Parses format table edition bytes entries counts newBytes newEntries (endBy q two)
     unfolding inputOf
-    ended (Refused a) e v = left v (refused (inputCheck formatMost format table) fit refl refl a e)
+    ended (Refused a) e v = left v (refused (inputCheck formatMost format table edition) fit refl refl a e)
     ended (Read r) e v =
-        let s : Reads format table fit r = reads format table e in
-        let whole : call.parsed format table (lent bytes entries counts) ≡ record { options = r .options; outcome = r .outcome; pool = pooled newBytes newEntries two } =
-        two-stages format table (lent bytes entries counts) (s .well)
+        let s : Reads format table edition fit r = reads format table edition e in
+        let whole : call.parsed format table edition (lent bytes entries counts) ≡ record { options = r .options; outcome = r .outcome; pool = pooled newBytes newEntries two } =
+        two-stages format table edition (lent bytes entries counts) (s .well)
         ∙ ap (λ (x : FormatRead). record {
           options = x .options;
           outcome = x .outcome;
@@ -196,12 +195,12 @@ module _ (format table bytes entries : List ℕ) (counts : Counts) where
         ∙ ap (λ (p : Pool). record { options = r .options; outcome = r .outcome; pool = p }) (sym v) in
         parses-by
         {x = comes (endBy (Read r) two .answer) (pooled newBytes newEntries two)}
-        (called format table bytes entries counts (s .checked) (s .is-fit) ∙ ap (λ (y : form.OnePass Pool). comes (answer y) (y .pool)) whole) refl refl refl refl
+        (called format table edition bytes entries counts (s .checked) (s .is-fit) ∙ ap (λ (y : form.OnePass Pool). comes (answer y) (y .pool)) whole) refl refl refl refl
 
-    pub parses-planned : {b : Bool} {q : FormatInput} {plan : Plan} {r : After} → b ≡ fit → q ≡ inputOf format table b → plan ≡ planOf q counts
+    pub parses-planned : {b : Bool} {q : FormatInput} {plan : Plan} {r : After} → b ≡ fit → q ≡ inputOf format table edition b → plan ≡ planOf q counts
         → pooled newBytes newEntries two ≡ addPlan format plan bytes entries → r ≡ endBy q two
-        → Parses format table bytes entries counts newBytes newEntries r
+        → Parses format table edition bytes entries counts newBytes newEntries r
     parses-planned f e p v a =
         let g = told f e in
-        subst (λ (x : After). Parses format table bytes entries counts newBytes newEntries x) (sym (a ∙ ap (λ (x : FormatInput). endBy x two) g))
-        (ended (inputOf format table fit) refl (v ∙ ap (λ (x : Plan). addPlan format x bytes entries) (p ∙ ap (λ (x : FormatInput). planOf x counts) g)))
+        subst (λ (x : After). Parses format table edition bytes entries counts newBytes newEntries x) (sym (a ∙ ap (λ (x : FormatInput). endBy x two) g))
+        (ended (inputOf format table edition fit) refl (v ∙ ap (λ (x : Plan). addPlan format x bytes entries) (p ∙ ap (λ (x : FormatInput). planOf x counts) g)))

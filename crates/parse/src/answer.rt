@@ -2,6 +2,7 @@
 ghost use mathlib.Core.Path.{_≡_};
 ghost use Rattle.parse.specs.Call.{numberOf, valueOf};
 use crate::Parsed;
+use base::refusals::BAD_EDITION;
 use base::refusals::BAD_STATE;
 use base::refusals::BAD_TABLE;
 use base::refusals::BAD_UTF8;
@@ -23,6 +24,7 @@ pub fn number_of(parsed: Parsed) -> u32
             index: _,
         } => NO_REFUSAL,
         Parsed::TooLong => TOO_LONG,
+        Parsed::BadEdition => BAD_EDITION,
         Parsed::BadTable(_) => BAD_TABLE,
         Parsed::BadUtf8(_) => BAD_UTF8,
         Parsed::CutUtf8(_) => CUT_UTF8,
@@ -44,6 +46,7 @@ pub fn value_of(parsed: Parsed) -> u64
             index: _,
         } => 0,
         Parsed::TooLong => 0,
+        Parsed::BadEdition => 0,
         Parsed::BadTable(i) => i as u64,
         Parsed::BadUtf8(i) => i as u64,
         Parsed::CutUtf8(i) => i as u64,

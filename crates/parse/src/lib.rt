@@ -7,8 +7,7 @@ pub mod answer;
 pub mod numbers;
 
 ghost use mathlib.Core.Path.{_≡_};
-ghost use Rattle.format.specs.Parse.{addFill};
-ghost use Rattle.format.specs.Parse.{addPart, FillIn};
+ghost use Rattle.format.specs.Parse.{addFill, addPart, FillIn};
 ghost use Rattle.parse.specs.Call.{pooled, addingAfter, addTo, refusedAs, answerOf, Parses};
 ghost use Rattle.parse.specs.Plan.{inputOf, planWith, planOf, CanAdd, isAdding, fillString, CanPlan, addPlan, endBy};
 use format::Fill;
@@ -17,14 +16,13 @@ use format::OptionalNumber;
 use format::Options;
 use format::Outcome;
 use format::read_format;
-use input::EDITION;
 use input::FORMAT_MOST;
 use input::Input;
 use input::Refusal;
 use pool::Added;
 use pool_rows::Counts;
 
-// What a parse answers (document 01, "Refusal numbers"; document 02, C-3).
+// What a parse answers (document 01, "Refusal numbers"; document 02, C-3 and C-8).
 pub enum Parsed {
     // The options, and the fill's index in the pool, if there is a fill.
     Read {
@@ -33,6 +31,8 @@ pub enum Parsed {
     },
     // Refusal 1: the format string is over 65,535 bytes.
     TooLong,
+    // Refusal 17: the number is no edition of the cluster rules.
+    BadEdition,
     // Refusal 2: the table is unfit, with its place.
     BadTable(usize),
     // Refusal 3: the bytes are wrong from this offset on.
@@ -64,7 +64,7 @@ pub struct Adding {
     pub full: bool,
 }
 
-// What is known before the pool is written to: one of refusals 1, 2, 3, 15, 8, or the reading of the format string.
+// What is known before the pool is written to: one of refusals 1, 17, 2, 3, 15, 8, or the reading of the format string.
 pub enum FormatInput {
     Refused(Parsed),
     Read(FormatRead),
@@ -83,22 +83,23 @@ fn refused(refusal: Refusal) -> Parsed
 {
     match refusal {
         Refusal::TooLong => Parsed::TooLong,
+        Refusal::BadEdition => Parsed::BadEdition,
         Refusal::BadTable(i) => Parsed::BadTable(i),
         Refusal::BadUtf8(i) => Parsed::BadUtf8(i),
         Refusal::CutUtf8(i) => Parsed::CutUtf8(i),
     }
 }
 
-// Reads a format string, for a pool that is fit or not. Refused are a format string that is too long, then a table that is unfit, then bytes
-// that are wrong or cut, then a pool that is unfit.
-pub fn read(format: &[u8], table: &[u32], fit: bool) -> FormatInput
-    ensures { λ r. ⌜ r ≡ inputOf (now (format .entry)) (now (table .entry)) fit ⌝ }
+// Reads a format string, for a pool that is fit or not. Refused are a format string that is too long, then a number that is no edition, then a
+// table that is unfit, then bytes that are wrong or cut, then a pool that is unfit.
+pub fn read(format: &[u8], table: &[u32], edition: u32, fit: bool) -> FormatInput
+    ensures { λ r. ⌜ r ≡ inputOf (now (format .entry)) (now (table .entry)) edition fit ⌝ }
 {
-    match input::check_input(format, table, FORMAT_MOST) {
+    match input::check_input(format, table, edition, FORMAT_MOST) {
         Input::Refused(refusal) => FormatInput::Refused(refused(refusal)),
         Input::Fine => {
             if fit {
-                return FormatInput::Read(read_format(format, table, EDITION));
+                return FormatInput::Read(read_format(format, table, edition));
             }
             FormatInput::Refused(Parsed::BadState)
         }
@@ -250,21 +251,23 @@ pub fn end_by(input: FormatInput, two: Adding) -> After
     }
 }
 
-// Parses a format string: its options, with the fill's index in the pool. Refused are a format string that is too long, then a table that is
-// unfit, then bytes that are wrong or cut, then a pool that is unfit, each before a word is written; then what the Rust refuses, and a string
-// without room. Strings added before that stay.
+// Parses a format string, by the cluster rules of edition 1 (without GB9c) or 2 (with it): its options, with the fill's index in the pool.
+// Refused are a format string that is too long, then a number that is no edition, then a table that is unfit, then bytes that are wrong or cut,
+// then a pool that is unfit, each before a word is written; then what the Rust refuses, and a string without room. Strings added before that
+// stay.
 pub fn parse(
     format: &[u8],
     table: &[u32],
+    edition: u32,
     bytes: &mut [u8],
     entries: &mut [u32],
     counts: Counts,
 ) -> After
-    ensures { λ r. ⌜ Parses (now (format .entry)) (now (table .entry)) (now (bytes .entry)) (now (entries .entry)) counts
+    ensures { λ r. ⌜ Parses (now (format .entry)) (now (table .entry)) edition (now (bytes .entry)) (now (entries .entry)) counts
         (now (bytes .exit)) (now (entries .exit)) r ⌝ }
 {
     let fit = pool_rows::is_pool_fit(bytes, entries, counts);
-    let input = read(format, table, fit);
+    let input = read(format, table, edition, fit);
     let plan = plan_of(input, counts);
     let two = add_both(format, plan, bytes, entries);
     end_by(input, two)

@@ -1,6 +1,6 @@
--- What a scan answers and writes, from the reading and the list's room (document 01, "Records" and "Refusal numbers"): refusals 1, 2, 3 in
--- this order, which write nothing; then the records, as many as have room, and the status, or refusal 4 or 5, which leave the records
--- before them.
+-- What a scan answers and writes, from the reading and the list's room (document 01, "Records" and "Refusal numbers"; document 02, C-3 and
+-- C-8): refusals 1, 17, 2, 3 or 15 in this order, which write nothing; then the records, as many as have room, and the status, or refusal 4
+-- or 5, which leave the records before them.
 -- Assumes nothing.
 use Prim.Native.Nat.{ℕ, _+_, _-_}
 use mathlib.Core.Path.{_≡_}
@@ -11,7 +11,7 @@ use Rattle.base.specs.Pick.{pick}
 use Rattle.base.specs.Refusal.{none, listFull, modesFull, sourceMost}
 use Rattle.property.specs.Table.{propertiesAt}
 use Rattle.input.specs.Input as input
-use Rattle.input.specs.Input.{baseEdition, inputCheck, onInput}
+use Rattle.input.specs.Input.{inputCheck, onInput}
 use Rattle.rows.specs.Row.{room, putRows, putRowsAt}
 use Rattle.rows.specs.declared.Row.{Row}
 use Rattle.state.specs.Lexer.{reachOf}
@@ -51,16 +51,16 @@ ReadsOn look edition s st k old r new = Fills old k (reachOf (st .lexer) .byte .
 
 -- ---- a scan
 
--- the reading of a source with a table
-abbrev pub readingOf : List ℕ → List ℕ → Reading
-readingOf source table = reading (propertiesAt table) baseEdition source
+-- the reading of a source with a table, in an edition
+abbrev pub readingOf : List ℕ → List ℕ → ℕ → Reading
+readingOf source table edition = reading (propertiesAt table) edition source
 
--- the answer for the bytes of a source, the numbers of a table, and a list's room
-unfoldable pub scanned : List ℕ → List ℕ → ℕ → Scanned
-scanned source table n =
-    onInput Refused (inputCheck sourceMost source table) (byRoom n 0 0 (readingOf source table))
+-- the answer for the bytes of a source, the numbers of a table, an edition, and a list's room
+unfoldable pub scanned : List ℕ → List ℕ → ℕ → ℕ → Scanned
+scanned source table edition n =
+    onInput Refused (inputCheck sourceMost source table edition) (byRoom n 0 0 (readingOf source table edition))
 
--- the records that are written: none at refusals 1 to 3, or else those that have room
+-- the records that are written: none at a refusal that comes before any work, or else those that have room
 abbrev pub writtenBy : Scanned → List Row → List Row
 writtenBy (Refused x) rows = []
 writtenBy (End n b) rows = rows
@@ -68,15 +68,15 @@ writtenBy (Stuck n b) rows = rows
 writtenBy (ListFull n b) rows = rows
 writtenBy (ModesFull n b) rows = rows
 
-unfoldable pub written : List ℕ → List ℕ → ℕ → List Row
-written source table n = writtenBy (scanned source table n) (take n (readingOf source table .rows))
+unfoldable pub written : List ℕ → List ℕ → ℕ → ℕ → List Row
+written source table edition n = writtenBy (scanned source table edition n) (take n (readingOf source table edition .rows))
 
 -- what a scan ensures: its answer, and every word of the list, the records and then what was there before
-pub record Scans (source table old : List ℕ) (r : Scanned) (new : List ℕ) : Type 0 where
-  pub answer : r ≡ scanned source table (room old)
-  pub words : new ≡ putRows old (written source table (room old))
+pub record Scans (source table : List ℕ) (edition : ℕ) (old : List ℕ) (r : Scanned) (new : List ℕ) : Type 0 where
+  pub answer : r ≡ scanned source table edition (room old)
+  pub words : new ≡ putRows old (written source table edition (room old))
 
--- ---- document 01's numbers of an answer
+-- ---- the documents' numbers of an answer
 
 abbrev pub numberOf : Scanned → ℕ
 numberOf (End n b) = none

@@ -1,7 +1,7 @@
 -- What a scan's loop and its callers may use of `Scan`.
 --     fills-none, fills-full, fills-row    a reading with no record; one that has a record and no room; one more record
---     scans-refused                        a scan that one of refusals 1 to 3 meets
---     scans-fine                           a scan that none of them meets
+--     scans-refused                        a scan that a refusal meets before any work
+--     scans-fine                           a scan that none meets
 --     count-room                           a scan counts no more records than the list has room for
 --     one-answer                           no second answer and no second list fits a scan
 -- Assumes nothing.
@@ -16,7 +16,7 @@ use borrow.Author.Tests.{lt-ltb, le-ltb}
 use Rattle.base.specs.PickLaws.{by-test, by-lt}
 use Rattle.base.specs.Refusal.{sourceMost}
 use Rattle.property.specs.Table.{propertiesAt}
-use Rattle.input.specs.Input.{baseEdition, inputCheck}
+use Rattle.input.specs.Input.{inputCheck}
 use Rattle.input.specs.InputLaws.{by-input}
 use Rattle.input.specs.declared.Refusal.{Refusal}
 use Rattle.input.specs.declared.Input.the-variants as input
@@ -81,38 +81,38 @@ room-writes n k b r rows =
     stops stuck = refl
     stops deep = by-test (λ (x : Scanned). writtenBy x rows ≡ rows) (ltb (k + length (r .rows)) n) (λ _. refl) (λ _. refl)
 
-module _ {source table old : List ℕ} where
+module _ {source table : List ℕ} {edition : ℕ} {old : List ℕ} where
   -- a refusal that writes nothing
-  refused : {r : Scanned} → scanned source table (room old) ≡ r → writtenBy r (take (room old) (readingOf source table .rows)) ≡ []
-      → Scans source table old r old
+  refused : {r : Scanned} → scanned source table edition (room old) ≡ r → writtenBy r (take (room old) (readingOf source table edition .rows)) ≡ []
+      → Scans source table edition old r old
   unfolding written
   refused {r} e w =
       record {
         answer = sym e;
-        words = sym (ap (putRows old) (ap (λ (x : Scanned). writtenBy x (take (room old) (readingOf source table .rows))) e ∙ w) ∙ rows-none old);
+        words = sym (ap (putRows old) (ap (λ (x : Scanned). writtenBy x (take (room old) (readingOf source table edition .rows))) e ∙ w) ∙ rows-none old);
       }
 
-  pub scans-refused : {x : Refusal} → inputCheck sourceMost source table ≡ input.Refused x → Scans source table old (Refused x) old
+  pub scans-refused : {x : Refusal} → inputCheck sourceMost source table edition ≡ input.Refused x → Scans source table edition old (Refused x) old
   unfolding scanned
   scans-refused e = refused (rw e) refl
 
-  -- no refusal of 1 to 3: the records are read from the start
-  pub scans-fine : {st : State} {r : Scanned} {new : List ℕ} → inputCheck sourceMost source table ≡ input.Fine → st ≡ startState
-      → ReadsOn (propertiesAt table) baseEdition source st 0 old r new → Scans source table old r new
+  -- no refusal before any work: the records are read from the start
+  pub scans-fine : {st : State} {r : Scanned} {new : List ℕ} → inputCheck sourceMost source table edition ≡ input.Fine → st ≡ startState
+      → ReadsOn (propertiesAt table) edition source st 0 old r new → Scans source table edition old r new
   unfolding scanned written
   scans-fine {st} {r} {new} c q g =
-      let f : Fills old 0 0 (readingOf source table) r new =
-      subst (λ (x : State). ReadsOn (propertiesAt table) baseEdition source x 0 old r new) q g in
-      let e : scanned source table (room old) ≡ byRoom (room old) 0 0 (readingOf source table) =
+      let f : Fills old 0 0 (readingOf source table edition) r new =
+      subst (λ (x : State). ReadsOn (propertiesAt table) edition source x 0 old r new) q g in
+      let e : scanned source table edition (room old) ≡ byRoom (room old) 0 0 (readingOf source table edition) =
       rw c in
-      let rows : List Row = take (room old) (readingOf source table .rows) in
+      let rows : List Row = take (room old) (readingOf source table edition .rows) in
       let z : room old - 0 ≡ room old = omega arith in
       record {
         answer = f .answer ∙ sym e;
         words = f .words
-            ∙ ap (λ (n : ℕ). putRowsAt old 0 (take n (readingOf source table .rows))) z
+            ∙ ap (λ (n : ℕ). putRowsAt old 0 (take n (readingOf source table edition .rows))) z
             ∙ rows-one-by-one old rows
-            ∙ sym (ap (λ (x : Scanned). putRows old (writtenBy x rows)) e ∙ ap (putRows old) (room-writes (room old) 0 0 (readingOf source table) rows));
+            ∙ sym (ap (λ (x : Scanned). putRows old (writtenBy x rows)) e ∙ ap (putRows old) (room-writes (room old) 0 0 (readingOf source table edition) rows));
       }
 
 -- ---- how many records a scan counts
@@ -130,13 +130,13 @@ module _ (n : ℕ) where
       stops stuck h = h
       stops deep h = by-test Within (ltb (k + length (r .rows)) n) (λ _. h) (λ _. h)
 
-  pub count-room : (source table : List ℕ) → countOf (scanned source table n) ≤ n
+  pub count-room : (source table : List ℕ) (edition : ℕ) → countOf (scanned source table edition n) ≤ n
   unfolding scanned
-  count-room source table =
-      by-input Refused (λ (g : Scanned → Scanned). Within (g (byRoom n 0 0 (readingOf source table)))) (inputCheck sourceMost source table)
-      (λ _. omega arith) (room-counts 0 0 (readingOf source table))
+  count-room source table edition =
+      by-input Refused (λ (g : Scanned → Scanned). Within (g (byRoom n 0 0 (readingOf source table edition)))) (inputCheck sourceMost source table edition)
+      (λ _. omega arith) (room-counts 0 0 (readingOf source table edition))
 
 -- no second answer and no second list fits
-pub one-answer : (source table old : List ℕ) (r q : Scanned) (new other : List ℕ) → Scans source table old r new → Scans source table old q other
+pub one-answer : (source table : List ℕ) (edition : ℕ) (old : List ℕ) (r q : Scanned) (new other : List ℕ) → Scans source table edition old r new → Scans source table edition old q other
     → (r ≡ q) × (new ≡ other)
-one-answer source table old r q new other a b = (a .answer ∙ sym (b .answer), a .words ∙ sym (b .words))
+one-answer source table edition old r q new other a b = (a .answer ∙ sym (b .answer), a .words ∙ sym (b .words))

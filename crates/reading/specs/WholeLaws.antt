@@ -22,62 +22,62 @@ use Rattle.reading.specs.declared.Scanned.{Scanned}
 use Rattle.reading.specs.declared.Scanned.the-variants.{End, Stuck, Refused, ListFull, ModesFull}
 
 -- a source that is read whole, into a list with room for so many records: n of them, and how it stops
-pub record ReadWhole (source table : List ℕ) (room n : ℕ) (stop : Stop) : Type 0 where
-  pub readable : Readable sourceMost source table
-  pub counted : n ≡ length (readingOf source table .rows)
+pub record ReadWhole (source table : List ℕ) (edition room n : ℕ) (stop : Stop) : Type 0 where
+  pub readable : Readable sourceMost source table edition
+  pub counted : n ≡ length (readingOf source table edition .rows)
   pub has-room : n ≤ room
-  pub stops : readingOf source table .stop ≡ stop
+  pub stops : readingOf source table edition .stop ≡ stop
 
 -- what an answer means, if it is no refusal
-abbrev Means : List ℕ → List ℕ → ℕ → Scanned → Type 0
-Means source table room (End n b) = ReadWhole source table room n ended
-Means source table room (Stuck n b) = ReadWhole source table room n stuck
-Means source table room (Refused x) = Unit {0}
-Means source table room (ListFull n b) = Unit {0}
-Means source table room (ModesFull n b) = Unit {0}
+abbrev Means : List ℕ → List ℕ → ℕ → ℕ → Scanned → Type 0
+Means source table edition room (End n b) = ReadWhole source table edition room n ended
+Means source table edition room (Stuck n b) = ReadWhole source table edition room n stuck
+Means source table edition room (Refused x) = Unit {0}
+Means source table edition room (ListFull n b) = Unit {0}
+Means source table edition room (ModesFull n b) = Unit {0}
 
-module _ (source table : List ℕ) (room : ℕ) where
-  module _ (g : Readable sourceMost source table) where
-    by-stop : (b : ℕ) → length (readingOf source table .rows) ≤ room → (why : Stop) → readingOf source table .stop ≡ why
-        → Means source table room (whole room (0 + length (readingOf source table .rows)) b why)
+module _ (source table : List ℕ) (edition room : ℕ) where
+  module _ (g : Readable sourceMost source table edition) where
+    by-stop : (b : ℕ) → length (readingOf source table edition .rows) ≤ room → (why : Stop) → readingOf source table edition .stop ≡ why
+        → Means source table edition room (whole room (0 + length (readingOf source table edition .rows)) b why)
     by-stop b k ended e = record { readable = g; counted = omega arith; has-room = omega arith; stops = e }
     by-stop b k stuck e = record { readable = g; counted = omega arith; has-room = omega arith; stops = e }
     by-stop b k deep e =
-        by-test (Means source table room) (ltb (0 + length (readingOf source table .rows)) room) (λ _. tt) (λ _. tt)
+        by-test (Means source table edition room) (ltb (0 + length (readingOf source table edition .rows)) room) (λ _. tt) (λ _. tt)
 
-    read-means : Means source table room (byRoom room 0 0 (readingOf source table))
+    read-means : Means source table edition room (byRoom room 0 0 (readingOf source table edition))
     read-means =
-        by-lt (Means source table room) room (0 + length (readingOf source table .rows)) (λ _. tt)
-        (λ k. by-stop (endOf 0 (readingOf source table .rows)) (omega arith) (readingOf source table .stop) refl)
+        by-lt (Means source table edition room) room (0 + length (readingOf source table edition .rows)) (λ _. tt)
+        (λ k. by-stop (endOf 0 (readingOf source table edition .rows)) (omega arith) (readingOf source table edition .stop) refl)
 
-  scanned-means : Means source table room (scanned source table room)
+  scanned-means : Means source table edition room (scanned source table edition room)
   unfolding scanned
-  scanned-means = by-check (inputCheck sourceMost source table) refl
+  scanned-means = by-check (inputCheck sourceMost source table edition) refl
     where
-      by-check : (c : Input) → inputCheck sourceMost source table ≡ c
-          → Means source table room (onInput Refused c (byRoom room 0 0 (readingOf source table)))
-      by-check input.Fine e = read-means (fine-of sourceMost source table e)
+      by-check : (c : Input) → inputCheck sourceMost source table edition ≡ c
+          → Means source table edition room (onInput Refused c (byRoom room 0 0 (readingOf source table edition)))
+      by-check input.Fine e = read-means (fine-of sourceMost source table edition e)
       by-check (input.Refused x) e = tt
 
-module _ (source table old new : List ℕ) (n b : ℕ) where
+module _ (source table : List ℕ) (edition : ℕ) (old new : List ℕ) (n b : ℕ) where
   -- all records are written
-  all-written : {r : Scanned} → Scans source table old r new → length (readingOf source table .rows) ≤ room old
-      → ((rows : List Row) → writtenBy r rows ≡ rows) → new ≡ putRows old (readingOf source table .rows)
+  all-written : {r : Scanned} → Scans source table edition old r new → length (readingOf source table edition .rows) ≤ room old
+      → ((rows : List Row) → writtenBy r rows ≡ rows) → new ≡ putRows old (readingOf source table edition .rows)
   unfolding written
   all-written p h e =
       p .words
       ∙ ap (putRows old)
-      (ap (λ (x : Scanned). writtenBy x (take (room old) (readingOf source table .rows))) (sym (p .answer))
-      ∙ e (take (room old) (readingOf source table .rows))
-      ∙ take-all (room old) (readingOf source table .rows) h)
+      (ap (λ (x : Scanned). writtenBy x (take (room old) (readingOf source table edition .rows))) (sym (p .answer))
+      ∙ e (take (room old) (readingOf source table edition .rows))
+      ∙ take-all (room old) (readingOf source table edition .rows) h)
 
-  meant : {r : Scanned} → Scans source table old r new → Means source table (room old) r
-  meant p = subst (Means source table (room old)) (sym (p .answer)) (scanned-means source table (room old))
+  meant : {r : Scanned} → Scans source table edition old r new → Means source table edition (room old) r
+  meant p = subst (Means source table edition (room old)) (sym (p .answer)) (scanned-means source table edition (room old))
 
-  pub end-whole : Scans source table old (End n b) new
-      → ReadWhole source table (room old) n ended × (new ≡ putRows old (readingOf source table .rows))
+  pub end-whole : Scans source table edition old (End n b) new
+      → ReadWhole source table edition (room old) n ended × (new ≡ putRows old (readingOf source table edition .rows))
   end-whole p = let w = meant p in (w, all-written p (omega (arith, w .counted, w .has-room)) (λ rows. refl))
 
-  pub stuck-whole : Scans source table old (Stuck n b) new
-      → ReadWhole source table (room old) n stuck × (new ≡ putRows old (readingOf source table .rows))
+  pub stuck-whole : Scans source table edition old (Stuck n b) new
+      → ReadWhole source table edition (room old) n stuck × (new ≡ putRows old (readingOf source table edition .rows))
   stuck-whole p = let w = meant p in (w, all-written p (omega (arith, w .counted, w .has-room)) (λ rows. refl))

@@ -18,7 +18,8 @@ pub enum Scanned {
     End { count: usize, byte: usize },
     // The last record is an Error that advanced nothing, which the Rust repeats for ever.
     Stuck { count: usize, byte: usize },
-    // One of refusals 1, 2, 3 and 15, before any work: a source of over 1,048,576 bytes, an unfit table, bytes that are wrong or cut.
+    // One of refusals 1, 17, 2, 3 and 15, before any work: a source of over 1,048,576 bytes, a number that is no edition, an unfit table, bytes
+    // that are wrong or cut.
     Refused(Refusal),
     // Refusal 4: a token is left to read and no record fits.
     ListFull { count: usize, byte: usize },

@@ -15,7 +15,6 @@ ghost use Rattle.state.specs.Lexer.{reachOf};
 ghost use Rattle.stepping.specs.Invariant.{Ok};
 ghost use Rattle.reading.specs.Scan.{whole, Fills, ReadsOn, Scans};
 ghost use Rattle.reading.specs.Reading.{deep, stuckReading};
-use input::EDITION;
 use input::Input;
 use input::SOURCE_MOST;
 use lexer::What;
@@ -103,13 +102,14 @@ pub fn read_on(
     }
 }
 
-// Writes the records of a source at the start of the list. Refused are a source that is too long, then a table that is unfit, then bytes
-// that are wrong or cut, each before a word is written; then a token for which there is no record or no mode left.
-pub fn scan(source: &[u8], table: &[u32], list: &mut [u32]) -> Scanned
-    ensures { λ r. ⌜ Scans (now (source .entry)) (now (table .entry)) (now (list .entry)) r (now (list .exit)) ⌝ }
+// Writes the records of a source at the start of the list, by the cluster rules of edition 1 (without GB9c) or 2 (with it). Refused are a
+// source that is too long, then a number that is no edition, then a table that is unfit, then bytes that are wrong or cut, each before a word
+// is written; then a token for which there is no record or no mode left.
+pub fn scan(source: &[u8], table: &[u32], edition: u32, list: &mut [u32]) -> Scanned
+    ensures { λ r. ⌜ Scans (now (source .entry)) (now (table .entry)) edition (now (list .entry)) r (now (list .exit)) ⌝ }
 {
-    match input::check_input(source, table, SOURCE_MOST) {
+    match input::check_input(source, table, edition, SOURCE_MOST) {
         Input::Refused(refusal) => Scanned::Refused(refusal),
-        Input::Fine => read_on(source, table, EDITION, State::new(), list, 0),
+        Input::Fine => read_on(source, table, edition, State::new(), list, 0),
     }
 }

@@ -20,17 +20,17 @@ enum-told c = search needs
 
 cluster-end-requires : tie.Need-cluster-end-requires
 cluster-end-requires c κs =
-    let g = fine-of _ _ _ (sym (c .before .before .check-input .ensures) ∙ c .enum-told .given .1) in
+    let g = fine-of _ _ _ _ (sym (c .before .before .check-input .ensures) ∙ c .enum-told .given .1) in
     (g .well, fit-of _ (g .fit) .rises)
 
 returns : tie.Need-returns
-returns c = sym (refused _ _ (sym (c .before .before .before .check-input .ensures) ∙ c .before .refusal .given .1))
+returns c = sym (refused _ _ _ (sym (c .before .before .before .check-input .ensures) ∙ c .before .refusal .given .1))
 
 returns-2 : tie.Need-returns-2
 returns-2 c =
     let d = c .before in
-    let g = fine-of _ _ _ (sym (d .before .before .check-input .ensures) ∙ d .enum-told .given .1) in
-    ap Length (c .cluster-end .ensures) ∙ sym (unrefused _ _ g)
+    let g = fine-of _ _ _ _ (sym (d .before .before .check-input .ensures) ∙ d .enum-told .given .1) in
+    ap Length (c .cluster-end .ensures) ∙ sym (unrefused _ _ _ g)
 
 pub first-cluster-spec : {M : Type 1} → statement M
 first-cluster-spec = tie.close (tie.spec check-input-requires enum-known-refusal enum-told cluster-end-requires returns returns-2)

@@ -19,7 +19,7 @@ add-both-requires c κs =
     let plan = c .before .before in
     let fit = plan .before .before in
     let start = fit .before .before .before .before .before .before .before in
-    can-plan (now (start .args .format)) (now (start .args .table)) (now (start .args .bytes)) (now (start .args .entries)) (start .args .counts)
+    can-plan (now (start .args .format)) (now (start .args .table)) (start .args .edition) (now (start .args .bytes)) (now (start .args .entries)) (start .args .counts)
     (fit .is-pool-fit .ensures) (plan .before .read .ensures) (plan .plan-of .ensures)
 
 end-by-requires : tie.Need-end-by-requires
@@ -37,7 +37,7 @@ returns c =
     let plan = both .before .before .before in
     let fit = plan .before .before in
     let start = fit .before .before .before .before .before .before .before in
-    parses-planned (now (start .args .format)) (now (start .args .table)) (now (start .args .bytes)) (now (start .args .entries))
+    parses-planned (now (start .args .format)) (now (start .args .table)) (start .args .edition) (now (start .args .bytes)) (now (start .args .entries))
     (start .args .counts) (fit .is-pool-fit .ensures) (plan .before .read .ensures) (plan .plan-of .ensures) (both .add-both .ensures) (c .end-by .ensures)
 
 pub parse-spec : {M : Type 1} → statement M

@@ -23,24 +23,24 @@ enum-told c = search needs
 read-format-requires : tie.Need-read-format-requires
 read-format-requires c κs =
     let told = c .before in
-    let g = fine-of _ _ _ (sym (told .before .before .check-input .ensures) ∙ told .enum-told .given .1) in
+    let g = fine-of _ _ _ _ (sym (told .before .before .check-input .ensures) ∙ told .enum-told .given .1) in
     (g .well, g .short, fit-of _ (g .fit) .rises)
 
 returns : tie.Need-returns
 returns c =
     let told = c .before .before in
-    sym (is-read _ _ _ (sym (told .before .before .check-input .ensures) ∙ told .enum-told .given .1) (c .before .if1 .taken) (c .read-format .ensures))
+    sym (is-read _ _ _ _ (sym (told .before .before .check-input .ensures) ∙ told .enum-told .given .1) (c .before .if1 .taken) (c .read-format .ensures))
 
 returns-2 : tie.Need-returns-2
 returns-2 c =
     let told = c .before .before in
     ap FormatInput.Refused (c .refused .ensures)
-    ∙ sym (is-refused _ _ _ (sym (told .before .before .check-input .ensures) ∙ told .refusal .given .1))
+    ∙ sym (is-refused _ _ _ _ (sym (told .before .before .check-input .ensures) ∙ told .refusal .given .1))
 
 returns-3 : tie.Need-returns-3
 returns-3 c =
     let told = c .before in
-    sym (is-unfit _ _ _ (sym (told .before .before .check-input .ensures) ∙ told .enum-told .given .1) (c .if1 .left))
+    sym (is-unfit _ _ _ _ (sym (told .before .before .check-input .ensures) ∙ told .enum-told .given .1) (c .if1 .left))
 
 pub read-spec : {M : Type 1} → statement M
 read-spec =

@@ -26,7 +26,7 @@ new-requires c κs = search needs
 read-on-requires : tie.Need-read-on-requires
 read-on-requires c κs =
     let d = c .before .before in
-    let g = fine-of _ _ _ (sym (d .before .before .check-input .ensures) ∙ d .enum-told .given .1) in (
+    let g = fine-of _ _ _ _ (sym (d .before .before .check-input .ensures) ∙ d .enum-told .given .1) in (
       subst (Ok _) (sym (c .before .new .ensures)) (start-ok _ (g .short) (g .well)),
       fit-of _ (g .fit),
       omega arith,

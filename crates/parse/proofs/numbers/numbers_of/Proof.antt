@@ -65,6 +65,12 @@ enum-told-9 c = search needs
 no-numbers-requires-9 : tie.Need-no-numbers-requires-9
 no-numbers-requires-9 c κs = search needs
 
+enum-told-10 : tie.Need-enum-told-10
+enum-told-10 c = search needs
+
+no-numbers-requires-10 : tie.Need-no-numbers-requires-10
+no-numbers-requires-10 c κs = search needs
+
 returns : tie.Need-returns
 returns c = c .options-numbers .ensures ∙ ap numbersOf (sym (c .before .before .parsed .given .1))
 
@@ -95,6 +101,9 @@ returns-9 c = search needs
 returns-10 : tie.Need-returns-10
 returns-10 c = search needs
 
+returns-11 : tie.Need-returns-11
+returns-11 c = search needs
+
 pub numbers-of-spec : {M : Type 1} → statement M
 numbers-of-spec =
     tie.close
@@ -119,6 +128,8 @@ numbers-of-spec =
     no-numbers-requires-8
     enum-told-9
     no-numbers-requires-9
+    enum-told-10
+    no-numbers-requires-10
     returns
     returns-2
     returns-3
@@ -128,4 +139,5 @@ numbers-of-spec =
     returns-7
     returns-8
     returns-9
-    returns-10)
+    returns-10
+    returns-11)
