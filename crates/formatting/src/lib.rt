@@ -132,7 +132,7 @@ fn parse_small(text: &[u8], bytes: &mut [u8], entries: &mut [u32]) -> After {
         };
     }
     let table = fitness::small_table();
-    parse::parse(text, &table, bytes, entries, none)
+    parse::parse(text, &table, input::WITH_GB9C, bytes, entries, none)
 }
 
 // Prints what a format string is parsed as: its options or its refusal, and then the strings of the pool.

@@ -47,8 +47,8 @@ koto-read-table-has-one-answer p q = (
   p .place-is ∙ sym (q .place-is),
 )
 
-pub koto-first-cluster-has-one-answer : {source table : List ℕ} {len place r len′ place′ r′ : ℕ}
-    → FirstClusterIs source table len place r → FirstClusterIs source table len′ place′ r′
+pub koto-first-cluster-has-one-answer : {source table : List ℕ} {edition : ℕ} {len place r len′ place′ r′ : ℕ}
+    → FirstClusterIs source table edition len place r → FirstClusterIs source table edition len′ place′ r′
     → (r ≡ r′) × (len ≡ len′) × (place ≡ place′)
 koto-first-cluster-has-one-answer p q = (
   p .number ∙ sym (q .number),
@@ -56,8 +56,8 @@ koto-first-cluster-has-one-answer p q = (
   p .place-is ∙ sym (q .place-is),
 )
 
-pub koto-scan-has-one-answer : {source table old new new′ : List ℕ} {status count byte r status′ count′ byte′ r′ : ℕ}
-    → ScanIs source table old new status count byte r → ScanIs source table old new′ status′ count′ byte′ r′
+pub koto-scan-has-one-answer : {source table : List ℕ} {edition : ℕ} {old new new′ : List ℕ} {status count byte r status′ count′ byte′ r′ : ℕ}
+    → ScanIs source table edition old new status count byte r → ScanIs source table edition old new′ status′ count′ byte′ r′
     → (r ≡ r′) × (new ≡ new′) × (status ≡ status′) × (count ≡ count′) × (byte ≡ byte′)
 koto-scan-has-one-answer p q = (
   p .number ∙ sym (q .number),

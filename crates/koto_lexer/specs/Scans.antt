@@ -8,9 +8,9 @@ use Rattle.reading.specs.Scan.{scanned, written, numberOf, placeOf, countOf}
 use Rattle.reading.specs.Status.{statusOf}
 
 -- what `koto_scan` ensures, of the list `new` that it leaves of the list `old`; the byte is the current byte, or the refusal's place
-pub record ScanIs (source table old new : List ℕ) (status count byte r : ℕ) : Type 0 where
-  pub number : r ≡ numberOf (scanned source table (room old))
-  pub status-is : status ≡ statusOf (scanned source table (room old))
-  pub count-is : count ≡ countOf (scanned source table (room old))
-  pub byte-is : byte ≡ placeOf (scanned source table (room old))
-  pub words : new ≡ putRows old (written source table (room old))
+pub record ScanIs (source table : List ℕ) (edition : ℕ) (old new : List ℕ) (status count byte r : ℕ) : Type 0 where
+  pub number : r ≡ numberOf (scanned source table edition (room old))
+  pub status-is : status ≡ statusOf (scanned source table edition (room old))
+  pub count-is : count ≡ countOf (scanned source table edition (room old))
+  pub byte-is : byte ≡ placeOf (scanned source table edition (room old))
+  pub words : new ≡ putRows old (written source table edition (room old))

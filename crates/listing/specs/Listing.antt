@@ -1,5 +1,5 @@
--- What the list program answers and writes (document 01, "Scripts and format strings to try"): a scan with the small table, of a source of
--- at most 1,024 bytes.
+-- What the list program answers and writes (document 01, "Scripts and format strings to try"): a scan with the small table, in edition 2, of a
+-- source of at most 1,024 bytes.
 -- Assumes nothing.
 use Prim.Native.Nat.{ℕ}
 use mathlib.Core.Path.{_≡_}
@@ -8,6 +8,7 @@ use lib.Dec.{ltb}
 use lib.ListN.{length}
 use Rattle.base.specs.Pick.{pick}
 use Rattle.fitness.specs.Small.{smallTable}
+use Rattle.input.specs.Input.{withGB9c}
 use Rattle.input.specs.declared.Refusal.the-variants.{TooLong}
 use Rattle.rows.specs.Row.{room, putRows}
 use Rattle.rows.specs.declared.Row.{Row}
@@ -21,11 +22,11 @@ listMost = 1024
 
 -- the answer for the bytes of a source and a list's room
 unfoldable pub listed : List ℕ → ℕ → Scanned
-listed source n = pick (ltb listMost (length source)) (Refused TooLong) (scanned source smallTable n)
+listed source n = pick (ltb listMost (length source)) (Refused TooLong) (scanned source smallTable withGB9c n)
 
 -- the records that are written: none of a source that is too long
 unfoldable pub listedRows : List ℕ → ℕ → List Row
-listedRows source n = pick (ltb listMost (length source)) [] (written source smallTable n)
+listedRows source n = pick (ltb listMost (length source)) [] (written source smallTable withGB9c n)
 
 -- what the list program's scan ensures: its answer, and every word of the list, the records and then what was there before
 pub record Lists (source old : List ℕ) (r : Scanned) (new : List ℕ) : Type 0 where

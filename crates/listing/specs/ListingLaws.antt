@@ -13,6 +13,7 @@ use lib.ListN.{length}
 use borrow.Author.Tests.{lt-ltb, le-ltb}
 use Rattle.base.specs.PickLaws.{by-test}
 use Rattle.fitness.specs.Small.{smallTable}
+use Rattle.input.specs.Input.{withGB9c}
 use Rattle.input.specs.declared.Refusal.the-variants.{TooLong}
 use Rattle.rows.specs.Row.{room, putRows}
 use Rattle.rows.specs.RowLaws.{same-room, rows-none}
@@ -28,11 +29,11 @@ module _ {source old : List ℕ} where
   lists-long h =
       record { answer = rw (lt-ltb listMost (length source) h); words = rw (lt-ltb listMost (length source) h) (sym (rows-none old)) }
 
-  pub lists-scan : {table : List ℕ} {r : Scanned} {new : List ℕ} → length source ≤ listMost → table ≡ smallTable → Scans source table old r new
+  pub lists-scan : {table : List ℕ} {r : Scanned} {new : List ℕ} → length source ≤ listMost → table ≡ smallTable → Scans source table withGB9c old r new
       → Lists source old r new
   unfolding listed listedRows
   lists-scan {table} {r} {new} h e s =
-      let small : Scans source smallTable old r new = subst (λ (t : List ℕ). Scans source t old r new) e s in
+      let small : Scans source smallTable withGB9c old r new = subst (λ (t : List ℕ). Scans source t withGB9c old r new) e s in
       record {
         answer = rw (le-ltb listMost (length source) h) (small .answer);
         words = rw (le-ltb listMost (length source) h) (small .words);
@@ -41,7 +42,7 @@ module _ {source old : List ℕ} where
 listed-count : (source : List ℕ) (n : ℕ) → countOf (listed source n) ≤ n
 unfolding listed
 listed-count source n =
-    by-test (λ (r : Scanned). countOf r ≤ n) (ltb listMost (length source)) (λ _. omega arith) (λ _. count-room n source smallTable)
+    by-test (λ (r : Scanned). countOf r ≤ n) (ltb listMost (length source)) (λ _. omega arith) (λ _. count-room n source smallTable withGB9c)
 
 pub lists-within : {source old new : List ℕ} {r : Scanned} → Lists source old r new → length new ≡ length old → countOf r ≤ room new
 lists-within {source} {old} {new} {r} f long =

@@ -1,6 +1,7 @@
 // What the list program does with the bytes that it has read (document 01, "Scripts and format strings to try"). It is a library, so that the program which
 // lists many sources lists each as the list program does.
 use input::Refusal;
+use input::WITH_GB9C;
 use reading::Scanned;
 ghost use mathlib.Core.Path.{_≡_};
 ghost use Prim.Native.Nat.{_≤_};
@@ -12,7 +13,7 @@ ghost use Rattle.listing.specs.Listing.{Lists};
 // Sources over this many bytes are refused.
 const LIST_MOST: usize = 1024;
 
-// Writes the records of a source at the start of the list, by the small table. A source that is too long is refused first, and then the
+// Writes the records of a source at the start of the list, by the small table and edition 2. A source that is too long is refused first, and then the
 // list stays as it is.
 pub fn scan_small(source: &[u8], list: &mut [u32]) -> Scanned
     ensures { λ r. ⌜ Lists (now (source .entry)) (now (list .entry)) r (now (list .exit)) ⌝ }
@@ -22,7 +23,7 @@ pub fn scan_small(source: &[u8], list: &mut [u32]) -> Scanned
         return Scanned::Refused(Refusal::TooLong);
     }
     let table = fitness::small_table();
-    scan::scan(source, &table, list)
+    scan::scan(source, &table, WITH_GB9C, list)
 }
 
 // Zeros, with room for 1,365 records: one for each of 1,024 bytes, and a third more. The length, which follows, is what lending them as a

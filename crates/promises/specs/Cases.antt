@@ -1,11 +1,12 @@
 -- The cases that document 01 marks P in "Scripts and format strings to try", as one table: each is a call with its bytes, and what that
 -- gives. `CasesLaws.all-cases` proves all of them, over the definitions that the contracts cite. Bytes are decoded and looked up in the
--- small table.
+-- small table, and clusters go by edition 2.
 -- Assumes nothing.
 use Prim.Native.Nat.{ℕ}
 use mathlib.Core.List.{List, [], _∷_}
 use lib.ListN.{replicate}
 use Rattle.fitness.specs.Small.{smallTable}
+use Rattle.input.specs.Input.{withGB9c}
 use Rattle.token.specs.Kind.{error, commentMulti, id, stringStart, stringEnd, stringLiteral, dot, else, elseIf}
 use Rattle.rows.specs.declared.Row.{Row}
 use Rattle.words.specs.Words.{bytes}
@@ -58,8 +59,8 @@ stringsIn p = stringsOf (p .bytes) (p .entries) (p .counts .entries)
 
 -- what the definitions give for a call
 abbrev pub run : Call → Gives
-run (scan source) = records (scanned source smallTable listRoom) (written source smallTable listRoom)
-run (format text) = options (parse.call text smallTable emptyPool .answer) (stringsIn (parse.call text smallTable emptyPool .pool))
+run (scan source) = records (scanned source smallTable withGB9c listRoom) (written source smallTable withGB9c listRoom)
+run (format text) = options (parse.call text smallTable withGB9c emptyPool .answer) (stringsIn (parse.call text smallTable withGB9c emptyPool .pool))
 
 -- what the definitions give for a case, and what the case says
 abbrev pub ran : Case → Gives

@@ -4,6 +4,7 @@
 use Prim.Native.Nat.{ℕ, _<_, _≤_}
 use native.Mathlib.Omega.{arith}
 use mathlib.Core.Path.{_≡_, refl, sym, ap, subst, _∙_}
+use mathlib.Core.Bool.{true}
 use mathlib.Core.List.{List, [], _∷_}
 use lib.ListN.{length, take}
 use Rattle.base.specs.Refusal.{none, badUtf8, cutUtf8, sourceMost}
@@ -16,53 +17,54 @@ use Rattle.fitness.specs.declared.TableCheck.the-variants.{Fit, BadTable}
 use Rattle.cluster.specs.First.{Shortest, firstSize, firstEnd}
 use Rattle.cluster.specs.FirstLaws.{first-is-shortest, one-shortest}
 use Rattle.cluster.specs.Call.{firstCluster, numberOf, placeOf, lenOf}
-use Rattle.input.specs.Input.{baseEdition}
-use Rattle.input.specs.InputLaws.{is-long, is-table, is-bad, is-cut, only-bad, only-cut}
+use Rattle.input.specs.Input.{isEdition}
+use Rattle.input.specs.InputLaws.{is-long, is-none, is-table, is-bad, is-cut, only-bad, only-cut}
 use Rattle.cluster.specs.CallLaws.{refused, unrefused, no-bytes}
 use Rattle.cluster.specs.declared.Cluster.{Cluster}
 use Rattle.cluster.specs.declared.Cluster.the-variants as answer
 use Rattle.promises.specs.Said.{Said, says}
 use Rattle.promises.specs.Cluster.{FirstClusterEnsures, clusterSays, FirstClusterPromise}
 
-module _ (source table : List ℕ) where
+module _ (source table : List ℕ) (edition : ℕ) where
   -- the one shortest beginning is the one that is computed
-  sized : (cs : List ℕ) (n : ℕ) → Shortest (propertiesAt table) baseEdition cs n → firstSize (propertiesAt table) baseEdition cs ≡ n
+  sized : (cs : List ℕ) (n : ℕ) → Shortest (propertiesAt table) edition cs n → firstSize (propertiesAt table) edition cs ≡ n
   sized [] n w = absurd (omega (arith, w .some, w .within))
   sized (c ∷ cs) n w =
-      one-shortest (propertiesAt table) baseEdition (c ∷ cs) _ n (first-is-shortest (propertiesAt table) baseEdition c cs) w
+      one-shortest (propertiesAt table) edition (c ∷ cs) _ n (first-is-shortest (propertiesAt table) edition c cs) w
 
-  first : length source ≤ sourceMost → tableCheck table ≡ Fit → WellFormed source → (n : ℕ)
-      → Shortest (propertiesAt table) baseEdition (chars source) n
-      → firstCluster source table ≡ answer.Length (length (encodeAll (take n (chars source))))
-  first h e w n s =
-      let q : firstEnd (propertiesAt table) baseEdition 0 (chars source) ≡ length (encodeAll (take n (chars source))) =
+  first : length source ≤ sourceMost → isEdition edition ≡ true → tableCheck table ≡ Fit → WellFormed source → (n : ℕ)
+      → Shortest (propertiesAt table) edition (chars source) n
+      → firstCluster source table edition ≡ answer.Length (length (encodeAll (take n (chars source))))
+  first h k e w n s =
+      let q : firstEnd (propertiesAt table) edition 0 (chars source) ≡ length (encodeAll (take n (chars source))) =
       omega (arith, ap (λ (k : ℕ). length (encodeAll (take k (chars source)))) (sized (chars source) n s))
       in
-      unrefused source table (record { short = h; fit = e; well = w }) ∙ ap answer.Length q
+      unrefused source table edition (record { short = h; known = k; fit = e; well = w }) ∙ ap answer.Length q
 
-  bad-only : numberOf (firstCluster source table) ≡ badUtf8 → Damaged source (placeOf (firstCluster source table))
+  bad-only : numberOf (firstCluster source table edition) ≡ badUtf8 → Damaged source (placeOf (firstCluster source table edition))
   unfolding firstCluster
-  bad-only = only-bad sourceMost source table answer.Refused numberOf placeOf (answer.Length _) (λ x. refl) (λ x. refl) (λ m. omega arith)
+  bad-only = only-bad sourceMost source table edition answer.Refused numberOf placeOf (answer.Length _) (λ x. refl) (λ x. refl) (λ m. omega arith)
 
-  cut-only : numberOf (firstCluster source table) ≡ cutUtf8 → Arriving source (placeOf (firstCluster source table))
+  cut-only : numberOf (firstCluster source table edition) ≡ cutUtf8 → Arriving source (placeOf (firstCluster source table edition))
   unfolding firstCluster
-  cut-only = only-cut sourceMost source table answer.Refused numberOf placeOf (answer.Length _) (λ x. refl) (λ x. refl) (λ m. omega arith)
+  cut-only = only-cut sourceMost source table edition answer.Refused numberOf placeOf (answer.Length _) (λ x. refl) (λ x. refl) (λ m. omega arith)
 
-  pub first-cluster-promise : (r : Cluster) → FirstClusterEnsures source table r → FirstClusterPromise source table r
+  pub first-cluster-promise : (r : Cluster) → FirstClusterEnsures source table edition r → FirstClusterPromise source table edition r
   first-cluster-promise r e =
       let has-length : (n : ℕ) → r ≡ answer.Length n → (clusterSays r ≡ says none 0) × (lenOf r ≡ n) =
       λ n q. (ap clusterSays q, ap lenOf q)
       in
       record {
-        too-long = λ h. ap clusterSays (e ∙ refused source table (is-long sourceMost source table h));
-        bad-table = λ h i f. ap clusterSays (e ∙ refused source table (is-table sourceMost source table h i f));
-        bad-utf8 = λ h f n w. ap clusterSays (e ∙ refused source table (is-bad sourceMost source table h f n w));
-        cut-utf8 = λ h f n w. ap clusterSays (e ∙ refused source table (is-cut sourceMost source table h f n w));
-        no-bytes = λ z f. has-length 0 (e ∙ ap (λ (s : List ℕ). firstCluster s table) z ∙ no-bytes table f);
-        cluster = λ h f w n s. has-length _ (e ∙ first h f w n s);
+        too-long = λ h. ap clusterSays (e ∙ refused source table edition (is-long sourceMost source table edition h));
+        bad-edition = λ h k. ap clusterSays (e ∙ refused source table edition (is-none sourceMost source table edition h k));
+        bad-table = λ h k i f. ap clusterSays (e ∙ refused source table edition (is-table sourceMost source table edition h k i f));
+        bad-utf8 = λ h k f n w. ap clusterSays (e ∙ refused source table edition (is-bad sourceMost source table edition h k f n w));
+        cut-utf8 = λ h k f n w. ap clusterSays (e ∙ refused source table edition (is-cut sourceMost source table edition h k f n w));
+        no-bytes = λ z k f. has-length 0 (e ∙ ap (λ (s : List ℕ). firstCluster s table edition) z ∙ no-bytes table edition k f);
+        cluster = λ h k f w n s. has-length _ (e ∙ first h k f w n s);
         only-bad = λ m. subst (λ (x : Cluster). Damaged source (placeOf x)) (sym e) (bad-only (ap numberOf (sym e) ∙ m));
         only-cut = λ m. subst (λ (x : Cluster). Arriving source (placeOf x)) (sym e) (cut-only (ap numberOf (sym e) ∙ m));
       }
 
-  pub first-cluster-has-one-answer : (r q : Cluster) → FirstClusterEnsures source table r → FirstClusterEnsures source table q → r ≡ q
+  pub first-cluster-has-one-answer : (r q : Cluster) → FirstClusterEnsures source table edition r → FirstClusterEnsures source table edition q → r ≡ q
   first-cluster-has-one-answer r q e f = e ∙ sym f

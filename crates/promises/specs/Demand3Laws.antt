@@ -21,7 +21,7 @@ use Rattle.property.specs.Table.{propertiesAt}
 use Rattle.fitness.specs.Fit.{tableCheck, FitTable}
 use Rattle.fitness.specs.FitLaws.{fit-of}
 use Rattle.fitness.specs.declared.TableCheck.the-variants.{Fit}
-use Rattle.input.specs.Input.{baseEdition}
+use Rattle.input.specs.Input.{isEdition}
 use Rattle.input.specs.InputLaws.{is-fine}
 use Rattle.rows.specs.declared.Row.{Row}
 use Rattle.state.specs.Lexer.{reachOf}
@@ -176,9 +176,9 @@ module _ (s : List ℕ) (n : ℕ) (r : Reading) (w : Whole s r) (h : mostRecords
   has-room =
       by-lt (λ (x : Scanned). numberOf x ≡ listFull → ⊥) n (0 + length (r .rows)) (λ k q. omega (arith, w .few)) (λ _. stops-otherwise (r .stop) refl)
 
-pub never-full : (source table : List ℕ) (n : ℕ) → length source ≤ sourceMost → tableCheck table ≡ Fit → WellFormed source
-    → mostRecords (length source) ≤ n → numberOf (scanned source table n) ≡ listFull → ⊥
+pub never-full : (source table : List ℕ) (edition n : ℕ) → length source ≤ sourceMost → isEdition edition ≡ true → tableCheck table ≡ Fit → WellFormed source
+    → mostRecords (length source) ≤ n → numberOf (scanned source table edition n) ≡ listFull → ⊥
 unfolding scanned
-never-full source table n h fit w room e =
-    has-room source n (readingOf source table) (reading-is-whole source table baseEdition h w (fit-of table fit)) room
-    (rw (is-fine sourceMost source table (record { short = h; fit = fit; well = w })) at e)
+never-full source table edition n h k fit w room e =
+    has-room source n (readingOf source table edition) (reading-is-whole source table edition edition h w (fit-of table fit)) room
+    (rw (is-fine sourceMost source table edition (record { short = h; known = k; fit = fit; well = w })) at e)

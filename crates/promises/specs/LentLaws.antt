@@ -36,14 +36,14 @@ lent-add-string-has-one-answer v w = entries.one-outcome v w
 
 -- ---- parsing format options
 
-pub lent-parse-promise : {format table bytes newBytes : List ℕ} {entries newEntries : List Entry} {counts newCounts : Counts} {r : Parsed}
-    → ParsesEntries format table bytes entries counts newBytes newEntries newCounts r
-    → ParsePromise format table bytes (numbersOf entries) counts newBytes (numbersOf newEntries) (record { answer = r; counts = newCounts })
-lent-parse-promise p = parse-promise _ _ _ _ _ _ _ _ (p .flat)
+pub lent-parse-promise : {format table : List ℕ} {edition : ℕ} {bytes newBytes : List ℕ} {entries newEntries : List Entry} {counts newCounts : Counts} {r : Parsed}
+    → ParsesEntries format table edition bytes entries counts newBytes newEntries newCounts r
+    → ParsePromise format table edition bytes (numbersOf entries) counts newBytes (numbersOf newEntries) (record { answer = r; counts = newCounts })
+lent-parse-promise p = parse-promise _ _ _ _ _ _ _ _ _ (p .flat)
 
-pub lent-parse-has-one-answer : {format table bytes newBytes newBytes′ : List ℕ} {entries newEntries newEntries′ : List Entry}
+pub lent-parse-has-one-answer : {format table : List ℕ} {edition : ℕ} {bytes newBytes newBytes′ : List ℕ} {entries newEntries newEntries′ : List Entry}
     {counts newCounts newCounts′ : Counts} {r q : Parsed}
-    → ParsesEntries format table bytes entries counts newBytes newEntries newCounts r
-    → ParsesEntries format table bytes entries counts newBytes′ newEntries′ newCounts′ q
+    → ParsesEntries format table edition bytes entries counts newBytes newEntries newCounts r
+    → ParsesEntries format table edition bytes entries counts newBytes′ newEntries′ newCounts′ q
     → (r ≡ q) × (newBytes ≡ newBytes′) × (newEntries ≡ newEntries′) × (newCounts ≡ newCounts′)
 lent-parse-has-one-answer v w = lent.one-outcome v w

@@ -16,7 +16,6 @@ use borrow.Author.Tests.{ltb-true, leb-true, lt-ltb, le-leb, lt-leb}
 use Rattle.base.specs.PickLaws.{split-lt}
 use Rattle.property.specs.Table.{propertiesAt}
 use Rattle.fitness.specs.FitLaws as property
-use Rattle.input.specs.Input.{baseEdition}
 use Rattle.rows.specs.Row.{room, rowAt, putRows, rowFits, shownAt}
 use Rattle.rows.specs.RowLaws.{rows-room, rows-shown, shown-fit, shown-unfit}
 use Rattle.rows.specs.declared.Row.{Row}
@@ -294,38 +293,38 @@ module _ (old : List ℕ) (rows : List Row) (status : Status) (h : length rows �
       }
 
 -- the rows of a source that is read whole
-whole-shown : (source table : List ℕ) (room n : ℕ) (stop : Stop) → ReadWhole source table room n stop → (i : ℕ) (d : Row)
-    → i < length (readingOf source table .rows) → rowFits (getD (readingOf source table .rows) i d) ≡ true
-whole-shown source table room n stop w =
-    reading-shown source table baseEdition (property.fit-of table (w .readable .fit)) startState
+whole-shown : (source table : List ℕ) (edition : ℕ) (room n : ℕ) (stop : Stop) → ReadWhole source table edition room n stop → (i : ℕ) (d : Row)
+    → i < length (readingOf source table edition .rows) → rowFits (getD (readingOf source table edition .rows) i d) ≡ true
+whole-shown source table edition room n stop w =
+    reading-shown source table edition edition (property.fit-of table (w .readable .fit)) startState
     (start-ok source (w .readable .short) (w .readable .well))
 
-module _ (source table old new : List ℕ) where
+module _ (source table : List ℕ) (edition : ℕ) (old new : List ℕ) where
   abbrev stream : Stream
-  stream = rustStream source table baseEdition
+  stream = rustStream source table edition edition
 
   -- from what was read whole and written
-  from-whole : (n : ℕ) (stop : Stop) (status : Status) (c : Cursor) → ReadWhole source table (room old) n stop
-      → new ≡ putRows old (readingOf source table .rows) → c ≡ startCursor n status → (status ≡ Stuck → stop ≡ stuck)
-      → Streams stream (readingOf source table .rows) status → HandsOut new (readingOf source table .rows) stream c
+  from-whole : (n : ℕ) (stop : Stop) (status : Status) (c : Cursor) → ReadWhole source table edition (room old) n stop
+      → new ≡ putRows old (readingOf source table edition .rows) → c ≡ startCursor n status → (status ≡ Stuck → stop ≡ stuck)
+      → Streams stream (readingOf source table edition .rows) status → HandsOut new (readingOf source table edition .rows) stream c
   from-whole n stop status c w p e k same =
-      let rows : List Row = readingOf source table .rows in
+      let rows : List Row = readingOf source table edition .rows in
       let begin : c ≡ startCursor (length rows) status = e ∙ ap (λ (m : ℕ). startCursor m status) (w .counted) in
       let some : status ≡ Stuck → 0 < length rows =
-      λ s. stuck-some (propertiesAt table) baseEdition source startState (w .stops ∙ k s) in
+      λ s. stuck-some (propertiesAt table) edition source startState (w .stops ∙ k s) in
       subst (λ (l : List ℕ). HandsOut l rows stream c) (sym p)
       (subst (HandsOut (putRows old rows) rows stream) (sym begin)
-      (hands-out old rows status (omega (arith, w .counted, w .has-room)) (whole-shown source table (room old) n stop w) some stream same))
+      (hands-out old rows status (omega (arith, w .counted, w .has-room)) (whole-shown source table edition (room old) n stop w) some stream same))
 
-  pub after-a-scan : (r : Scanned) → Scans source table old r new → (c : Cursor) → BeginsAt r c
-      → HandsOut new (readingOf source table .rows) stream c
+  pub after-a-scan : (r : Scanned) → Scans source table edition old r new → (c : Cursor) → BeginsAt r c
+      → HandsOut new (readingOf source table edition .rows) stream c
   after-a-scan (scanned.End n b) p c e =
-      let w = end-whole source table old new n b p in
+      let w = end-whole source table edition old new n b p in
       from-whole n ended End c (w .0) (w .1) e (λ s. absurd (let z : _≡_ {A = ℕ} 0 1 = cc in omega arith))
-      (stream-promise source table baseEdition (w .0 .readable) .at-end (w .0 .stops))
+      (stream-promise source table edition edition (w .0 .readable) .at-end (w .0 .stops))
   after-a-scan (scanned.Stuck n b) p c e =
-      let w = stuck-whole source table old new n b p in
-      from-whole n stuck Stuck c (w .0) (w .1) e (λ s. refl) (stream-promise source table baseEdition (w .0 .readable) .at-stuck (w .0 .stops))
+      let w = stuck-whole source table edition old new n b p in
+      from-whole n stuck Stuck c (w .0) (w .1) e (λ s. refl) (stream-promise source table edition edition (w .0 .readable) .at-stuck (w .0 .stops))
   after-a-scan (scanned.Refused x) p c e = absurd e
   after-a-scan (scanned.ListFull n b) p c e = absurd e
   after-a-scan (scanned.ModesFull n b) p c e = absurd e

@@ -11,7 +11,7 @@ use Rattle.base.specs.PickLaws.{by-test}
 use Rattle.base.specs.Refusal.{badUtf8, cutUtf8, formatMost}
 use Rattle.utf8.specs.Meaning.{Arriving, Damaged}
 use Rattle.input.specs.Input.{inputCheck}
-use Rattle.input.specs.InputLaws.{is-long, is-table, is-bad, is-cut, is-fine, fine-of, only-bad, only-cut}
+use Rattle.input.specs.InputLaws.{is-long, is-none, is-table, is-bad, is-cut, is-fine, fine-of, only-bad, only-cut}
 use Rattle.input.specs.Input as input
 use Rattle.input.specs.declared.Refusal.{Refusal}
 use Rattle.input.specs.declared.Refusal.the-variants as refusal
@@ -34,12 +34,14 @@ use Rattle.promises.specs.Parse.{parseSays, Parsable, ParsePromise}
 -- a refusal keeps its number and place
 refused-number : (x : Refusal) → numberOf (refusedAs x) ≡ input.numberOf x
 refused-number refusal.TooLong = refl
+refused-number refusal.BadEdition = refl
 refused-number (refusal.BadTable i) = refl
 refused-number (refusal.BadUtf8 i) = refl
 refused-number (refusal.CutUtf8 i) = refl
 
 refused-value : (x : Refusal) → valueOf (refusedAs x) ≡ input.placeOf x
 refused-value refusal.TooLong = refl
+refused-value refusal.BadEdition = refl
 refused-value (refusal.BadTable i) = refl
 refused-value (refusal.BadUtf8 i) = refl
 refused-value (refusal.CutUtf8 i) = refl
@@ -57,7 +59,7 @@ works options o index full = by-test Works full (λ _. (λ m. omega arith, λ m.
     ends (outcome.TooLarge n) = (λ m. omega arith, λ m. omega arith)
     ends (outcome.UnexpectedToken c) = (λ m. omega arith, λ m. omega arith)
 
-module _ (format table bytes entries : List ℕ) (counts : Counts) where
+module _ (format table : List ℕ) (edition : ℕ) (bytes entries : List ℕ) (counts : Counts) where
   abbrev told-number : Comes → ℕ
   told-number c = numberOf (c .answer)
 
@@ -68,22 +70,22 @@ module _ (format table bytes entries : List ℕ) (counts : Counts) where
   abbrev worked : Comes
   worked =
       pick (fitPool bytes entries counts)
-      (comes (answer (parsed format table (lent bytes entries counts))) (parsed format table (lent bytes entries counts) .pool))
+      (comes (answer (parsed format table edition (lent bytes entries counts))) (parsed format table edition (lent bytes entries counts) .pool))
       (comes BadState (lent bytes entries counts))
 
   fine-worked : Works (worked .answer)
   fine-worked =
       by-test (λ (c : Comes). Works (c .answer)) (fitPool bytes entries counts) (λ _. works _ _ _ _) (λ _. (λ m. omega arith, λ m. omega arith))
 
-  bad-only : told-number (call format table (lent bytes entries counts)) ≡ badUtf8
-      → Damaged format (told-value (call format table (lent bytes entries counts)))
+  bad-only : told-number (call format table edition (lent bytes entries counts)) ≡ badUtf8
+      → Damaged format (told-value (call format table edition (lent bytes entries counts)))
   unfolding call
-  bad-only = only-bad formatMost format table _ told-number told-value worked refused-number refused-value (fine-worked .0)
+  bad-only = only-bad formatMost format table edition _ told-number told-value worked refused-number refused-value (fine-worked .0)
 
-  cut-only : told-number (call format table (lent bytes entries counts)) ≡ cutUtf8
-      → Arriving format (told-value (call format table (lent bytes entries counts)))
+  cut-only : told-number (call format table edition (lent bytes entries counts)) ≡ cutUtf8
+      → Arriving format (told-value (call format table edition (lent bytes entries counts)))
   unfolding call
-  cut-only = only-cut formatMost format table _ told-number told-value worked refused-number refused-value (fine-worked .1)
+  cut-only = only-cut formatMost format table edition _ told-number told-value worked refused-number refused-value (fine-worked .1)
 
   -- the pool stays
   abbrev Kept : List ℕ → List ℕ → After → Type 0
@@ -93,62 +95,63 @@ module _ (format table bytes entries : List ℕ) (counts : Counts) where
   abbrev refusal : Parsed → After
   refusal x = record { answer = x; counts = counts }
 
-  module _ (newBytes newEntries : List ℕ) (r : After) (p : Parses format table bytes entries counts newBytes newEntries r) where
+  module _ (newBytes newEntries : List ℕ) (r : After) (p : Parses format table edition bytes entries counts newBytes newEntries r) where
     -- what another answer that fits says, this one says
-    same : {q : After} → Parses format table bytes entries counts bytes entries q → parseSays r ≡ parseSays q
+    same : {q : After} → Parses format table edition bytes entries counts bytes entries q → parseSays r ≡ parseSays q
     same v = ap parseSays (one-answer p v .0)
 
-    stays : {x : Parsed} → Parses format table bytes entries counts bytes entries (refusal x) → Kept newBytes newEntries r
+    stays : {x : Parsed} → Parses format table edition bytes entries counts bytes entries (refusal x) → Kept newBytes newEntries r
     stays v = let o = one-answer p v in (ap (λ (y : After). y .counts) (o .0), o .1, o .2)
 
     -- one of refusals 1, 2, 3, 8 is given, or none
-    by-pool : (b : Bool) → fitPool bytes entries counts ≡ b → inputCheck formatMost format table ≡ Fine
-        → (Parsable format table bytes entries counts → ⊥) → Kept newBytes newEntries r
+    by-pool : (b : Bool) → fitPool bytes entries counts ≡ b → inputCheck formatMost format table edition ≡ Fine
+        → (Parsable format table edition bytes entries counts → ⊥) → Kept newBytes newEntries r
     by-pool true f e none =
-        let g = fine-of formatMost format table e in
-        absurd (none (record { short = g .short; fit = g .fit; well = g .well; pool = f }))
+        let g = fine-of formatMost format table edition e in
+        absurd (none (record { short = g .short; known = g .known; fit = g .fit; well = g .well; pool = f }))
     by-pool false f e none = stays (parses-unfit e f)
 
-    by-input : (c : Input) → inputCheck formatMost format table ≡ c → (Parsable format table bytes entries counts → ⊥) → Kept newBytes newEntries r
+    by-input : (c : Input) → inputCheck formatMost format table edition ≡ c → (Parsable format table edition bytes entries counts → ⊥) → Kept newBytes newEntries r
     by-input Fine e none = by-pool (fitPool bytes entries counts) refl e none
     by-input (Refused x) e none = stays (parses-refused e)
 
     -- none of them is given
-    module _ (g : Parsable format table bytes entries counts) where
+    module _ (g : Parsable format table edition bytes entries counts) where
       abbrev came : Comes
-      came = comes (answer (parsed format table (lent bytes entries counts))) (parsed format table (lent bytes entries counts) .pool)
+      came = comes (answer (parsed format table edition (lent bytes entries counts))) (parsed format table edition (lent bytes entries counts) .pool)
 
-      comes-to : call format table (lent bytes entries counts) ≡ came
-      comes-to = called format table bytes entries counts (is-fine formatMost format table (record { short = g .short; fit = g .fit; well = g .well })) (g .pool)
+      comes-to : call format table edition (lent bytes entries counts) ≡ came
+      comes-to = called format table edition bytes entries counts (is-fine formatMost format table edition (record { short = g .short; known = g .known; fit = g .fit; well = g .well })) (g .pool)
 
       answered : r .answer ≡ came .answer
       answered = p .answer-is ∙ ap (λ (x : Comes). x .answer) comes-to
 
     -- by how the pass ended
-    by-end : (g : Parsable format table bytes entries counts) (b : Bool) {o : Outcome} → parsed format table (lent bytes entries counts) .pool .full ≡ b
-        → parsed format table (lent bytes entries counts) .outcome ≡ o
-        → r .answer ≡ answerOf (parsed format table (lent bytes entries counts) .options) o (parsed format table (lent bytes entries counts) .pool .index) b
+    by-end : (g : Parsable format table edition bytes entries counts) (b : Bool) {o : Outcome} → parsed format table edition (lent bytes entries counts) .pool .full ≡ b
+        → parsed format table edition (lent bytes entries counts) .outcome ≡ o
+        → r .answer ≡ answerOf (parsed format table edition (lent bytes entries counts) .options) o (parsed format table edition (lent bytes entries counts) .pool .index) b
     by-end g b f e =
         answered g
-        ∙ ap (λ (x : Bool). answerOf (parsed format table (lent bytes entries counts) .options) (parsed format table (lent bytes entries counts) .outcome)
-        (parsed format table (lent bytes entries counts) .pool .index) x) f
-        ∙ ap (λ (x : Outcome). answerOf (parsed format table (lent bytes entries counts) .options) x
-        (parsed format table (lent bytes entries counts) .pool .index) b) e
+        ∙ ap (λ (x : Bool). answerOf (parsed format table edition (lent bytes entries counts) .options) (parsed format table edition (lent bytes entries counts) .outcome)
+        (parsed format table edition (lent bytes entries counts) .pool .index) x) f
+        ∙ ap (λ (x : Outcome). answerOf (parsed format table edition (lent bytes entries counts) .options) x
+        (parsed format table edition (lent bytes entries counts) .pool .index) b) e
 
     abbrev told : Parsed → Said
     told x = says (numberOf x) (valueOf x)
 
-    pub parse-promise : ParsePromise format table bytes entries counts newBytes newEntries r
+    pub parse-promise : ParsePromise format table edition bytes entries counts newBytes newEntries r
     parse-promise =
         record {
-          too-long = λ h. same (parses-refused (is-long formatMost format table h));
-          bad-table = λ h i e. same (parses-refused (is-table formatMost format table h i e));
-          bad-utf8 = λ h t n w. same (parses-refused (is-bad formatMost format table h t n w));
-          cut-utf8 = λ h t n w. same (parses-refused (is-cut formatMost format table h t n w));
-          bad-state = λ h t w f. same (parses-unfit (is-fine formatMost format table (record { short = h; fit = t; well = w })) f);
+          too-long = λ h. same (parses-refused (is-long formatMost format table edition h));
+          bad-edition = λ h k. same (parses-refused (is-none formatMost format table edition h k));
+          bad-table = λ h k i e. same (parses-refused (is-table formatMost format table edition h k i e));
+          bad-utf8 = λ h k t n w. same (parses-refused (is-bad formatMost format table edition h k t n w));
+          cut-utf8 = λ h k t n w. same (parses-refused (is-cut formatMost format table edition h k t n w));
+          bad-state = λ h k t w f. same (parses-unfit (is-fine formatMost format table edition (record { short = h; known = k; fit = t; well = w })) f);
           only-bad = λ m. subst (λ (x : Parsed). Damaged format (valueOf x)) (sym (p .answer-is)) (bad-only (ap numberOf (sym (p .answer-is)) ∙ m));
           only-cut = λ m. subst (λ (x : Parsed). Arriving format (valueOf x)) (sym (p .answer-is)) (cut-only (ap numberOf (sym (p .answer-is)) ∙ m));
-          kept = by-input (inputCheck formatMost format table) refl;
+          kept = by-input (inputCheck formatMost format table edition) refl;
           full = λ g f. ap told (by-end g true f refl);
           fine = λ g f e. by-end g false f e;
           no-number = λ g f c e. ap told (by-end g false f e);
@@ -161,7 +164,7 @@ module _ (format table bytes entries : List ℕ) (counts : Counts) where
           );
         }
 
-pub parse-has-one-answer : {format table bytes entries newBytes newEntries newBytes′ newEntries′ : List ℕ} {counts : Counts} {r q : After}
-    → Parses format table bytes entries counts newBytes newEntries r → Parses format table bytes entries counts newBytes′ newEntries′ q
+pub parse-has-one-answer : {format table : List ℕ} {edition : ℕ} {bytes entries newBytes newEntries newBytes′ newEntries′ : List ℕ} {counts : Counts} {r q : After}
+    → Parses format table edition bytes entries counts newBytes newEntries r → Parses format table edition bytes entries counts newBytes′ newEntries′ q
     → (r ≡ q) × (newBytes ≡ newBytes′) × (newEntries ≡ newEntries′)
 parse-has-one-answer a b = one-answer a b

@@ -1,11 +1,12 @@
--- The promise of `scan::scan`, case by case in the documents' order: 1, 2, 3 or 15, then the records of the source's reading, as many as have
+-- The promise of `scan::scan`, case by case in the documents' order: 1, 17, 2, 3 or 15, then the records of the source's reading, as many as have
 -- room, with a status, or refusal 4 or 5. What it ensures is `Scans`.
 -- Assumes nothing.
 use Prim.Native.Nat.{ℕ, _<_, _≤_}
 use mathlib.Core.Path.{_≡_}
+use mathlib.Core.Bool.{true, false}
 use mathlib.Core.List.{List}
 use lib.ListN.{length, take}
-use Rattle.base.specs.Refusal.{none, tooLong, badTable, badUtf8, cutUtf8, listFull, modesFull, sourceMost}
+use Rattle.base.specs.Refusal.{none, tooLong, badEdition, badTable, badUtf8, cutUtf8, listFull, modesFull, sourceMost}
 use Rattle.utf8.specs.Meaning.{Arriving, Damaged}
 use Rattle.fitness.specs.Fit.{tableCheck}
 use Rattle.fitness.specs.declared.TableCheck.the-variants.{Fit, BadTable}
@@ -52,45 +53,46 @@ refuses number place count = record { status = refused; count = count; said = sa
 
 -- ---- the promise
 
--- refusals 1, 2, 3 and 15 are not given
-abbrev pub Readable : List ℕ → List ℕ → Type 0
-Readable source table = input.Readable sourceMost source table
+-- refusals 1, 17, 2, 3 and 15 are not given
+abbrev pub Readable : List ℕ → List ℕ → ℕ → Type 0
+Readable source table edition = input.Readable sourceMost source table edition
 
 -- the records of the source's reading, and why it stops
-abbrev pub rows : List ℕ → List ℕ → List Row
-rows source table = readingOf source table .rows
+abbrev pub rows : List ℕ → List ℕ → ℕ → List Row
+rows source table edition = readingOf source table edition .rows
 
-abbrev pub stop : List ℕ → List ℕ → reading.Stop
-stop source table = readingOf source table .stop
+abbrev pub stop : List ℕ → List ℕ → ℕ → reading.Stop
+stop source table edition = readingOf source table edition .stop
 
 -- the cases shut each other out, and leave nothing out. The current byte is where the last record that was written ends (0 where there is
 -- none)
-pub record ScanPromise (source table old : List ℕ) (r : Scanned) (new : List ℕ) : Type 0 where
-  -- 1, 2, 3, 15: no record, and the list stays
+pub record ScanPromise (source table : List ℕ) (edition : ℕ) (old : List ℕ) (r : Scanned) (new : List ℕ) : Type 0 where
+  -- 1, 17, 2, 3, 15: no record, and the list stays
   pub too-long : sourceMost < length source → (scanSays r ≡ refuses tooLong 0 0) × (new ≡ old)
-  pub bad-table : length source ≤ sourceMost → (i : ℕ) → tableCheck table ≡ BadTable i
+  pub bad-edition : length source ≤ sourceMost → input.isEdition edition ≡ false → (scanSays r ≡ refuses badEdition 0 0) × (new ≡ old)
+  pub bad-table : length source ≤ sourceMost → input.isEdition edition ≡ true → (i : ℕ) → tableCheck table ≡ BadTable i
       → (scanSays r ≡ refuses badTable i 0) × (new ≡ old)
-  pub bad-utf8 : length source ≤ sourceMost → tableCheck table ≡ Fit → (n : ℕ) → Damaged source n
+  pub bad-utf8 : length source ≤ sourceMost → input.isEdition edition ≡ true → tableCheck table ≡ Fit → (n : ℕ) → Damaged source n
       → (scanSays r ≡ refuses badUtf8 n 0) × (new ≡ old)
-  pub cut-utf8 : length source ≤ sourceMost → tableCheck table ≡ Fit → (n : ℕ) → Arriving source n
+  pub cut-utf8 : length source ≤ sourceMost → input.isEdition edition ≡ true → tableCheck table ≡ Fit → (n : ℕ) → Arriving source n
       → (scanSays r ≡ refuses cutUtf8 n 0) × (new ≡ old)
   -- all records have room, and the Rust would answer None
-  pub ended : Readable source table → stop source table ≡ reading.ended → length (rows source table) ≤ room old
-      → scanSays r ≡ ends end (length (rows source table)) (endOf 0 (rows source table))
+  pub ended : Readable source table edition → stop source table edition ≡ reading.ended → length (rows source table edition) ≤ room old
+      → scanSays r ≡ ends end (length (rows source table edition)) (endOf 0 (rows source table edition))
   -- all records have room, and the last is an Error that advanced nothing
-  pub is-stuck : Readable source table → stop source table ≡ reading.stuck → length (rows source table) ≤ room old
-      → scanSays r ≡ ends stuck (length (rows source table)) (endOf 0 (rows source table))
+  pub is-stuck : Readable source table edition → stop source table edition ≡ reading.stuck → length (rows source table edition) ≤ room old
+      → scanSays r ≡ ends stuck (length (rows source table edition)) (endOf 0 (rows source table edition))
   -- 4: a token is left to read, and its record has no room
-  pub list-full : Readable source table → room old < length (rows source table)
-      → scanSays r ≡ refuses listFull (endOf 0 (take (room old) (rows source table))) (room old)
+  pub list-full : Readable source table edition → room old < length (rows source table edition)
+      → scanSays r ≡ refuses listFull (endOf 0 (take (room old) (rows source table edition))) (room old)
   -- 4 comes before 5, where the token that is left would push a 65th mode
-  pub full-before-deep : Readable source table → stop source table ≡ reading.deep → length (rows source table) ≡ room old
-      → scanSays r ≡ refuses listFull (endOf 0 (rows source table)) (room old)
+  pub full-before-deep : Readable source table edition → stop source table edition ≡ reading.deep → length (rows source table edition) ≡ room old
+      → scanSays r ≡ refuses listFull (endOf 0 (rows source table edition)) (room old)
   -- 5: that token's record has room
-  pub modes-full : Readable source table → stop source table ≡ reading.deep → length (rows source table) < room old
-      → scanSays r ≡ refuses modesFull (endOf 0 (rows source table)) (length (rows source table))
+  pub modes-full : Readable source table edition → stop source table edition ≡ reading.deep → length (rows source table edition) < room old
+      → scanSays r ≡ refuses modesFull (endOf 0 (rows source table edition)) (length (rows source table edition))
   -- every word: the records that have room, and then what was there before
-  pub words : Readable source table → new ≡ putRows old (take (room old) (rows source table))
+  pub words : Readable source table edition → new ≡ putRows old (take (room old) (rows source table edition))
   -- 3 and 15 are given nowhere else
   pub only-bad : numberOf r ≡ badUtf8 → Damaged source (placeOf r)
   pub only-cut : numberOf r ≡ cutUtf8 → Arriving source (placeOf r)

@@ -15,7 +15,7 @@ use Rattle.base.specs.PickLaws.{by-test, by-lt, split-lt}
 use Rattle.base.specs.Refusal.{badUtf8, cutUtf8, listFull, sourceMost}
 use Rattle.utf8.specs.Meaning.{Arriving, Damaged}
 use Rattle.input.specs.Input.{inputCheck}
-use Rattle.input.specs.InputLaws.{is-long, is-table, is-bad, is-cut, is-fine, by-input, only-bad, only-cut}
+use Rattle.input.specs.InputLaws.{is-long, is-none, is-table, is-bad, is-cut, is-fine, by-input, only-bad, only-cut}
 use Rattle.rows.specs.Row.{room, putRows, putRowsAt}
 use Rattle.rows.specs.RowLaws.{rows-one-by-one}
 use Rattle.rows.specs.declared.Row.{Row}
@@ -62,67 +62,68 @@ module _ (n : ℕ) (q : reading.Reading) where
           by-test Works (ltb (0 + length (q .rows)) n) (λ _. (λ m. omega arith, λ m. omega arith)) (λ _. (λ m. omega arith, λ m. omega arith))
 
 -- so 3 and 15 are those of the checks
-module _ (source table : List ℕ) (n : ℕ) where
-  bad-only : numberOf (scanned source table n) ≡ badUtf8 → Damaged source (placeOf (scanned source table n))
+module _ (source table : List ℕ) (edition n : ℕ) where
+  bad-only : numberOf (scanned source table edition n) ≡ badUtf8 → Damaged source (placeOf (scanned source table edition n))
   unfolding scanned
   bad-only =
-      only-bad sourceMost source table answer.Refused numberOf placeOf (byRoom n 0 0 (readingOf source table)) (λ x. refl) (λ x. refl)
-      (works n (readingOf source table) .0)
+      only-bad sourceMost source table edition answer.Refused numberOf placeOf (byRoom n 0 0 (readingOf source table edition)) (λ x. refl) (λ x. refl)
+      (works n (readingOf source table edition) .0)
 
-  cut-only : numberOf (scanned source table n) ≡ cutUtf8 → Arriving source (placeOf (scanned source table n))
+  cut-only : numberOf (scanned source table edition n) ≡ cutUtf8 → Arriving source (placeOf (scanned source table edition n))
   unfolding scanned
   cut-only =
-      only-cut sourceMost source table answer.Refused numberOf placeOf (byRoom n 0 0 (readingOf source table)) (λ x. refl) (λ x. refl)
-      (works n (readingOf source table) .1)
+      only-cut sourceMost source table edition answer.Refused numberOf placeOf (byRoom n 0 0 (readingOf source table edition)) (λ x. refl) (λ x. refl)
+      (works n (readingOf source table edition) .1)
 
 -- ---- the promise
 
-module _ (source table old : List ℕ) where
+module _ (source table : List ℕ) (edition : ℕ) (old : List ℕ) where
   abbrev n : ℕ
   n = room old
 
-  -- where no refusal of 1 to 3 is given
-  read : Readable source table
-      → Scans source table old (byRoom n 0 0 (readingOf source table)) (putRowsAt old 0 (take (n - 0) (rows source table)))
-  read g = scans-fine (is-fine sourceMost source table g) refl (record { answer = refl; words = refl })
+  -- where no refusal comes before the work
+  read : Readable source table edition
+      → Scans source table edition old (byRoom n 0 0 (readingOf source table edition)) (putRowsAt old 0 (take (n - 0) (rows source table edition)))
+  read g = scans-fine (is-fine sourceMost source table edition g) refl (record { answer = refl; words = refl })
 
-  module _ (r : Scanned) (new : List ℕ) (p : Scans source table old r new) where
+  module _ (r : Scanned) (new : List ℕ) (p : Scans source table edition old r new) where
     -- a refusal that writes nothing
-    kept : {x : Scanned} → Scans source table old x old → (scanSays r ≡ scanSays x) × (new ≡ old)
-    kept {x} q = let both = one-answer source table old r x new old p q in (ap scanSays (both .0), both .1)
+    kept : {x : Scanned} → Scans source table edition old x old → (scanSays r ≡ scanSays x) × (new ≡ old)
+    kept {x} q = let both = one-answer source table edition old r x new old p q in (ap scanSays (both .0), both .1)
 
-    by-reading : Readable source table → r ≡ byRoom n 0 0 (readingOf source table)
-    by-reading g = one-answer source table old r _ new _ p (read g) .0
+    by-reading : Readable source table edition → r ≡ byRoom n 0 0 (readingOf source table edition)
+    by-reading g = one-answer source table edition old r _ new _ p (read g) .0
 
     -- all records have room
-    by-stop : Readable source table → {why : reading.Stop} → stop source table ≡ why → length (rows source table) ≤ n
-        → r ≡ whole n (length (rows source table)) (endOf 0 (rows source table)) why
+    by-stop : Readable source table edition → {why : reading.Stop} → stop source table edition ≡ why → length (rows source table edition) ≤ n
+        → r ≡ whole n (length (rows source table edition)) (endOf 0 (rows source table edition)) why
     by-stop g e h =
-        by-reading g ∙ all-fit n (readingOf source table) h ∙ ap (whole n (length (rows source table)) (endOf 0 (rows source table))) e
+        by-reading g ∙ all-fit n (readingOf source table edition) h ∙ ap (whole n (length (rows source table edition)) (endOf 0 (rows source table edition))) e
 
-    pub scan-promise : ScanPromise source table old r new
+    pub scan-promise : ScanPromise source table edition old r new
     scan-promise =
-        let k : ℕ = length (rows source table) in
+        let k : ℕ = length (rows source table edition) in
         let z : n - 0 ≡ n = omega arith in
         record {
-          too-long = λ h. kept (scans-refused (is-long sourceMost source table h));
-          bad-table = λ h i e. kept (scans-refused (is-table sourceMost source table h i e));
-          bad-utf8 = λ h f i w. kept (scans-refused (is-bad sourceMost source table h f i w));
-          cut-utf8 = λ h f i w. kept (scans-refused (is-cut sourceMost source table h f i w));
+          too-long = λ h. kept (scans-refused (is-long sourceMost source table edition h));
+          bad-edition = λ h k. kept (scans-refused (is-none sourceMost source table edition h k));
+          bad-table = λ h k i e. kept (scans-refused (is-table sourceMost source table edition h k i e));
+          bad-utf8 = λ h k f i w. kept (scans-refused (is-bad sourceMost source table edition h k f i w));
+          cut-utf8 = λ h k f i w. kept (scans-refused (is-cut sourceMost source table edition h k f i w));
           ended = λ g e h. ap scanSays (by-stop g e h);
           is-stuck = λ g e h. ap scanSays (by-stop g e h);
-          list-full = λ g h. ap scanSays (by-reading g ∙ not-all-fit n (readingOf source table) h);
-          full-before-deep = λ g e h. ap scanSays (by-stop g e (omega arith) ∙ no-room n k (endOf 0 (rows source table)) h);
-          modes-full = λ g e h. ap scanSays (by-stop g e (omega arith) ∙ has-room n k (endOf 0 (rows source table)) h);
-          words = λ g. one-answer source table old r _ new _ p (read g) .1 ∙ ap (λ (i : ℕ). putRowsAt old 0 (take i (rows source table))) z
-              ∙ rows-one-by-one old (take n (rows source table));
-          only-bad = λ m. subst (λ (x : Scanned). Damaged source (placeOf x)) (sym (p .answer)) (bad-only source table n (ap numberOf (sym (p .answer)) ∙ m));
-          only-cut = λ m. subst (λ (x : Scanned). Arriving source (placeOf x)) (sym (p .answer)) (cut-only source table n (ap numberOf (sym (p .answer)) ∙ m));
+          list-full = λ g h. ap scanSays (by-reading g ∙ not-all-fit n (readingOf source table edition) h);
+          full-before-deep = λ g e h. ap scanSays (by-stop g e (omega arith) ∙ no-room n k (endOf 0 (rows source table edition)) h);
+          modes-full = λ g e h. ap scanSays (by-stop g e (omega arith) ∙ has-room n k (endOf 0 (rows source table edition)) h);
+          words = λ g. one-answer source table edition old r _ new _ p (read g) .1 ∙ ap (λ (i : ℕ). putRowsAt old 0 (take i (rows source table edition))) z
+              ∙ rows-one-by-one old (take n (rows source table edition));
+          only-bad = λ m. subst (λ (x : Scanned). Damaged source (placeOf x)) (sym (p .answer)) (bad-only source table edition n (ap numberOf (sym (p .answer)) ∙ m));
+          only-cut = λ m. subst (λ (x : Scanned). Arriving source (placeOf x)) (sym (p .answer)) (cut-only source table edition n (ap numberOf (sym (p .answer)) ∙ m));
         }
 
-pub scan-has-one-answer : (source table old : List ℕ) (r q : Scanned) (new other : List ℕ) → Scans source table old r new
-    → Scans source table old q other → (r ≡ q) × (new ≡ other)
-scan-has-one-answer source table old r q new other a b = one-answer source table old r q new other a b
+pub scan-has-one-answer : (source table : List ℕ) (edition : ℕ) (old : List ℕ) (r q : Scanned) (new other : List ℕ) → Scans source table edition old r new
+    → Scans source table edition old q other → (r ≡ q) × (new ≡ other)
+scan-has-one-answer source table edition old r q new other a b = one-answer source table edition old r q new other a b
 
 -- ---- the count
 
@@ -142,16 +143,16 @@ module _ (n : ℕ) (q : reading.Reading) where
       stops reading.stuck e = e
       stops reading.deep e = by-test Counts (ltb (length (q .rows)) n) (λ _. e) (λ _. e)
 
-counted : (source table : List ℕ) (n : ℕ) → countOf (scanned source table n) ≡ length (written source table n)
+counted : (source table : List ℕ) (edition n : ℕ) → countOf (scanned source table edition n) ≡ length (written source table edition n)
 unfolding scanned written
-counted source table n =
-    let q : reading.Reading = readingOf source table in
-    by-input answer.Refused (λ (g : Scanned → Scanned). Counts n q (g (byRoom n 0 0 q))) (inputCheck sourceMost source table) (λ _. refl)
+counted source table edition n =
+    let q : reading.Reading = readingOf source table edition in
+    by-input answer.Refused (λ (g : Scanned → Scanned). Counts n q (g (byRoom n 0 0 q))) (inputCheck sourceMost source table edition) (λ _. refl)
     (room-counts n q)
 
-pub count-is-written : (source table old : List ℕ) (r : Scanned) (new : List ℕ) → Scans source table old r new
-    → countOf r ≡ length (written source table (room old))
-count-is-written source table old r new p = ap countOf (p .answer) ∙ counted source table (room old)
+pub count-is-written : (source table : List ℕ) (edition : ℕ) (old : List ℕ) (r : Scanned) (new : List ℕ) → Scans source table edition old r new
+    → countOf r ≡ length (written source table edition (room old))
+count-is-written source table edition old r new p = ap countOf (p .answer) ∙ counted source table edition (room old)
 
 -- ---- more room
 
@@ -175,23 +176,23 @@ module _ (m n : ℕ) (le : m ≤ n) (q : reading.Reading) where
           by-lt (λ (x : Scanned). Agree x (whole n k b reading.deep)) k m
           (λ h. subst (Agree (answer.ModesFull k b)) (sym (has-room n k b (omega arith))) (λ _. (refl, e))) (λ _ full. absurd (full refl))
 
-module _ (source table : List ℕ) (m n : ℕ) (le : m ≤ n) where
-  agree : Agree m n le (readingOf source table) (scanned source table m) (scanned source table n)
+module _ (source table : List ℕ) (edition m n : ℕ) (le : m ≤ n) where
+  agree : Agree m n le (readingOf source table edition) (scanned source table edition m) (scanned source table edition n)
   unfolding scanned
   agree =
-      let q : reading.Reading = readingOf source table in
+      let q : reading.Reading = readingOf source table edition in
       by-input answer.Refused (λ (g : Scanned → Scanned). Agree m n le q (g (byRoom m 0 0 q)) (g (byRoom n 0 0 q)))
-      (inputCheck sourceMost source table) (λ x _. (refl, refl)) (room-agrees m n le q)
+      (inputCheck sourceMost source table edition) (λ x _. (refl, refl)) (room-agrees m n le q)
 
-  same-rows : (numberOf (scanned source table m) ≡ listFull → ⊥) → written source table n ≡ written source table m
+  same-rows : (numberOf (scanned source table edition m) ≡ listFull → ⊥) → written source table edition n ≡ written source table edition m
   unfolding written
   same-rows h = agree h .1
 
-pub scan-same-in-more-room : (source table old more : List ℕ) (r q : Scanned) (new other : List ℕ) → Scans source table old r new
-    → Scans source table more q other → room old ≤ room more → (numberOf r ≡ listFull → ⊥)
-    → (q ≡ r) × (other ≡ putRows more (written source table (room old)))
-scan-same-in-more-room source table old more r q new other a b le h =
-    let fits : numberOf (scanned source table (room old)) ≡ listFull → ⊥ = λ e. h (ap numberOf (a .answer) ∙ e) in (
-      b .answer ∙ agree source table (room old) (room more) le fits .0 ∙ sym (a .answer),
-      b .words ∙ ap (putRows more) (same-rows source table (room old) (room more) le fits),
+pub scan-same-in-more-room : (source table : List ℕ) (edition : ℕ) (old more : List ℕ) (r q : Scanned) (new other : List ℕ) → Scans source table edition old r new
+    → Scans source table edition more q other → room old ≤ room more → (numberOf r ≡ listFull → ⊥)
+    → (q ≡ r) × (other ≡ putRows more (written source table edition (room old)))
+scan-same-in-more-room source table edition old more r q new other a b le h =
+    let fits : numberOf (scanned source table edition (room old)) ≡ listFull → ⊥ = λ e. h (ap numberOf (a .answer) ∙ e) in (
+      b .answer ∙ agree source table edition (room old) (room more) le fits .0 ∙ sym (a .answer),
+      b .words ∙ ap (putRows more) (same-rows source table edition (room old) (room more) le fits),
     )

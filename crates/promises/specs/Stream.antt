@@ -26,7 +26,7 @@ ourReading source table edition = reading (propertiesAt table) edition source
 abbrev pub RustHands : List ℕ → List ℕ → ℕ → Reading → Type 0
 RustHands source table edition r = Hands (propertiesAt table) edition source r newTokenLexer
 
--- what holds of every source that refusals 1 to 3 do not meet
+-- what holds of every source that no refusal meets before the work
 pub record StreamPromise (source table : List ℕ) (edition : ℕ) : Type 0 where
   pub hands : RustHands source table edition (ourReading source table edition)
   -- and no other reading

@@ -1,6 +1,7 @@
 // Replays recorded answers of the Rust with its real Unicode crates to format strings (data/formats.txt; tools/README.md says how it was
 // made), with the full table, over pools of any room that hold some strings already: the answer, the counts, and every byte and number of the
-// rows. Then a file with one wrong line, so that a difference is seen to be reported.
+// rows; and format strings on which the two editions of the cluster rules differ, in edition 1 (data/older.txt). Then a file with one wrong
+// line, so that a difference is seen to be reported.
 mod answers;
 mod pools;
 
@@ -10,6 +11,7 @@ fn parse_agrees(
     text: &[u8],
     format: &[u8],
     table: &[u32],
+    edition: u32,
     bytes: &mut [u8],
     entries: &mut [u32],
     numbers: usize,
@@ -26,6 +28,7 @@ fn parse_agrees(
     let after = parse::parse(
         format,
         table,
+        edition,
         &mut bytes[..room],
         &mut entries[..numbers],
         before,
@@ -37,7 +40,7 @@ fn parse_agrees(
 }
 
 // Whether the fields `NUMBERS BYTES POOL ANSWER POOL` at a place of the text are what the parse of a format string says and leaves.
-fn format_agrees(text: &[u8], at: usize, format: &[u8], table: &[u32]) -> bool {
+fn format_agrees(text: &[u8], at: usize, format: &[u8], table: &[u32], edition: u32) -> bool {
     let bytes_at = lines::past(text, at, b' ');
     let pool_at = lines::past(text, bytes_at, b' ');
     let mut bytes = pools::byte_row();
@@ -47,6 +50,7 @@ fn format_agrees(text: &[u8], at: usize, format: &[u8], table: &[u32]) -> bool {
         text,
         format,
         table,
+        edition,
         &mut bytes,
         &mut entries,
         lines::number(text, at),
@@ -57,29 +61,36 @@ fn format_agrees(text: &[u8], at: usize, format: &[u8], table: &[u32]) -> bool {
 
 // Whether the line `HEX NUMBERS BYTES POOL ANSWER POOL` at a place of the text is what the parse says and leaves. The buffer has one byte more
 // than a format string may have, so that one too many is seen.
-fn agrees(text: &[u8], at: usize, table: &[u32]) -> bool {
+fn agrees(text: &[u8], at: usize, table: &[u32], edition: u32) -> bool {
     let mut format = io::large_buffer();
     let n = lines::hex(text, at, &mut format);
-    format_agrees(text, lines::past(text, at, b' '), &format[..n], table)
+    format_agrees(
+        text,
+        lines::past(text, at, b' '),
+        &format[..n],
+        table,
+        edition,
+    )
 }
 
-fn replay_lines(name: &[u8], text: &[u8], table: &[u32]) {
+fn replay_lines(name: &[u8], text: &[u8], table: &[u32], edition: u32) {
     let mut tally = lines::Tally::new();
     while tally.at < text.len() {
-        tally = tally.count(name, text, agrees(text, tally.at, table));
+        tally = tally.count(name, text, agrees(text, tally.at, table, edition));
     }
     tally.print(name);
 }
 
-fn replay(name: &[u8], table: &[u32]) {
+fn replay(name: &[u8], table: &[u32], edition: u32) {
     let mut text = lines::text_buffer();
     let n = lines::read_file(name, &mut text);
-    replay_lines(name, &text[..n], table);
+    replay_lines(name, &text[..n], table, edition);
 }
 
-fn replay_both(table: &[u32]) {
-    replay(b"formats.txt", table);
-    replay(b"wrong.txt", table);
+fn replay_all(table: &[u32]) {
+    replay(b"formats.txt", table, input::WITH_GB9C);
+    replay(b"older.txt", table, input::WITHOUT_GB9C);
+    replay(b"wrong.txt", table, input::WITH_GB9C);
 }
 
 fn main() {
@@ -88,5 +99,5 @@ fn main() {
     if n == 0 {
         return;
     }
-    replay_both(&row[..n]);
+    replay_all(&row[..n]);
 }

@@ -90,7 +90,7 @@ fn agrees(text: &[u8], at: usize, table: &[u32]) -> bool {
     let mut bytes = io::buffer();
     let n = lines::hex(text, at, &mut bytes);
     let mut list = replay_rows::list_buffer();
-    let scanned = scan::scan(&bytes[..n], table, &mut list);
+    let scanned = scan::scan(&bytes[..n], table, input::WITH_GB9C, &mut list);
     scan_agrees(text, lines::past(text, at, b' '), &list, scanned)
 }
 

@@ -7,10 +7,10 @@ use Rattle.replay_format.proofs.replay_lines.Statement.{statement}
 use Rattle.replay_format.proofs.replay_lines.Tie as tie
 
 abbrev Inv-loop : tie.InvT-loop
-Inv-loop name text table tally₀ tally = Unit {0}
+Inv-loop name text table edition tally₀ tally = Unit {0}
 
 abbrev μ-loop : tie.MeasureT-loop
-μ-loop name text table tally₀ tally = length text - tally .at
+μ-loop name text table edition tally₀ tally = length text - tally .at
 
 loop-less : tie.Need-loop-less Inv-loop μ-loop
 loop-less c = omega (arith, c .count .ensures (c .before .before .if1 .taken))
