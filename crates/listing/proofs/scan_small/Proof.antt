@@ -25,7 +25,7 @@ returns-2 c =
     let at-scan = c .before .before in
     let at-table = at-scan .before .before .before in
     let lists = lists-scan (at-table .before .if1 .left) (at-table .small-table .ensures) (at-scan .scan .ensures) in
-    (lists, lists-within lists (at-scan .scan .kept .1 .1 .0))
+    (lists, lists-within lists (at-scan .scan .kept .1 .1 .1 .0))
 
 pub scan-small-spec : {M : Type 1} → statement M
 scan-small-spec =
