@@ -51,6 +51,12 @@ pub enum Parsed {
     PoolFull,
 }
 
+// The numbers that a parse goes by: the edition of the cluster rules, and what is in use of the pool.
+pub struct Terms {
+    pub edition: u32,
+    pub counts: Counts,
+}
+
 // The answer, and the pool's counts after it.
 pub struct After {
     pub answer: Parsed,
@@ -92,9 +98,10 @@ fn refused(refusal: Refusal) -> Parsed
 
 // Reads a format string, for a pool that is fit or not. Refused are a format string that is too long, then a number that is no edition, then a
 // table that is unfit, then bytes that are wrong or cut, then a pool that is unfit.
-pub fn read(format: &[u8], table: &[u32], edition: u32, fit: bool) -> FormatInput
-    ensures { λ r. ⌜ r ≡ inputOf (now (format .entry)) (now (table .entry)) edition fit ⌝ }
+pub fn read(format: &[u8], table: &[u32], terms: Terms, fit: bool) -> FormatInput
+    ensures { λ r. ⌜ r ≡ inputOf (now (format .entry)) (now (table .entry)) (terms .edition) fit ⌝ }
 {
+    let edition = terms.edition;
     match input::check_input(format, table, edition, FORMAT_MOST) {
         Input::Refused(refusal) => FormatInput::Refused(refused(refusal)),
         Input::Fine => {
@@ -123,9 +130,10 @@ fn plan_with(first: Fill, second: Fill, counts: Counts) -> Plan
 }
 
 // The plan: the strings of the reading. A refusal adds nothing.
-pub fn plan_of(input: FormatInput, counts: Counts) -> Plan
-    ensures { λ r. ⌜ r ≡ planOf input counts ⌝ }
+pub fn plan_of(input: FormatInput, terms: Terms) -> Plan
+    ensures { λ r. ⌜ r ≡ planOf input (terms .counts) ⌝ }
 {
+    let counts = terms.counts;
     match input {
         FormatInput::Refused(_) => plan_with(Fill::NoFill, Fill::NoFill, counts),
         FormatInput::Read(read) => {
@@ -266,9 +274,10 @@ pub fn parse(
     ensures { λ r. ⌜ Parses (now (format .entry)) (now (table .entry)) edition (now (bytes .entry)) (now (entries .entry)) counts
         (now (bytes .exit)) (now (entries .exit)) r ⌝ }
 {
+    let terms = Terms { edition, counts };
     let fit = pool_rows::is_pool_fit(bytes, entries, counts);
-    let input = read(format, table, edition, fit);
-    let plan = plan_of(input, counts);
+    let input = read(format, table, terms, fit);
+    let plan = plan_of(input, terms);
     let two = add_both(format, plan, bytes, entries);
     end_by(input, two)
 }

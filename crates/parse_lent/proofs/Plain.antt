@@ -26,6 +26,8 @@ use Rattle.pool.proofs.Added as Added
 use Rattle.pool.proofs.Added.Laws as Added′
 use Rattle.format.proofs.Fill as Fill
 use Rattle.format.proofs.Fill.Laws as Fill′
+use Rattle.parse.proofs.Terms as Terms
+use Rattle.parse.proofs.Terms.Laws as Terms′
 use Rattle.parse.proofs.Adding as Adding
 use Rattle.parse.proofs.Adding.Laws as Adding′
 use Rattle.parse.proofs.After as After
@@ -51,6 +53,9 @@ enum T L few plain = record { val = E.val T L; tells = E.tells T L; lawful = λ 
 
 abbrev pub counts : Plain Counts.the-row
 counts = struct Counts.the-type Counts′.the-laws Counts′.the-plain
+
+abbrev pub terms : Plain Terms.the-row
+terms = struct Terms.the-type Terms′.the-laws Terms′.the-plain
 
 abbrev pub added : Plain Added.the-row
 added = enum Added.the-type Added′.the-laws tt Added′.the-plain

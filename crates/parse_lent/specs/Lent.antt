@@ -10,7 +10,7 @@ use Rattle.parse.specs.Call.{Parses}
 use Rattle.parse.specs.declared.Parsed.{Parsed}
 
 -- what `parse` ensures: the flat contract, of the entries' numbers before and after, the answer, and the counts after
-pub record ParsesEntries (format table bytes : List ℕ) (entries : List Entry) (counts : Counts)
+pub record ParsesEntries (format table : List ℕ) (edition : ℕ) (bytes : List ℕ) (entries : List Entry) (counts : Counts)
     (newBytes : List ℕ) (newEntries : List Entry) (newCounts : Counts) (r : Parsed) : Type 0 where
   pub flat :
-      Parses format table bytes (numbersOf entries) counts newBytes (numbersOf newEntries) (record { answer = r; counts = newCounts })
+      Parses format table edition bytes (numbersOf entries) counts newBytes (numbersOf newEntries) (record { answer = r; counts = newCounts })

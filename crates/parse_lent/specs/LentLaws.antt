@@ -12,8 +12,7 @@ use Rattle.pool_rows.specs.declared.Counts.{Counts}
 use Rattle.pool.specs.declared.Added.{Added}
 use Rattle.pool_lent.specs.EntriesLaws.{same-numbers}
 use Rattle.pool_lent.specs.declared.Entry.{Entry}
-use Rattle.format.specs.Parse.{addFill}
-use Rattle.format.specs.Parse.{addPart}
+use Rattle.format.specs.Parse.{addFill, addPart}
 use Rattle.format.specs.declared.Fill.{Fill}
 use Rattle.format.specs.declared.Fill.the-variants.{Is, NoFill}
 use Rattle.parse.specs.Call.{pooled, addingAfter, addTo}
@@ -35,10 +34,10 @@ pub adds-string : (format : List ℕ) (fill : Fill) (a : Adding) {bytes entries 
 adds-string format (Is part) a e s q = adds-after a _ (not-not (a .full) true e) s q
 adds-string format NoFill a e s q = absurd (let z : _≡_ {A = ℕ} 0 1 = cc in omega arith)
 
-pub one-outcome : {format table bytes newBytes newBytes′ : List ℕ} {entries newEntries newEntries′ : List Entry}
+pub one-outcome : {format table bytes newBytes newBytes′ : List ℕ} {edition : ℕ} {entries newEntries newEntries′ : List Entry}
     {counts newCounts newCounts′ : Counts} {r q : Parsed}
-    → ParsesEntries format table bytes entries counts newBytes newEntries newCounts r
-    → ParsesEntries format table bytes entries counts newBytes′ newEntries′ newCounts′ q
+    → ParsesEntries format table edition bytes entries counts newBytes newEntries newCounts r
+    → ParsesEntries format table edition bytes entries counts newBytes′ newEntries′ newCounts′ q
     → (r ≡ q) × (newBytes ≡ newBytes′) × (newEntries ≡ newEntries′) × (newCounts ≡ newCounts′)
 one-outcome v w =
     let p = one-answer (v .flat) (w .flat) in

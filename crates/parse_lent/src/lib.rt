@@ -2,8 +2,7 @@
 // counts lent. The answers, the bytes and the numbers of the entries are those of the flat call (the crate `parse`), whose plan decides
 // everything; the functions over `&mut [Entry]` and `&mut Counts` only read, call and store.
 ghost use mathlib.Core.Path.{_≡_};
-ghost use Rattle.format.specs.Parse.{addFill};
-ghost use Rattle.format.specs.Parse.{addPart};
+ghost use Rattle.format.specs.Parse.{addFill, addPart};
 ghost use Rattle.pool_rows.specs.Rows.{fitPool};
 ghost use Rattle.pool_lent.specs.Entries.{numbersOf};
 ghost use Rattle.parse.specs.Call.{pooled, addTo, Parses};
@@ -14,6 +13,7 @@ use parse::Adding;
 use parse::After;
 use parse::Parsed;
 use parse::Plan;
+use parse::Terms;
 use pool_lent::Entry;
 use pool_rows::Counts;
 
@@ -54,46 +54,57 @@ fn parse_with(
     fit: bool,
     bytes: &mut [u8],
     entries: &mut [Entry],
-    counts: Counts,
+    terms: Terms,
 ) -> After
-    requires { ⌜ fit ≡ fitPool (now bytes) (numbersOf (now entries)) counts ⌝ }
-    ensures { λ r. ⌜ Parses (now (format .entry)) (now (table .entry)) (now (bytes .entry)) (numbersOf (now (entries .entry))) counts
-        (now (bytes .exit)) (numbersOf (now (entries .exit))) r ⌝ }
+    requires { ⌜ fit ≡ fitPool (now bytes) (numbersOf (now entries)) (terms .counts) ⌝ }
+    ensures { λ r. ⌜ Parses (now (format .entry)) (now (table .entry)) (terms .edition) (now (bytes .entry)) (numbersOf (now (entries .entry)))
+        (terms .counts) (now (bytes .exit)) (numbersOf (now (entries .exit))) r ⌝ }
 {
-    let input = parse::read(format, table, fit);
-    let plan = parse::plan_of(input, counts);
+    let input = parse::read(format, table, terms, fit);
+    let plan = parse::plan_of(input, terms);
     let two = add_both(format, plan, bytes, entries);
     parse::end_by(input, two)
 }
 
-// Parses a format string, with the counts by value: its options, with the fill's index in the pool. It refuses and writes as `parse::parse`
-// does. Whether the pool is fit is asked first, which writes nothing, and told after refusals 1, 2, 3 (`parse::read`).
+// Parses a format string, with the edition and the counts by value: its options, with the fill's index in the pool. It refuses and writes as
+// `parse::parse` does. Whether the pool is fit is asked first, which writes nothing, and told after refusals 1, 17, 2, 3 and 15 (`parse::read`).
 pub fn parse_row(
     format: &[u8],
     table: &[u32],
     bytes: &mut [u8],
     entries: &mut [Entry],
-    counts: Counts,
+    terms: Terms,
 ) -> After
-    ensures { λ r. ⌜ Parses (now (format .entry)) (now (table .entry)) (now (bytes .entry)) (numbersOf (now (entries .entry))) counts
-        (now (bytes .exit)) (numbersOf (now (entries .exit))) r ⌝ }
+    ensures { λ r. ⌜ Parses (now (format .entry)) (now (table .entry)) (terms .edition) (now (bytes .entry)) (numbersOf (now (entries .entry)))
+        (terms .counts) (now (bytes .exit)) (numbersOf (now (entries .exit))) r ⌝ }
 {
-    let fit = pool_lent::is_pool_fit(bytes, entries, counts);
-    parse_with(format, table, fit, bytes, entries, counts)
+    let fit = pool_lent::is_pool_fit(bytes, entries, terms.counts);
+    parse_with(format, table, fit, bytes, entries, terms)
 }
 
-// Parses a format string: its options, with the fill's index in the pool, whose counts are those after the additions.
+// Parses a format string, by the cluster rules of an edition: its options, with the fill's index in the pool, whose counts are those after the
+// additions.
 pub fn parse(
     format: &[u8],
     table: &[u32],
+    edition: u32,
     bytes: &mut [u8],
     entries: &mut [Entry],
     counts: &mut Counts,
 ) -> Parsed
-    ensures { λ r. ⌜ ParsesEntries (now (format .entry)) (now (table .entry)) (now (bytes .entry)) (now (entries .entry)) (now (counts .entry))
-        (now (bytes .exit)) (now (entries .exit)) (now (counts .exit)) r ⌝ }
+    ensures { λ r. ⌜ ParsesEntries (now (format .entry)) (now (table .entry)) edition (now (bytes .entry)) (now (entries .entry))
+        (now (counts .entry)) (now (bytes .exit)) (now (entries .exit)) (now (counts .exit)) r ⌝ }
 {
-    let after = parse_row(format, table, bytes, entries, *counts);
+    let after = parse_row(
+        format,
+        table,
+        bytes,
+        entries,
+        Terms {
+            edition: edition,
+            counts: *counts,
+        },
+    );
     *counts = after.counts;
     after.answer
 }

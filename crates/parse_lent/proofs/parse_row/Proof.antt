@@ -13,6 +13,7 @@ use Rattle.pool_lent.proofs.Walk.{Meets, tripleOf, entered, cited, says, Stays,
 use Rattle.pool_lent.proofs.Walk.{goes-none, Walks, ends-at, walked, walk-meets, gave-slice, goes-gave-slice, yes, mem, calls-at, ensured}
 use Rattle.pool_lent.proofs.Walk.{lasts, Contract, Triple, lft-new, lft-end, Bool}
 use Rattle.pool_lent.proofs.Places.{local, member, sets}
+use denote.Struct.Laws as S
 use Rattle.pool_rows.specs.Rows.{fitPool}
 use Rattle.pool_rows.specs.declared.Counts.{Counts}
 use Rattle.pool_rows.proofs.Counts as Counts
@@ -22,8 +23,11 @@ use Rattle.pool_lent.proofs.Entry as E
 use Rattle.pool_lent.proofs.Shared.{LentShared, lends-shared, shared-back}
 use Rattle.parse.specs.Call.{Parses}
 use Rattle.parse.specs.declared.After.{After}
+use Rattle.parse.specs.declared.Terms.{Terms}
 use Rattle.parse.proofs.After as After
-use Rattle.parse_lent.proofs.Plain.{counts, after, no-ask, asks}
+use Rattle.parse.proofs.Terms as Terms
+use Rattle.parse.proofs.Terms.Laws as Terms′
+use Rattle.parse_lent.proofs.Plain.{counts, terms, after, no-ask, asks}
 use Rattle.pool_lent.proofs.is_pool_fit as is-pool-fit
 use Rattle.pool_lent.proofs.is_pool_fit.Symbol as is-pool-fit-def
 use Rattle.pool_lent.proofs.is_pool_fit.Symbol.{name as #pool-lent·is-pool-fit}
@@ -46,7 +50,7 @@ stayed = (
     (
       gave-slice (2 ∷ []) tt (plain
           (λ _. u8)),
-      (gave-slice (3 ∷ []) tt (plain (λ _. E.the-row)), (stay-none (λ _. Counts.the-row) yes, tt)),
+      (gave-slice (3 ∷ []) tt (plain (λ _. E.the-row)), (stay-none (λ _. Terms.the-row) yes, tt)),
     ),
   ),
 )
@@ -59,11 +63,15 @@ module _ {M : Type 1} (𝓤 : URA M) (H : Heap 𝓤) (A : Atoms 𝓤) (mem : Mem
   abbrev With : Contract 𝓤
   With = tripleOf 𝓤 H A parse-with.signature (parse-with.spec 𝓤 H A mem run)
 
+-- the relation of the counts
+count : (c : Terms) → Is Terms.the-row c (terms .val c ∷ []) → Is Counts.the-row (c .counts) (counts .val (c .counts) ∷ [])
+count c is = S.owed Terms.the-type Terms′.the-laws c _ is .1 .0
+
 module _ {M : Type 1} (𝓤 : URA M) (H : Heap 𝓤) (A : Atoms 𝓤) (W : Given 𝓤 H A) (at-mem : Memory → SProp 𝓤) (run : Routine → Fun 𝓤)
-    (κ₀ κ₁ κ₂ κ₃ : Lft) (q₀ q₁ q₂ q₃ : Share) (x₀ x₁ x₂ : RefT (List ℕ)) (x₃ : RefT (List Entry)) (c : Counts)
+    (κ₀ κ₁ κ₂ κ₃ : Lft) (q₀ q₁ q₂ q₃ : Share) (x₀ x₁ x₂ : RefT (List ℕ)) (x₃ : RefT (List Entry)) (c : Terms)
     (g₀ : Room u8 (length (x₀ .now))) (g₁ : Room u32 (length (x₁ .now))) (g₂ : Room u8 (length (x₂ .now))) (g₃ : Room E.the-row (length
     (x₃ .now)))
-    (gc : Is Counts.the-row c (counts .val c ∷ [])) where
+    (gc : Is Terms.the-row c (terms .val c ∷ [])) where
   abbrev bs : List ℕ
   bs = x₂ .now
 
@@ -96,13 +104,13 @@ module _ {M : Type 1} (𝓤 : URA M) (H : Heap 𝓤) (A : Atoms 𝓤) (W : Given
   qs = (q₀, (q₁, (q₂, (q₃, tt))))
 
   abbrev Arg : Type 0
-  Arg = RefT (List ℕ) × (RefT (List ℕ) × (RefT (List ℕ) × (RefT (List Entry) × (Counts × Unit {0}))))
+  Arg = RefT (List ℕ) × (RefT (List ℕ) × (RefT (List ℕ) × (RefT (List Entry) × (Terms × Unit {0}))))
 
   abbrev x : Arg
   x = (x₀, (x₁, (x₂, (x₃, (c, tt)))))
 
   abbrev at : Vals parse-row.signature κs
-  at = (v₀ ∷ [], (v₁ ∷ [], (v₂ ∷ [], (v₃ ∷ [], (counts .val c ∷ [], tt)))))
+  at = (v₀ ∷ [], (v₁ ∷ [], (v₂ ∷ [], (v₃ ∷ [], (terms .val c ∷ [], tt)))))
 
   abbrev Post : Val → SProp 𝓤
   Post = walkOf 𝓤 H A parse-row.ended stayed (parse-row.clauses 𝓤 H A at-mem run) .post ((κs, qs, tt, x, at), tt)
@@ -123,41 +131,41 @@ module _ {M : Type 1} (𝓤 : URA M) (H : Heap 𝓤) (A : Atoms 𝓤) (W : Given
 
   exits : (r : After) (w : Val) (zs : List ℕ) (ds : List Entry) → length zs ≡ length bs → length ds ≡ length es
       → Is After.the-row r (w ∷ [])
-      → Parses (x₀ .now) (x₁ .now) bs (numbersOf es) c zs (numbersOf ds) r
+      → Parses (x₀ .now) (x₁ .now) (c .edition) bs (numbersOf es) (c .counts) zs (numbersOf ds) r
       → ent 𝓤 (⋆ 𝓤 H A (Left zs ds)) (Post w)
   exits r w zs ds k₁ k₂ is e =
       qed W (Left zs ds) ∵
       suffices ! _ (ends-at 𝓤 H A parse-row.ended stayed (parse-row.clauses 𝓤 H A at-mem run) W ((κs, qs, tt, x, at), tt) w r
       (tt, (tt, (zs, (ds, (tt, tt))))) (tt, (tt, (k₁, (k₂, (tt, tt)))))) $ says ! e $
-      frame ! $ nothing ! $ owned ! Counts.the-row (Is Counts.the-row) (counts .makes 𝓤 H A) c _ gc $ fjoin ! $ move ! (2 ∷ 0 ∷ []) $
+      frame ! $ nothing ! $ owned ! Terms.the-row (Is Terms.the-row) (terms .makes 𝓤 H A) c _ gc $ fjoin ! $ move ! (2 ∷ 0 ∷ []) $
       fjoin ! $ move ! (1 ∷ 0 ∷ []) $ fjoin ! $ move ! (2 ∷ 0 ∷ []) $ fjoin ! $ move ! (1 ∷ 0 ∷ []) $
       fjoin ! $ frame ! $ owned ! After.the-row (Is After.the-row) (after .makes 𝓤 H A) r _ is $ done !
 
   -- ---- what each callee's triple binds outside
   abbrev fit-args : GName → GName → RefT (List ℕ) × (RefT (List Entry) × (Counts × Unit {0}))
-  fit-args δ δ′ = (bytes-at δ bs, (entries-at δ′ es, (c, tt)))
+  fit-args δ δ′ = (bytes-at δ bs, (entries-at δ′ es, (c .counts, tt)))
 
   abbrev fit-at : List Val × (List Val × (List Val × Unit {0}))
-  fit-at = (v₂ ∷ [], (v₃ ∷ [], (counts .val c ∷ [], tt)))
+  fit-at = (v₂ ∷ [], (v₃ ∷ [], (counts .val (c .counts) ∷ [], tt)))
 
   abbrev to-fit : ℕ → ℕ → GName → GName → IsFit 𝓤 H A at-mem run .Ghost
   to-fit ν ν′ δ δ′ = (((ν ∷ [], (ν′ ∷ [], tt)), (fullShare, (fullShare, tt)), tt, fit-args δ δ′, fit-at), tt)
 
-  abbrev with-args : Bool → RefT (List ℕ) × (RefT (List ℕ) × (Bool × (RefT (List ℕ) × (RefT (List Entry) × (Counts × Unit {0})))))
+  abbrev with-args : Bool → RefT (List ℕ) × (RefT (List ℕ) × (Bool × (RefT (List ℕ) × (RefT (List Entry) × (Terms × Unit {0})))))
   with-args t = (x₀, (x₁, (t, (x₂, (x₃, (c, tt))))))
 
   abbrev with-at : Val → Vals parse-with.signature κs
-  with-at w = (v₀ ∷ [], (v₁ ∷ [], (w ∷ [], (v₂ ∷ [], (v₃ ∷ [], (counts .val c ∷ [], tt))))))
+  with-at w = (v₀ ∷ [], (v₁ ∷ [], (w ∷ [], (v₂ ∷ [], (v₃ ∷ [], (terms .val c ∷ [], tt))))))
 
   abbrev to-with : Bool → Val → With 𝓤 H A at-mem run .Ghost
   to-with t w = ((κs, qs, tt, with-args t, with-at w), tt)
 
   module _ (C : Calls 𝓤 H) (Λ : Loops 𝓤 H) (fm : FmC 𝓤 H (W .laws) C) (known-fit : Triple 𝓤 (C #pool-lent·is-pool-fit)
       (IsFit 𝓤 H A at-mem run)) (known-with : Triple 𝓤 (C #parse-lent·parse-with) (With 𝓤 H A at-mem run)) where
-    walk : ent 𝓤 (onEntry 𝓤 H A parse-row.signature κs qs x at) (WpFn 𝓤 H C Λ code.function (v₀ ∷ v₁ ∷ v₂ ∷ v₃ ∷ counts .val c ∷ []) Post)
+    walk : ent 𝓤 (onEntry 𝓤 H A parse-row.signature κs qs x at) (WpFn 𝓤 H C Λ code.function (v₀ ∷ v₁ ∷ v₂ ∷ v₃ ∷ terms .val c ∷ []) Post)
     walk =
         qed W (Toks ∷ ‵ (owns (ShrSlice (named 0) κ₀ u8 ∷ ShrSlice (named 1) κ₁ u32 ∷ MutSlice (named 2) κ₂ u8 ∷ MutSlice
-        (named 3) κ₃ E.the-row ∷ Counts.the-row ∷ []) x at) ∷ []) ∵ enter ! C Λ code.function (v₀ ∷ v₁ ∷ v₂ ∷ v₃ ∷ counts .val c ∷ []) _ $
+        (named 3) κ₃ E.the-row ∷ Terms.the-row ∷ []) x at) ∷ []) ∵ enter ! C Λ code.function (v₀ ∷ v₁ ∷ v₂ ∷ v₃ ∷ terms .val c ∷ []) _ $
         alloc1 ! (λ l₀. alloc1 ! (λ l₁. alloc1 ! (λ l₂. alloc1 ! (λ l₃. alloc1 ! (λ l₄. alloc1 ! (λ l₅. alloc1 ! (λ l₆. alloc1 !
         (λ l₇. alloc1 ! (λ l₈. alloc1 ! (λ l₉. alloc1 ! (λ l₁₀. alloc1 ! (λ l₁₁. alloc1 ! (λ l₁₂. alloc1 ! (λ l₁₃. alloc1 !
         (λ l₁₄. alloc0 ! $ params1 ! $
@@ -165,7 +173,7 @@ module _ {M : Type 1} (𝓤 : URA M) (H : Heap 𝓤) (A : Atoms 𝓤) (W : Given
         pass1 ! (init ! 24 refl (tt, (tt, (record { fits = g₁ .0 }, tt)))) $
         pass1 ! (init ! 22 refl (tt, (tt, (record { fits = g₂ .0 }, tt)))) $
         pass1 ! (init ! 20 refl (tt, (tt, (record { fits = g₃ .0 }, tt)))) $
-        pass1 ! (init ! 18 refl (counts .lawful 𝓤 H A W .typed c _ gc .0)) $ pass0 ! $ move ! (31 ∷ []) $ fsplit ! $ move ! (1 ∷ []) $
+        pass1 ! (init ! 18 refl (terms .lawful 𝓤 H A W .typed c _ gc .0)) $ pass0 ! $ move ! (31 ∷ []) $ fsplit ! $ move ! (1 ∷ []) $
         fsplit ! $ move ! (1 ∷ []) $
         fsplit ! $ move ! (1 ∷ []) $ fsplit ! $ move ! (1 ∷ []) $ fsplit ! $ drop ! $ drop ! $ move ! (34 ∷ []) $ split ! $
         move ! (1 ∷ []) $ split ! $ move ! (1 ∷ []) $ split ! $ move ! (1 ∷ []) $ split ! $ move ! (1 ∷ []) $ drop ! $
@@ -182,19 +190,19 @@ module _ {M : Type 1} (𝓤 : URA M) (H : Heap 𝓤) (A : Atoms 𝓤) (W : Given
         use2 W (later (some (λ (δ′ : GName). ‵ (ShrSlice (named 1) (ν′ ∷ []) E.the-row .own (entries-at δ′ (x₃ .now)) (v₃ ∷ [])) ⊛ ‵
         (LentShared E.the-row κ₃ (ν′ ∷ []) q₃ x₃)))) (lends-shared E.the-row κ₃ (ν′ ∷ []) q₃ x₃ 𝓤 H A W (named 3) (named 1)) $ await ! tt $
         pick ! (λ δ′.
-        split ! $ nothing ! $ owned ! Counts.the-row (Is Counts.the-row) (counts .makes 𝓤 H A) c _ gc $ fjoin ! $ move ! (1 ∷ 0 ∷ []) $
+        split ! $ nothing ! $ owned ! Counts.the-row (Is Counts.the-row) (counts .makes 𝓤 H A) (c .counts) _ (count c gc) $ fjoin ! $ move ! (1 ∷ 0 ∷ []) $
         fjoin ! $ move ! (3 ∷ 0 ∷ []) $ fjoin ! $ nothing ! $ move ! (3 ∷ 0 ∷ []) $ join ! $
         move ! (4 ∷ 0 ∷ []) $ join ! $ use2 W (raw (IsFit 𝓤 H A at-mem run .pre (to-fit ν ν′ δ δ′))) (no-ask 𝓤 H A W
         (onEntry 𝓤 H A is-pool-fit.signature (ν ∷ [], (ν′ ∷ [], tt)) (fullShare, (fullShare, tt)) (fit-args δ δ′) fit-at)) $
         calls-at ! fm (IsFit 𝓤 H A at-mem run) known-fit (to-fit ν ν′ δ δ′) (and-then ! (local ! 19 refl) (and-then ! (local ! 15 refl)
-        (and-then ! (local ! 25 refl) (no-more !)))) (λ w₁.
+        (and-then ! (member ! 25 refl (sub ! 1 refl (whole !))) (no-more !)))) (λ w₁.
         use1 W (later (some (λ (t : Bool). ((‵ (flft (ν ∷ []) fullShare) ⊛ ‵ (flft (ν′ ∷ []) fullShare) ⊛ ‵ ftrue) ⊛ ‵ (bool .own t
         (w₁ ∷ []))) ⊛ raw (ensured 𝓤 H A is-pool-fit.ended (is-pool-fit.clauses 𝓤 H A at-mem run) (ν ∷ [], (ν′ ∷ [], tt))
         (fit-args δ δ′) tt t)))) (id⊢ 𝓤 _) $ await ! tt $ pick ! (λ t.
         split ! $ move ! (1 ∷ []) $
-        use1 W (raw (fact 𝓤 (t ≡ fitPool bs (numbersOf es) c))) (exE 𝓤 _ (λ ks. snd∗ 𝓤 (sem 𝓤 H A (lasts is-pool-fit.ended
-        (ν ∷ [], (ν′ ∷ [], tt)) (fit-args δ δ′) ks)) (fact 𝓤 (t ≡ fitPool bs (numbersOf es) c)))) $
-        heard ! (t ≡ fitPool bs (numbersOf es) c) (λ e₁.
+        use1 W (raw (fact 𝓤 (t ≡ fitPool bs (numbersOf es) (c .counts)))) (exE 𝓤 _ (λ ks. snd∗ 𝓤 (sem 𝓤 H A (lasts is-pool-fit.ended
+        (ν ∷ [], (ν′ ∷ [], tt)) (fit-args δ δ′) ks)) (fact 𝓤 (t ≡ fitPool bs (numbersOf es) (c .counts))))) $
+        heard ! (t ≡ fitPool bs (numbersOf es) (c .counts)) (λ e₁.
         split ! $ move ! (1 ∷ []) $ peeks ! bool (Is bool) (shows 𝓤 H A bool) t (w₁ ∷ []) (λ is₁. land ! (from ! (stop !)) (init ! 24 refl
         (bool-lawful 𝓤 H A W .typed t _ is₁ .0)) $ drop ! $
         -- the two lifetimes are ended, and both rows come back
@@ -213,7 +221,7 @@ module _ {M : Type 1} (𝓤 : URA M) (H : Heap 𝓤) (A : Atoms 𝓤) (W : Given
         (tt, (tt, (record { fits = g₃ .0 }, tt))) $ move ! (7 ∷ []) $
         use1 W (‵ Own₀ ⊛ ‵ Own₀) (shr-slice-copy 𝓤 H A W (named 0) κ₀ u8 .twice x₀ (v₀ ∷ [])) $ split ! $ move ! (8 ∷ []) $
         use1 W (‵ Own₁ ⊛ ‵ Own₁) (shr-slice-copy 𝓤 H A W (named 1) κ₁ u32 .twice x₁ (v₁ ∷ [])) $ split ! $ nothing ! $
-        owned ! Counts.the-row (Is Counts.the-row) (counts .makes 𝓤 H A) c _ gc $ fjoin ! $ move ! (5 ∷ 0 ∷ []) $ fjoin ! $
+        owned ! Terms.the-row (Is Terms.the-row) (terms .makes 𝓤 H A) c _ gc $ fjoin ! $ move ! (5 ∷ 0 ∷ []) $ fjoin ! $
         move ! (6 ∷ 0 ∷ []) $ fjoin ! $ owned ! bool (Is bool) (bool-makes 𝓤 H A W) t _ is₁ $ fjoin ! $
         move ! (2 ∷ 0 ∷ []) $ fjoin ! $ move ! (3 ∷ 0 ∷ []) $ fjoin ! $ nothing ! $ move ! (4 ∷ 0 ∷ []) $ join ! $ move ! (4 ∷ 0 ∷ []) $
         join ! $ move ! (4 ∷ 0 ∷ []) $ join ! $ move ! (4 ∷ 0 ∷ []) $ join ! $
@@ -226,9 +234,9 @@ module _ {M : Type 1} (𝓤 : URA M) (H : Heap 𝓤) (A : Atoms 𝓤) (W : Given
         (parse-with.clauses 𝓤 H A at-mem run) κs (with-args t) tt r)))) (id⊢ 𝓤 _) $ await ! tt $ pick ! (λ r. split ! $
         move ! (1 ∷ []) $
         use1 W (some (λ (zs : Unit {0} × (Unit {0} × (Unit {0} × (List ℕ × (List Entry × (Unit {0} × Unit {0})))))). ‵
-        (lasts parse-with.ended κs (with-args t) zs) ⊛ raw (fact 𝓤 (Parses (x₀ .now) (x₁ .now) bs (numbersOf es) c (zs .1 .1 .1 .0)
+        (lasts parse-with.ended κs (with-args t) zs) ⊛ raw (fact 𝓤 (Parses (x₀ .now) (x₁ .now) (c .edition) bs (numbersOf es) (c .counts) (zs .1 .1 .1 .0)
         (numbersOf (zs .1 .1 .1 .1 .0)) r)))) (id⊢ 𝓤 _) $ pick ! (λ zs.
-        split ! $ move ! (1 ∷ []) $ heard ! (Parses (x₀ .now) (x₁ .now) bs (numbersOf es) c (zs .1 .1 .1 .0) (numbersOf
+        split ! $ move ! (1 ∷ []) $ heard ! (Parses (x₀ .now) (x₁ .now) (c .edition) bs (numbersOf es) (c .counts) (zs .1 .1 .1 .0) (numbersOf
         (zs .1 .1 .1 .1 .0)) r) (λ e₂. fsplit ! $ drop ! $ fsplit ! $ drop ! $ fsplit ! $ drop ! $ fsplit ! $ fsplit ! $
         move ! (1 ∷ []) $ feqL ! (λ k₁. move ! (1 ∷ []) $ fsplit ! $ fsplit ! $ move ! (1 ∷ []) $ feqL ! (λ k₂. move ! (1 ∷ []) $ fsplit ! $
         drop ! $ drop ! $ move ! (2 ∷ []) $ split ! $ move ! (1 ∷ []) $
@@ -250,7 +258,7 @@ module _ {M : Type 1} (𝓤 : URA M) (H : Heap 𝓤) (A : Atoms 𝓤) (W : Given
     (With 𝓤 H A mem run)) where
   parse-row-walks : Walks 𝓤 H A parse-row.ended stayed (WpFn 𝓤 H (𝓣 .C) (𝓣 .Λ) code.function) (parse-row.clauses 𝓤 H A mem run)
   parse-row-walks = walked 𝓤 H A parse-row.ended stayed (parse-row.clauses 𝓤 H A mem run) (WpFn 𝓤 H (𝓣 .C) (𝓣 .Λ) code.function)
-      (λ κs. (slice-vals, (slice-vals, (slice-vals, (slice-vals, ((λ y. counts .val y ∷ []), tt))))))
+      (λ κs. (slice-vals, (slice-vals, (slice-vals, (slice-vals, ((λ y. terms .val y ∷ []), tt))))))
       (λ κs. (
         shr-slice-tells (named 0) (κs .0) u8,
         (
@@ -258,7 +266,7 @@ module _ {M : Type 1} (𝓤 : URA M) (H : Heap 𝓤) (A : Atoms 𝓤) (W : Given
           (
             mut-slice-tells (named 2)
                 (κs .1 .1 .0) u8,
-            (mut-slice-tells (named 3) (κs .1 .1 .1 .0) E.the-row, (counts .tells, tt)),
+            (mut-slice-tells (named 3) (κs .1 .1 .1 .0) E.the-row, (terms .tells, tt)),
           ),
         ),
       ))
@@ -280,7 +288,7 @@ module _ {M : Type 1} (𝓤 : URA M) (H : Heap 𝓤) (A : Atoms 𝓤) (W : Given
             (
               goes-gave-slice 𝓤 H A W 4 3 tt (plain
                   (λ _. E.the-row)),
-              (goes-none 𝓤 H A W 4 (λ _. Counts.the-row) yes (λ κs x f. refl), tt),
+              (goes-none 𝓤 H A W 4 (λ _. Terms.the-row) yes (λ κs x f. refl), tt),
             ),
           ),
         ),

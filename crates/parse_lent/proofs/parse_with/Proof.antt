@@ -10,12 +10,11 @@ use Rattle.pool_lent.proofs.Walk.{bool, RefT, sliceVal, ShrSlice, Room, slice-v
 use Rattle.pool_lent.proofs.Walk.{shr-slice-copy, finally, plain, nothing, owned, peeks, heard, Vals, onEntry, Meets, tripleOf, entered}
 use Rattle.pool_lent.proofs.Walk.{cited, says, needs, Stays, stay-none-slice, stay-none, walkOf, goes-none-slice, goes-none, Walks, ends-at}
 use Rattle.pool_lent.proofs.Walk.{walked, walk-meets, gave-slice, goes-gave-slice, yes, mem, calls-at, ensured, lasts, Contract, Triple}
-use Rattle.pool_lent.proofs.Walk.{Bool}
+use Rattle.pool_lent.proofs.Walk.{Bool, fullShare, Ty, tyInt, tyRef, w8, fat, froom, fdies, Env, runs, atRet, Sq, sliceTy, pointee}
+use mir.Syntax.{erased, mut}
 use Rattle.pool_lent.proofs.Places.{local, member, sets}
 use denote.Plain.{bool-vals, bool-tells}
 use Rattle.pool_rows.specs.Rows.{fitPool}
-use Rattle.pool_rows.specs.declared.Counts.{Counts}
-use Rattle.pool_rows.proofs.Counts as Counts
 use Rattle.pool_lent.specs.Entries.{numbersOf}
 use Rattle.pool_lent.specs.declared.Entry.{Entry}
 use Rattle.pool_lent.proofs.Entry as E
@@ -23,14 +22,18 @@ use Rattle.parse.specs.Call.{pooled, Parses}
 use Rattle.parse.specs.declared.Adding.{Adding}
 use Rattle.parse.specs.declared.After.{After}
 use Rattle.parse.specs.declared.FormatInput.{FormatInput}
+use Rattle.parse.specs.declared.Terms.{Terms}
 use Rattle.parse.proofs.Adding as Adding
+use Rattle.parse.proofs.Adding.Laws as Adding′
 use Rattle.parse.proofs.After as After
+use Rattle.parse.proofs.After.Laws as After′
 use Rattle.parse.proofs.FormatInput as FormatInput
+use Rattle.parse.proofs.Terms as Terms
 use Rattle.parse.specs.Plan.{inputOf, planOf, CanPlan, addPlan, endBy}
 use Rattle.parse.specs.PlanLaws.{can-plan, parses-planned}
 use Rattle.parse.specs.declared.Plan.{Plan}
 use Rattle.parse.proofs.Plan as Plan
-use Rattle.parse_lent.proofs.Plain.{counts, adding, after, input, plan, no-ask, asks}
+use Rattle.parse_lent.proofs.Plain.{terms, adding, after, input, plan, no-ask, asks}
 use Rattle.parse.proofs.read as read-of
 use Rattle.parse.proofs.read.Symbol as read-of-def
 use Rattle.parse.proofs.read.Symbol.{name as #parse·read}
@@ -51,6 +54,7 @@ use Rattle.parse_lent.proofs.parse_with.Key.{name as #parse-lent·parse
 use Rattle.parse_lent.proofs.parse_with as parse-with
 use Rattle.parse_lent.proofs.parse_with.Statement as stated
 use Rattle.parse_lent.proofs.parse_with.Code as code
+use Rattle.parse_lent.proofs.parse_with.Code.Mir as part
 
 -- both rows are given up for good: what is had of each at exit is what says its last list
 abbrev stayed : Stays (parse-with.ended .signature .params) (parse-with.ended .kept)
@@ -66,7 +70,7 @@ stayed = (
           gave-slice (3 ∷ []) tt (plain (λ _. E.the-row)),
           (
             stay-none
-                (λ _. Counts.the-row) yes,
+                (λ _. Terms.the-row) yes,
             tt,
           ),
         ),
@@ -74,6 +78,19 @@ stayed = (
     ),
   ),
 )
+
+-- the locals' types, where they are long
+abbrev r₂ : Ty
+r₂ = tyRef erased mut (tyInt w8)
+
+abbrev r₃ : Ty
+r₃ = tyRef erased mut (pointee (E.the-row .written))
+
+abbrev s₂ : Ty
+s₂ = sliceTy (tyRef (named 2) mut (tyInt w8))
+
+abbrev s₃ : Ty
+s₃ = sliceTy (tyRef (named 3) mut (pointee (E.the-row .written)))
 
 -- the contracts that the proof cites
 module _ {M : Type 1} (𝓤 : URA M) (H : Heap 𝓤) (A : Atoms 𝓤) (mem : Memory → SProp 𝓤) (run : Routine → Fun 𝓤) where
@@ -90,10 +107,10 @@ module _ {M : Type 1} (𝓤 : URA M) (H : Heap 𝓤) (A : Atoms 𝓤) (mem : Mem
   EndBy = tripleOf 𝓤 H A end-by.signature (end-by.spec 𝓤 H A mem run)
 
 module _ {M : Type 1} (𝓤 : URA M) (H : Heap 𝓤) (A : Atoms 𝓤) (W : Given 𝓤 H A) (at-mem : Memory → SProp 𝓤) (run : Routine → Fun 𝓤)
-    (κ₀ κ₁ κ₂ κ₃ : Lft) (q₀ q₁ q₂ q₃ : Share) (x₀ x₁ : RefT (List ℕ)) (t : Bool) (x₂ : RefT (List ℕ)) (x₃ : RefT (List Entry)) (c : Counts)
+    (κ₀ κ₁ κ₂ κ₃ : Lft) (q₀ q₁ q₂ q₃ : Share) (x₀ x₁ : RefT (List ℕ)) (t : Bool) (x₂ : RefT (List ℕ)) (x₃ : RefT (List Entry)) (c : Terms) (vc : Val)
     (g₀ : Room u8 (length (x₀ .now))) (g₁ : Room u32 (length (x₁ .now))) (g₂ : Room u8 (length (x₂ .now))) (g₃ : Room E.the-row (length
     (x₃ .now)))
-    (gc : Is Counts.the-row c (counts .val c ∷ [])) (pre : t ≡ fitPool (x₂ .now) (numbersOf (x₃ .now)) c) where
+    (gc : Is Terms.the-row c (vc ∷ [])) (pre : t ≡ fitPool (x₂ .now) (numbersOf (x₃ .now)) (c .counts)) where
   abbrev bs : List ℕ
   bs = x₂ .now
 
@@ -119,13 +136,13 @@ module _ {M : Type 1} (𝓤 : URA M) (H : Heap 𝓤) (A : Atoms 𝓤) (W : Given
   qs = (q₀, (q₁, (q₂, (q₃, tt))))
 
   abbrev Arg : Type 0
-  Arg = RefT (List ℕ) × (RefT (List ℕ) × (Bool × (RefT (List ℕ) × (RefT (List Entry) × (Counts × Unit {0})))))
+  Arg = RefT (List ℕ) × (RefT (List ℕ) × (Bool × (RefT (List ℕ) × (RefT (List Entry) × (Terms × Unit {0})))))
 
   abbrev x : Arg
   x = (x₀, (x₁, (t, (x₂, (x₃, (c, tt))))))
 
   abbrev at : Vals parse-with.signature κs
-  at = (v₀ ∷ [], (v₁ ∷ [], (vbool t ∷ [], (v₂ ∷ [], (v₃ ∷ [], (counts .val c ∷ [], tt))))))
+  at = (v₀ ∷ [], (v₁ ∷ [], (vbool t ∷ [], (v₂ ∷ [], (v₃ ∷ [], (vc ∷ [], tt))))))
 
   abbrev Post : Val → SProp 𝓤
   Post = walkOf 𝓤 H A parse-with.ended stayed (parse-with.clauses 𝓤 H A at-mem run) .post ((κs, qs, tt, x, at), tt)
@@ -153,32 +170,32 @@ module _ {M : Type 1} (𝓤 : URA M) (H : Heap 𝓤) (A : Atoms 𝓤) (W : Given
 
   exits : (r : After) (w : Val) (zs : List ℕ) (ds : List Entry) → length zs ≡ length bs → length ds ≡ length es
       → Is After.the-row r (w ∷ [])
-      → Parses (x₀ .now) (x₁ .now) bs (numbersOf es) c zs (numbersOf ds) r
+      → Parses (x₀ .now) (x₁ .now) (c .edition) bs (numbersOf es) (c .counts) zs (numbersOf ds) r
       → ent 𝓤 (⋆ 𝓤 H A (Left zs ds)) (Post w)
   exits r w zs ds k₁ k₂ is e =
       qed W (Left zs ds) ∵
       suffices ! _ (ends-at 𝓤 H A parse-with.ended stayed (parse-with.clauses 𝓤 H A at-mem run) W ((κs, qs, tt, x, at), tt) w r
       (tt, (tt, (tt, (zs, (ds, (tt, tt)))))) (tt, (tt, (tt, (k₁, (k₂, (tt, tt))))))) $ says ! e $
-      frame ! $ nothing ! $ owned ! Counts.the-row (Is Counts.the-row) (counts .makes 𝓤 H A) c _ gc $ fjoin ! $ move ! (2 ∷ 0 ∷ []) $
+      frame ! $ nothing ! $ owned ! Terms.the-row (Is Terms.the-row) (terms .makes 𝓤 H A) c _ gc $ fjoin ! $ move ! (2 ∷ 0 ∷ []) $
       fjoin ! $ move ! (1 ∷ 0 ∷ []) $ fjoin ! $ owned ! bool (Is bool) (bool-makes 𝓤 H A W) t _ refl $
       fjoin ! $ move ! (2 ∷ 0 ∷ []) $ fjoin ! $ move ! (1 ∷ 0 ∷ []) $ fjoin ! $ frame ! $
       owned ! After.the-row (Is After.the-row) (after .makes 𝓤 H A) r _ is $ done !
 
   -- ---- what each callee's triple binds outside
-  abbrev read-args : RefT (List ℕ) × (RefT (List ℕ) × (Bool × Unit {0}))
-  read-args = (x₀, (x₁, (t, tt)))
+  abbrev read-args : RefT (List ℕ) × (RefT (List ℕ) × (Terms × (Bool × Unit {0})))
+  read-args = (x₀, (x₁, (c, (t, tt))))
 
   abbrev read-at : Vals read-of.signature (κ₀, (κ₁, tt))
-  read-at = (v₀ ∷ [], (v₁ ∷ [], (vbool t ∷ [], tt)))
+  read-at = (v₀ ∷ [], (v₁ ∷ [], (vc ∷ [], (vbool t ∷ [], tt))))
 
   abbrev to-read : ReadOf 𝓤 H A at-mem run .Ghost
   to-read = (((κ₀, (κ₁, tt)), (q₀, (q₁, tt)), tt, read-args, read-at), tt)
 
-  abbrev plan-args : FormatInput → FormatInput × (Counts × Unit {0})
+  abbrev plan-args : FormatInput → FormatInput × (Terms × Unit {0})
   plan-args q = (q, (c, tt))
 
   abbrev plan-at : Val → Vals plan-of.signature tt
-  plan-at w = (w ∷ [], (counts .val c ∷ [], tt))
+  plan-at w = (w ∷ [], (vc ∷ [], tt))
 
   abbrev to-plan : FormatInput → Val → PlanOf 𝓤 H A at-mem run .Ghost
   to-plan q w = ((tt, tt, tt, plan-args q, plan-at w), tt)
@@ -210,7 +227,9 @@ module _ {M : Type 1} (𝓤 : URA M) (H : Heap 𝓤) (A : Atoms 𝓤) (W : Given
       qed W Reads-from ∵
       move ! (2 ∷ []) $ use1 W (‵ Own₀ ⊛ ‵ Own₀) (shr-slice-copy 𝓤 H A W (named 0) κ₀ u8 .twice x₀ (v₀ ∷ [])) $ split ! $ move ! (4 ∷ []) $
       use1 W (‵ Own₁ ⊛ ‵ Own₁) (shr-slice-copy 𝓤 H A W (named 1) κ₁ u32 .twice x₁ (v₁ ∷ [])) $ split ! $ nothing ! $
-      owned ! bool (Is bool) (bool-makes 𝓤 H A W) t _ refl $ fjoin ! $ move ! (1 ∷ 0 ∷ []) $ fjoin ! $ move ! (2 ∷ 0 ∷ []) $ fjoin ! $
+      owned ! bool (Is bool) (bool-makes 𝓤 H A W) t _ refl $ fjoin ! $
+      owned ! Terms.the-row (Is Terms.the-row) (terms .makes 𝓤 H A) c _ gc $ fjoin ! $ move ! (1 ∷ 0 ∷ []) $ fjoin ! $
+      move ! (2 ∷ 0 ∷ []) $ fjoin ! $
       nothing ! $ move ! (5 ∷ 0 ∷ []) $ join ! $ move ! (4 ∷ 0 ∷ []) $ join ! $
       use2 W (raw (ReadOf 𝓤 H A at-mem run .pre to-read)) (no-ask 𝓤 H A W (onEntry 𝓤 H A read-of.signature (κ₀, (κ₁, tt))
       (q₀, (q₁, tt)) read-args read-at)) $
@@ -219,7 +238,7 @@ module _ {M : Type 1} (𝓤 : URA M) (H : Heap 𝓤) (A : Atoms 𝓤) (W : Given
   asked-plan : (q : FormatInput) (w : Val) → Is FormatInput.the-row q (w ∷ []) → ent 𝓤 (emp 𝓤) (PlanOf 𝓤 H A at-mem run .pre (to-plan q w))
   asked-plan q w is =
       qed W [] ∵
-      nothing ! $ owned ! Counts.the-row (Is Counts.the-row) (counts .makes 𝓤 H A) c _ gc $ fjoin ! $
+      nothing ! $ owned ! Terms.the-row (Is Terms.the-row) (terms .makes 𝓤 H A) c _ gc $ fjoin ! $
       owned ! FormatInput.the-row (Is FormatInput.the-row) (input .makes 𝓤 H A) q _ is $ fjoin ! $ nothing ! $
       use2 W (raw (PlanOf 𝓤 H A at-mem run .pre (to-plan q w))) (no-ask 𝓤 H A W (onEntry 𝓤 H A plan-of.signature tt tt (plan-args q)
       (plan-at w))) $
@@ -254,30 +273,92 @@ module _ {M : Type 1} (𝓤 : URA M) (H : Heap 𝓤) (A : Atoms 𝓤) (W : Given
       (ReadOf 𝓤 H A at-mem run))
       (known-plan : Triple 𝓤 (C #parse·plan-of) (PlanOf 𝓤 H A at-mem run)) (known-add : Triple 𝓤 (C #parse-lent·add-both)
       (AddBoth 𝓤 H A at-mem run)) (known-end : Triple 𝓤 (C #parse·end-by) (EndBy 𝓤 H A at-mem run)) where
+    -- once there is a plan, both rows are given to the additions for good, and the answer is made. Of the locals that are only passed on, any type will do
+    module _ (τ₁ τ₂ τ₃ τ₆ τ₇ τ₈ : Ty) (l₀ l₁ l₂ l₃ l₄ l₅ l₆ l₇ l₈ l₉ l₁₀ l₁₁ l₁₂ l₁₃ : ℕ) (q : FormatInput) (p : Plan) (w₂ w₃ : Val)
+        (is₂ : Is FormatInput.the-row q (w₂ ∷ [])) (is₃ : Is Plan.the-row p (w₃ ∷ []))
+        (e₂ : q ≡ inputOf (x₀ .now) (x₁ .now) (c .edition) t) (e₃ : p ≡ planOf q (c .counts)) where
+      abbrev En : Env 𝓤 H
+      En = (After′.mir, l₀) ∷ (τ₁, l₁) ∷ (τ₂, l₂) ∷ (τ₃, l₃) ∷ (s₂, l₄) ∷ (s₃, l₅) ∷ (τ₆, l₆) ∷ (τ₇, l₇) ∷ (τ₈, l₈) ∷ (Adding′.mir, l₉) ∷ (r₂, l₁₀)
+          ∷ (sliceTy r₂, l₁₁) ∷ (r₃, l₁₂) ∷ (sliceTy r₃, l₁₃) ∷ []
+
+      adds : Sq W (‵ (flft κ₁ q₁) ∷ ‵ (flft κ₀ q₀) ∷ ‵ Own₀ ∷ ‵ Own₁ ∷ ‵ (flft κ₃ q₃) ∷ ‵ (flft κ₂ q₂) ∷ ‵ Own₃ ∷ ‵ Own₂
+          ∷ ‵ (froom (sliceTy r₃) l₁₃ 0) ∷ ‵ (fdies (sliceTy r₃) l₁₃) ∷ ‵ (froom r₃ l₁₂ 0) ∷ ‵ (fdies r₃ l₁₂)
+          ∷ ‵ (froom (sliceTy r₂) l₁₁ 0) ∷ ‵ (fdies (sliceTy r₂) l₁₁) ∷ ‵ (froom r₂ l₁₀ 0) ∷ ‵ (fdies r₂ l₁₀)
+          ∷ ‵ (froom Adding′.mir l₉ 0) ∷ ‵ (fdies Adding′.mir l₉) ∷ ‵ (fat fullShare τ₈ l₈ 0 w₃) ∷ ‵ (fdies τ₈ l₈)
+          ∷ ‵ (fat fullShare τ₇ l₇ 0 w₂) ∷ ‵ (fdies τ₇ l₇) ∷ ‵ (fat fullShare τ₆ l₆ 0 vc) ∷ ‵ (fdies τ₆ l₆)
+          ∷ ‵ (fat fullShare s₃ l₅ 0 v₃) ∷ ‵ (fdies s₃ l₅) ∷ ‵ (fat fullShare s₂ l₄ 0 v₂) ∷ ‵ (fdies s₂ l₄)
+          ∷ ‵ (fat fullShare τ₃ l₃ 0 (vbool t)) ∷ ‵ (fdies τ₃ l₃) ∷ ‵ (fat fullShare τ₂ l₂ 0 v₁) ∷ ‵ (fdies τ₂ l₂)
+          ∷ ‵ (fat fullShare τ₁ l₁ 0 v₀) ∷ ‵ (fdies τ₁ l₁) ∷ ‵ (froom After′.mir l₀ 0) ∷ ‵ (fdies After′.mir l₀) ∷ [])
+          (runs C Λ En part.t-3 (atRet En Post))
+      adds =
+          sets ! (addr ! (from ! (fld ! refl (hop ! (look-in ! 26 (sub ! 0 refl (whole !))) (stop !))))) 14 refl (tt, tt) $
+          sets ! (agg ! (and-then ! (local ! 14 refl) (and-then ! (member ! 26 refl (sub ! 1 refl (whole !))) (no-more !)))) 12 refl (tt, (tt, (record { fits = g₂ .0 }, tt))) $
+          sets ! (addr ! (from ! (fld ! refl (hop ! (look-in ! 24 (sub ! 0 refl (whole !))) (stop !))))) 10 refl (tt, tt) $
+          sets ! (agg ! (and-then ! (local ! 10 refl) (and-then ! (member ! 24 refl (sub ! 1 refl (whole !))) (no-more !)))) 8 refl (tt, (tt, (record { fits = g₃ .0 }, tt))) $
+          move ! (1 ∷ 5 ∷ 4 ∷ 2 ∷ 7 ∷ 6 ∷ []) $
+          cut Adds-from (raw (AddBoth 𝓤 H A at-mem run .pre (to-add p w₃)) ∷ ‵ Own₀ ∷ []) _
+          (asked-add p w₃ is₃ (can-plan (x₀ .now) (x₁ .now) (c .edition) bs (numbersOf es) (c .counts) pre e₂ e₃)) $
+          calls-at ! fm (AddBoth 𝓤 H A at-mem run) known-add (to-add p w₃) (and-then ! (local ! 28 refl) (and-then ! (local ! 14 refl) (and-then ! (local ! 8 refl) (and-then ! (local ! 4 refl) (no-more !))))) (λ w₄.
+          use1 W (later (some (λ (two : Adding). ((‵ (flft κ₀ q₀) ⊛ ‵ (flft κ₂ q₂) ⊛ ‵ (flft κ₃ q₃) ⊛ ‵ ftrue) ⊛ ‵ (Adding.the-row .own two
+          (w₄ ∷ []))) ⊛ raw (ensured 𝓤 H A add-both.ended (add-both.clauses 𝓤 H A at-mem run) (κ₀, (κ₂, (κ₃, tt))) (add-args p) tt two))))
+          (id⊢ 𝓤 _) $ await ! tt $
+          pick ! (λ two. split ! $ move ! (1 ∷ []) $
+          use1 W (some (λ (zs : Unit {0} × (Unit {0} × (List ℕ × (List Entry × Unit {0})))). ‵ (lasts add-both.ended (κ₀, (κ₂, (κ₃, tt)))
+          (add-args p) zs) ⊛ raw (fact 𝓤 (pooled (zs .1 .1 .0) (numbersOf (zs .1 .1 .1 .0)) two ≡ addPlan (x₀ .now) p bs (numbersOf es)))))
+          (id⊢ 𝓤 _) $ pick ! (λ zs.
+          split ! $ move ! (1 ∷ []) $
+          heard ! (pooled (zs .1 .1 .0) (numbersOf (zs .1 .1 .1 .0)) two ≡ addPlan (x₀ .now) p bs (numbersOf es))
+          (λ e₄. fsplit ! $
+          drop ! $ fsplit ! $ drop ! $ fsplit ! $ fsplit ! $ move ! (1 ∷ []) $ feqL ! (λ k₁. move ! (1 ∷ []) $ fsplit ! $ fsplit ! $
+          move ! (1 ∷ []) $ feqL ! (λ k₂. move ! (1 ∷ []) $ drop ! $ move ! (2 ∷ []) $ split ! $ move ! (1 ∷ []) $
+          peeks ! Adding.the-row (Is Adding.the-row) (shows 𝓤 H A Adding.the-row) two (w₄ ∷ []) (λ is₄.
+          land ! (from ! (stop !)) (init ! 15 refl (adding .lawful 𝓤 H A W .typed two _ is₄ .0)) $ drop ! $ split ! $ move ! (1 ∷ []) $
+          split ! $ move ! (1 ∷ []) $ split ! $ move ! (1 ∷ []) $ drop ! $
+          -- the answer
+          use0 W (raw (EndBy 𝓤 H A at-mem run .pre (to-end q two w₂ w₄))) (asked-end q two w₂ w₄ is₂ is₄) $
+          calls-at ! fm (EndBy 𝓤 H A at-mem run) known-end (to-end q two w₂ w₄) (and-then ! (local ! 21 refl) (and-then ! (local ! 17 refl) (no-more !))) (λ w₅.
+          use1 W (later (some (λ (r : After). (‵ ftrue ⊛ ‵ (After.the-row .own r (w₅ ∷ []))) ⊛ raw (ensured 𝓤 H A end-by.ended
+          (end-by.clauses 𝓤 H A at-mem run) tt (end-args q two) tt r)))) (id⊢ 𝓤 _) $ await ! tt $
+          pick ! (λ r. split ! $ move ! (1 ∷ []) $
+          use1 W (raw (fact 𝓤 (r ≡ endBy q two))) (exE 𝓤 _ (λ ks. snd∗ 𝓤 (sem 𝓤 H A (lasts end-by.ended tt
+          (end-args q two) ks)) (fact 𝓤 (r ≡ endBy q two)))) $
+          heard ! (r ≡ endBy q two) (λ e₅. split ! $ move ! (1 ∷ []) $
+          peeks ! After.the-row (Is After.the-row) (shows 𝓤 H A After.the-row) r (w₅ ∷ []) (λ is₅.
+          land ! (from ! (stop !)) (init ! 36 refl (after .lawful 𝓤 H A W .typed r _ is₅ .0)) $ drop ! $ drop ! $ returns ! (look ! 34 refl) $
+          forget ! 8 refl $ forget ! 10 refl $ forget ! 12 refl $ forget ! 14 refl $ forget ! 16 refl $ forget ! 18 refl $ forget ! 20 refl $ forget ! 22 refl $ forget ! 24 refl $ forget ! 26 refl $ forget ! 28 refl $ forget ! 30 refl $ forget ! 32 refl $ forget ! 34 refl $
+          move ! (34 ∷ 35 ∷ []) $ free1 ! $ move ! (32 ∷ 33 ∷ []) $ free1 ! $ move ! (30 ∷ 31 ∷ []) $ free1 ! $ move ! (28 ∷ 29 ∷ []) $
+          free1 ! $ move ! (26 ∷ 27 ∷ []) $ free1 ! $ move ! (24 ∷ 25 ∷ []) $ free1 ! $ move ! (22 ∷ 23 ∷ []) $ free1 ! $
+          move ! (20 ∷ 21 ∷ []) $ free1 ! $ move ! (18 ∷ 19 ∷ []) $ free1 ! $ move ! (16 ∷ 17 ∷ []) $ free1 ! $ move ! (14 ∷ 15 ∷ []) $
+          free1 ! $ move ! (12 ∷ 13 ∷ []) $ free1 ! $ move ! (10 ∷ 11 ∷ []) $ free1 ! $ move ! (8 ∷ 9 ∷ []) $ free1 ! $ free0 ! $ nothing ! $
+          move ! (1 ∷ 0 ∷ []) $ join ! $ move ! (1 ∷ 0 ∷ []) $ join ! $ move ! (5 ∷ 0 ∷ []) $ join ! $ move ! (1 ∷ 0 ∷ []) $ join ! $
+          keep ! (0 ∷ 2 ∷ 1 ∷ 3 ∷ 4 ∷ []) $
+          by ! (exits r w₅ (zs .1 .1 .0) (zs .1 .1 .1 .0) k₁ k₂ is₅ (parses-planned (x₀ .now)
+          (x₁ .now) (c .edition) bs (numbersOf es) (c .counts) pre e₂ e₃ e₄ e₅)))))))))))))
+
     walk : ent 𝓤 (onEntry 𝓤 H A parse-with.signature κs qs x at) (WpFn 𝓤 H C Λ code.function
-        (v₀ ∷ v₁ ∷ vbool t ∷ v₂ ∷ v₃ ∷ counts .val c ∷ []) Post)
+        (v₀ ∷ v₁ ∷ vbool t ∷ v₂ ∷ v₃ ∷ vc ∷ []) Post)
     walk =
         qed W (Toks ∷ ‵ (owns (ShrSlice (named 0) κ₀ u8 ∷ ShrSlice (named 1) κ₁ u32 ∷ bool ∷ MutSlice (named 2) κ₂ u8 ∷ MutSlice
-        (named 3) κ₃ E.the-row ∷ Counts.the-row ∷ []) x at) ∷ []) ∵ enter ! C Λ code.function
-        (v₀ ∷ v₁ ∷ vbool t ∷ v₂ ∷ v₃ ∷ counts .val c ∷ []) _ $
+        (named 3) κ₃ E.the-row ∷ Terms.the-row ∷ []) x at) ∷ []) ∵ enter ! C Λ code.function
+        (v₀ ∷ v₁ ∷ vbool t ∷ v₂ ∷ v₃ ∷ vc ∷ []) _ $
         alloc1 ! (λ l₀. alloc1 ! (λ l₁. alloc1 ! (λ l₂. alloc1 ! (λ l₃. alloc1 ! (λ l₄. alloc1 ! (λ l₅. alloc1 ! (λ l₆. alloc1 ! (λ l₇. alloc1 ! (λ l₈. alloc1 ! (λ l₉. alloc1 ! (λ l₁₀. alloc1 ! (λ l₁₁. alloc1 ! (λ l₁₂. alloc1 ! (λ l₁₃. alloc0 ! $ params1 ! $
         pass1 ! (init ! 24 refl (tt, (tt, (record { fits = g₀ .0 }, tt)))) $
         pass1 ! (init ! 22 refl (tt, (tt, (record { fits = g₁ .0 }, tt)))) $ pass1 ! (init ! 20 refl (tt, tt)) $
         pass1 ! (init ! 18 refl (tt, (tt, (record { fits = g₂ .0 }, tt)))) $
         pass1 ! (init ! 16 refl (tt, (tt, (record { fits = g₃ .0 }, tt)))) $
-        pass1 ! (init ! 14 refl (counts .lawful 𝓤 H A W .typed c _ gc .0)) $ pass0 ! $ move ! (29 ∷ []) $ fsplit ! $ move ! (1 ∷ []) $
+        pass1 ! (init ! 14 refl (terms .lawful 𝓤 H A W .typed c _ gc .0)) $ pass0 ! $ move ! (29 ∷ []) $ fsplit ! $ move ! (1 ∷ []) $
         fsplit ! $ move ! (1 ∷ []) $ fsplit ! $ drop ! $ fsplit ! $ move ! (1 ∷ []) $ fsplit ! $ move ! (1 ∷ []) $ fsplit ! $ drop ! $
         drop ! $ move ! (32 ∷ []) $ split ! $ move ! (1 ∷ []) $ split ! $ move ! (1 ∷ []) $ split ! $ move ! (1 ∷ []) $ split ! $
         move ! (1 ∷ []) $ drop ! $
         -- the reading, and its plan
         move ! (3 ∷ 2 ∷ 7 ∷ 6 ∷ []) $ cut Reads-from (raw (ReadOf 𝓤 H A at-mem run .pre to-read) ∷ ‵ Own₀ ∷ ‵ Own₁ ∷ []) _ asked-read $
-        calls-at ! fm (ReadOf 𝓤 H A at-mem run) known-read to-read (and-then ! (local ! 31 refl) (and-then ! (local ! 29 refl) (and-then ! (local ! 27 refl) (no-more !)))) (λ w₂.
+        calls-at ! fm (ReadOf 𝓤 H A at-mem run) known-read to-read (and-then ! (local ! 31 refl) (and-then ! (local ! 29 refl) (and-then ! (local ! 21 refl) (and-then ! (local ! 27 refl) (no-more !))))) (λ w₂.
         use1 W (later (some (λ (q : FormatInput). ((‵ (flft κ₀ q₀) ⊛ ‵ (flft κ₁ q₁) ⊛ ‵ ftrue) ⊛ ‵ (FormatInput.the-row .own q (w₂ ∷ []))) ⊛ raw
         (ensured 𝓤 H A read-of.ended (read-of.clauses 𝓤 H A at-mem run) (κ₀, (κ₁, tt)) read-args tt q)))) (id⊢ 𝓤 _) $ await ! tt $
         pick ! (λ q. split ! $ move ! (1 ∷ []) $
-        use1 W (raw (fact 𝓤 (q ≡ inputOf (x₀ .now) (x₁ .now) t))) (exE 𝓤 _ (λ ks. snd∗ 𝓤 (sem 𝓤 H A (lasts read-of.ended
-        (κ₀, (κ₁, tt)) read-args ks)) (fact 𝓤 (q ≡ inputOf (x₀ .now) (x₁ .now) t)))) $
-        heard ! (q ≡ inputOf (x₀ .now) (x₁ .now) t) (λ e₂. split ! $ move ! (1 ∷ []) $
+        use1 W (raw (fact 𝓤 (q ≡ inputOf (x₀ .now) (x₁ .now) (c .edition) t))) (exE 𝓤 _ (λ ks. snd∗ 𝓤 (sem 𝓤 H A (lasts read-of.ended
+        (κ₀, (κ₁, tt)) read-args ks)) (fact 𝓤 (q ≡ inputOf (x₀ .now) (x₁ .now) (c .edition) t)))) $
+        heard ! (q ≡ inputOf (x₀ .now) (x₁ .now) (c .edition) t) (λ e₂. split ! $ move ! (1 ∷ []) $
         peeks ! FormatInput.the-row (Is FormatInput.the-row) (shows 𝓤 H A FormatInput.the-row) q (w₂ ∷ []) (λ is₂.
         land ! (from ! (stop !)) (init ! 20 refl (input .lawful 𝓤 H A W .typed q _ is₂ .0)) $ drop ! $ split ! $ move ! (1 ∷ []) $ split ! $
         move ! (1 ∷ []) $ drop ! $ use0 W (raw (PlanOf 𝓤 H A at-mem run .pre (to-plan q w₂))) (asked-plan q w₂ is₂) $
@@ -285,55 +366,12 @@ module _ {M : Type 1} (𝓤 : URA M) (H : Heap 𝓤) (A : Atoms 𝓤) (W : Given
         use1 W (later (some (λ (p : Plan). (‵ ftrue ⊛ ‵ (Plan.the-row .own p (w₃ ∷ []))) ⊛ raw (ensured 𝓤 H A plan-of.ended
         (plan-of.clauses 𝓤 H A at-mem run) tt (plan-args q) tt p)))) (id⊢ 𝓤 _) $ await ! tt $
         pick ! (λ p. split ! $ move ! (1 ∷ []) $
-        use1 W (raw (fact 𝓤 (p ≡ planOf q c))) (exE 𝓤 _ (λ ks. snd∗ 𝓤 (sem 𝓤 H A (lasts plan-of.ended tt
-        (plan-args q) ks)) (fact 𝓤 (p ≡ planOf q c)))) $
-        heard ! (p ≡ planOf q c) (λ e₃. split ! $ move ! (1 ∷ []) $
+        use1 W (raw (fact 𝓤 (p ≡ planOf q (c .counts)))) (exE 𝓤 _ (λ ks. snd∗ 𝓤 (sem 𝓤 H A (lasts plan-of.ended tt
+        (plan-args q) ks)) (fact 𝓤 (p ≡ planOf q (c .counts))))) $
+        heard ! (p ≡ planOf q (c .counts)) (λ e₃. split ! $ move ! (1 ∷ []) $
         peeks ! Plan.the-row (Is Plan.the-row) (shows 𝓤 H A Plan.the-row) p (w₃ ∷ []) (λ is₃.
         land ! (from ! (stop !)) (init ! 20 refl (plan .lawful 𝓤 H A W .typed p _ is₃ .0)) $ drop ! $ drop ! $
-        -- both rows are given to the additions for good
-        sets ! (addr ! (from ! (fld ! refl (hop ! (look-in ! 26 (sub ! 0 refl (whole !))) (stop !))))) 14 refl (tt, tt) $
-        sets ! (agg ! (and-then ! (local ! 14 refl) (and-then ! (member ! 26 refl (sub ! 1 refl (whole !))) (no-more !)))) 12 refl (tt, (tt, (record { fits = g₂ .0 }, tt))) $
-        sets ! (addr ! (from ! (fld ! refl (hop ! (look-in ! 24 (sub ! 0 refl (whole !))) (stop !))))) 10 refl (tt, tt) $
-        sets ! (agg ! (and-then ! (local ! 10 refl) (and-then ! (member ! 24 refl (sub ! 1 refl (whole !))) (no-more !)))) 8 refl (tt, (tt, (record { fits = g₃ .0 }, tt))) $
-        move ! (1 ∷ 5 ∷ 4 ∷ 2 ∷ 7 ∷ 6 ∷ []) $
-        cut Adds-from (raw (AddBoth 𝓤 H A at-mem run .pre (to-add p w₃)) ∷ ‵ Own₀ ∷ []) _
-        (asked-add p w₃ is₃ (can-plan (x₀ .now) (x₁ .now) bs (numbersOf es) c pre e₂ e₃)) $
-        calls-at ! fm (AddBoth 𝓤 H A at-mem run) known-add (to-add p w₃) (and-then ! (local ! 28 refl) (and-then ! (local ! 14 refl) (and-then ! (local ! 8 refl) (and-then ! (local ! 4 refl) (no-more !))))) (λ w₄.
-        use1 W (later (some (λ (two : Adding). ((‵ (flft κ₀ q₀) ⊛ ‵ (flft κ₂ q₂) ⊛ ‵ (flft κ₃ q₃) ⊛ ‵ ftrue) ⊛ ‵ (Adding.the-row .own two
-        (w₄ ∷ []))) ⊛ raw (ensured 𝓤 H A add-both.ended (add-both.clauses 𝓤 H A at-mem run) (κ₀, (κ₂, (κ₃, tt))) (add-args p) tt two))))
-        (id⊢ 𝓤 _) $ await ! tt $
-        pick ! (λ two. split ! $ move ! (1 ∷ []) $
-        use1 W (some (λ (zs : Unit {0} × (Unit {0} × (List ℕ × (List Entry × Unit {0})))). ‵ (lasts add-both.ended (κ₀, (κ₂, (κ₃, tt)))
-        (add-args p) zs) ⊛ raw (fact 𝓤 (pooled (zs .1 .1 .0) (numbersOf (zs .1 .1 .1 .0)) two ≡ addPlan (x₀ .now) p bs (numbersOf es)))))
-        (id⊢ 𝓤 _) $ pick ! (λ zs.
-        split ! $ move ! (1 ∷ []) $
-        heard ! (pooled (zs .1 .1 .0) (numbersOf (zs .1 .1 .1 .0)) two ≡ addPlan (x₀ .now) p bs (numbersOf es))
-        (λ e₄. fsplit ! $
-        drop ! $ fsplit ! $ drop ! $ fsplit ! $ fsplit ! $ move ! (1 ∷ []) $ feqL ! (λ k₁. move ! (1 ∷ []) $ fsplit ! $ fsplit ! $
-        move ! (1 ∷ []) $ feqL ! (λ k₂. move ! (1 ∷ []) $ drop ! $ move ! (2 ∷ []) $ split ! $ move ! (1 ∷ []) $
-        peeks ! Adding.the-row (Is Adding.the-row) (shows 𝓤 H A Adding.the-row) two (w₄ ∷ []) (λ is₄.
-        land ! (from ! (stop !)) (init ! 15 refl (adding .lawful 𝓤 H A W .typed two _ is₄ .0)) $ drop ! $ split ! $ move ! (1 ∷ []) $
-        split ! $ move ! (1 ∷ []) $ split ! $ move ! (1 ∷ []) $ drop ! $
-        -- the answer
-        use0 W (raw (EndBy 𝓤 H A at-mem run .pre (to-end q two w₂ w₄))) (asked-end q two w₂ w₄ is₂ is₄) $
-        calls-at ! fm (EndBy 𝓤 H A at-mem run) known-end (to-end q two w₂ w₄) (and-then ! (local ! 21 refl) (and-then ! (local ! 17 refl) (no-more !))) (λ w₅.
-        use1 W (later (some (λ (r : After). (‵ ftrue ⊛ ‵ (After.the-row .own r (w₅ ∷ []))) ⊛ raw (ensured 𝓤 H A end-by.ended
-        (end-by.clauses 𝓤 H A at-mem run) tt (end-args q two) tt r)))) (id⊢ 𝓤 _) $ await ! tt $
-        pick ! (λ r. split ! $ move ! (1 ∷ []) $
-        use1 W (raw (fact 𝓤 (r ≡ endBy q two))) (exE 𝓤 _ (λ ks. snd∗ 𝓤 (sem 𝓤 H A (lasts end-by.ended tt
-        (end-args q two) ks)) (fact 𝓤 (r ≡ endBy q two)))) $
-        heard ! (r ≡ endBy q two) (λ e₅. split ! $ move ! (1 ∷ []) $
-        peeks ! After.the-row (Is After.the-row) (shows 𝓤 H A After.the-row) r (w₅ ∷ []) (λ is₅.
-        land ! (from ! (stop !)) (init ! 36 refl (after .lawful 𝓤 H A W .typed r _ is₅ .0)) $ drop ! $ drop ! $ returns ! (look ! 34 refl) $
-        forget ! 8 refl $ forget ! 10 refl $ forget ! 12 refl $ forget ! 14 refl $ forget ! 16 refl $ forget ! 18 refl $ forget ! 20 refl $ forget ! 22 refl $ forget ! 24 refl $ forget ! 26 refl $ forget ! 28 refl $ forget ! 30 refl $ forget ! 32 refl $ forget ! 34 refl $
-        move ! (34 ∷ 35 ∷ []) $ free1 ! $ move ! (32 ∷ 33 ∷ []) $ free1 ! $ move ! (30 ∷ 31 ∷ []) $ free1 ! $ move ! (28 ∷ 29 ∷ []) $
-        free1 ! $ move ! (26 ∷ 27 ∷ []) $ free1 ! $ move ! (24 ∷ 25 ∷ []) $ free1 ! $ move ! (22 ∷ 23 ∷ []) $ free1 ! $
-        move ! (20 ∷ 21 ∷ []) $ free1 ! $ move ! (18 ∷ 19 ∷ []) $ free1 ! $ move ! (16 ∷ 17 ∷ []) $ free1 ! $ move ! (14 ∷ 15 ∷ []) $
-        free1 ! $ move ! (12 ∷ 13 ∷ []) $ free1 ! $ move ! (10 ∷ 11 ∷ []) $ free1 ! $ move ! (8 ∷ 9 ∷ []) $ free1 ! $ free0 ! $ nothing ! $
-        move ! (1 ∷ 0 ∷ []) $ join ! $ move ! (1 ∷ 0 ∷ []) $ join ! $ move ! (5 ∷ 0 ∷ []) $ join ! $ move ! (1 ∷ 0 ∷ []) $ join ! $
-        keep ! (0 ∷ 2 ∷ 1 ∷ 3 ∷ 4 ∷ []) $
-        by ! (exits r w₅ (zs .1 .1 .0) (zs .1 .1 .1 .0) k₁ k₂ is₅ (parses-planned (x₀ .now)
-        (x₁ .now) bs (numbersOf es) c pre e₂ e₃ e₄ e₅)))))))))))))))))))))))))))))))))))
+        adds _ _ _ _ _ _ l₀ l₁ l₂ l₃ l₄ l₅ l₆ l₇ l₈ l₉ l₁₀ l₁₁ l₁₂ l₁₃ q p w₂ w₃ is₂ is₃ e₂ e₃))))))))))))))))))))))
 
 module _ {M : Type 1} (𝓤 : URA M) (H : Heap 𝓤) (A : Atoms 𝓤) (W : Given 𝓤 H A) (mem : Memory → SProp 𝓤) (run : Routine
     → Fun 𝓤) (𝓣 : Tables 𝓤 H)
@@ -342,7 +380,7 @@ module _ {M : Type 1} (𝓤 : URA M) (H : Heap 𝓤) (A : Atoms 𝓤) (W : Given
     (AddBoth 𝓤 H A mem run)) (known-end : Triple 𝓤 (𝓣 .C #parse·end-by) (EndBy 𝓤 H A mem run)) where
   parse-with-walks : Walks 𝓤 H A parse-with.ended stayed (WpFn 𝓤 H (𝓣 .C) (𝓣 .Λ) code.function) (parse-with.clauses 𝓤 H A mem run)
   parse-with-walks = walked 𝓤 H A parse-with.ended stayed (parse-with.clauses 𝓤 H A mem run) (WpFn 𝓤 H (𝓣 .C) (𝓣 .Λ) code.function)
-      (λ κs. (slice-vals, (slice-vals, (bool-vals, (slice-vals, (slice-vals, ((λ y. counts .val y ∷ []), tt)))))))
+      (λ κs. (slice-vals, (slice-vals, (bool-vals, (slice-vals, (slice-vals, ((λ y. terms .val y ∷ []), tt)))))))
       (λ κs. (
         shr-slice-tells (named 0) (κs .0) u8,
         (
@@ -352,14 +390,14 @@ module _ {M : Type 1} (𝓤 : URA M) (H : Heap 𝓤) (A : Atoms 𝓤) (W : Given
             (
               mut-slice-tells (named 2)
                   (κs .1 .1 .0) u8,
-              (mut-slice-tells (named 3) (κs .1 .1 .1 .0) E.the-row, (counts .tells, tt)),
+              (mut-slice-tells (named 3) (κs .1 .1 .1 .0) E.the-row, (terms .tells, tt)),
             ),
           ),
         ),
       ))
       (λ κs qs bounds a g are. needs 𝓤 _ _
       (λ pre. walk 𝓤 H A W mem run (κs .0) (κs .1 .0) (κs .1 .1 .0) (κs .1 .1 .1 .0) (qs .0) (qs .1 .0) (qs .1 .1 .0) (qs .1 .1 .1 .0)
-      (a .0) (a .1 .0) (a .1 .1 .0) (a .1 .1 .1 .0) (a .1 .1 .1 .1 .0) (a .1 .1 .1 .1 .1 .0)
+      (a .0) (a .1 .0) (a .1 .1 .0) (a .1 .1 .1 .0) (a .1 .1 .1 .1 .0) (a .1 .1 .1 .1 .1 .0) (terms .val (a .1 .1 .1 .1 .1 .0))
       (are .0 .0 .1) (are .1 .0 .0 .1) (are .1 .1 .1 .0 .0 .1) (are .1 .1 .1 .1 .0 .0 .1) (are .1 .1 .1 .1 .1 .0) pre (𝓣 .C) (𝓣 .Λ)
       (fmOf 𝓤 H (W .laws) 𝓣) known-read known-plan known-add known-end))
 
@@ -378,7 +416,7 @@ module _ {M : Type 1} (𝓤 : URA M) (H : Heap 𝓤) (A : Atoms 𝓤) (W : Given
               (
                 goes-gave-slice 𝓤 H A W 4 3 tt (plain (λ _. E.the-row)),
                 (
-                  goes-none 𝓤 H A W 4 (λ _. Counts.the-row) yes
+                  goes-none 𝓤 H A W 4 (λ _. Terms.the-row) yes
                       (λ κs x f. refl),
                   tt,
                 ),
