@@ -10,9 +10,7 @@ use native.Mathlib.Nat.{add-zero}
 use mathlib.Core.Path.{_≡_, refl, sym, ap, _∙_}
 use mathlib.Core.Bool.{Bool, true, false}
 use mathlib.Core.List.{List, [], _∷_, _++_}
-use lib.Dec.{ltb}
 use lib.ListN.{length, take, drop, length-append}
-use Rattle.base.specs.PickLaws.{by-test}
 use Rattle.base.specs.Refusal.{formatMost}
 use Rattle.utf8.specs.Encode.{encode, encodeAll, WellFormed}
 use Rattle.utf8.specs.EncodeLaws.{encode-some}
@@ -20,20 +18,25 @@ use Rattle.utf8.specs.Read.{readAt}
 use Rattle.utf8.specs.Chars.{chars, At}
 use Rattle.utf8.specs.CharsLaws.{Stops, at-char, After, after-chars}
 use Rattle.utf8.specs.declared.Read.the-variants.{Char}
+use Rattle.format_options.specs.Options.{isFine}
+use Rattle.format_options.specs.declared.Fill.{Fill}
+use Rattle.format_options.specs.declared.Options.{Options}
+use Rattle.format_options.specs.declared.Outcome.{Outcome}
+use Rattle.format_options.specs.declared.Outcome.the-variants.{Fine}
+use Rattle.format_number.specs.Number.{peeked, consumeU32}
+use Rattle.format_number.specs.PeekLaws.{none-left}
+use Rattle.format_number.specs.NumberLaws as number
+use Rattle.format_number.specs.declared.Consumed.{Consumed}
+use Rattle.format_number.specs.declared.Consumed.the-variants.{Value, Wrong}
+use Rattle.format_arms.specs.Arms.{armOf}
+use Rattle.format_arms.specs.declared.Arm.{Arm}
+use Rattle.format_arms.specs.declared.Arm.the-variants as arm
+use Rattle.format_state.specs.State.{keep, startParsing, goesTo, failsWith}
+use Rattle.format_state.specs.declared.Strings.{Strings}
+use Rattle.format_state.specs.declared.Parsing.{Parsing}
 use Rattle.format.specs.Parse as parse
-use Rattle.format.specs.Parse.{indexMax, peeked, isDigit, digitsFrom, consumeU32, armOf, onConsumed, bodyOf, OnePass, parseFrom, lenUtf8}
-use Rattle.format.specs.Read.{keep, readingOf, readFormat, isFine, startParsing, ended, goesTo, failsWith, turnOf, bodyAt, turnAt, Here}
-use Rattle.format.specs.declared.Fill.{Fill}
-use Rattle.format.specs.declared.Options.{Options}
-use Rattle.format.specs.declared.Outcome.{Outcome}
-use Rattle.format.specs.declared.Outcome.the-variants.{Fine}
-use Rattle.format.specs.declared.Strings.{Strings}
-use Rattle.format.specs.declared.Consumed.{Consumed}
-use Rattle.format.specs.declared.Arm.{Arm}
-use Rattle.format.specs.declared.Arm.the-variants as arm
-use Rattle.format.specs.declared.Parsing.{Parsing}
-use Rattle.format.proofs.Peeks.{none-left}
-use Rattle.format.proofs.Digits.{with}
+use Rattle.format.specs.Parse.{addFill, onConsumed, bodyOf, OnePass, parseFrom, lenUtf8}
+use Rattle.format.specs.Read.{readingOf, readFormat, ended, turnOf, bodyAt, turnAt, Here}
 
 -- ---- an arm that fails
 
@@ -42,27 +45,19 @@ abbrev Errs : parse.Body → Type 0
 Errs (parse.Goes o q k fill) = Unit {0}
 Errs (parse.Fails e) = isFine e ≡ false
 
--- of an arm with digits, f is what it does with the number
+-- of an arm with a number, f is what it does with it
 module _ (f : ℕ → ℕ → parse.Body) (goes : (n k : ℕ) → Errs (f n k)) where
-  abbrev Number : Consumed → Type 0
-  Number r = Errs (onConsumed r f)
-
-  digits-errs : (n k : ℕ) (cs : List ℕ) → Number (digitsFrom n k cs)
-  unfolding digitsFrom
-  digits-errs n k [] = goes n k
-  digits-errs n k (c ∷ cs) =
-      by-test Number (isDigit c) (λ _. by-test Number (ltb indexMax (with n c)) (λ _. refl) (λ _. digits-errs (with n c) (k + 1) cs)) (λ _. goes n k)
-
-  number-errs : (first : ℕ) (cs : List ℕ) → Number (consumeU32 first cs)
-  unfolding consumeU32
-  number-errs first cs = by-test Number (isDigit first) (λ _. digits-errs _ 0 cs) (λ _. refl)
+  consumed-errs : (r : Consumed) → number.Errs r → Errs (onConsumed r f)
+  consumed-errs (Value n k) e = goes n k
+  consumed-errs (Wrong o) e = e
 
 body-errs : (look : ℕ → ℕ) (edition : ℕ) (at : ℕ) (o : Options) (c : ℕ) (cs : List ℕ) (a : Arm) → Errs (bodyOf look edition at o c cs a)
 body-errs look edition at o c cs arm.FillSign = tt
 body-errs look edition at o c cs arm.Align = tt
 body-errs look edition at o c cs arm.ZeroFill = tt
-body-errs look edition at o c cs arm.MinWidth = number-errs _ (λ n k. tt) c cs
-body-errs look edition at o c cs arm.Precision = number-errs _ (λ n k. tt) (peeked cs) (drop 1 cs)
+body-errs look edition at o c cs arm.MinWidth = consumed-errs _ (λ n k. tt) (consumeU32 c cs) (number.number-errs c cs)
+body-errs look edition at o c cs arm.Precision =
+    consumed-errs _ (λ n k. tt) (consumeU32 (peeked cs) (drop 1 cs)) (number.number-errs (peeked cs) (drop 1 cs))
 body-errs look edition at o c cs (arm.Represent r) = tt
 body-errs look edition at o c cs arm.FillCluster = tt
 body-errs look edition at o c cs arm.Unexpected = refl
@@ -91,7 +86,7 @@ module _ (look : ℕ → ℕ) (edition : ℕ) where
   module _ (p : Parsing) (c : ℕ) (cs : List ℕ) where
     -- a turn of the definition that goes on, and one that fails
     turns : (o : Options) (q k : ℕ) (fill : Fill) → bodyAt look edition p c cs ≡ parse.Goes o q k fill
-        → from 0 p (c ∷ cs) ≡ from k (goesTo p o q (p .at + lenUtf8 c) fill) cs
+        → from 0 p (c ∷ cs) ≡ from k (goesTo o q (p .at + lenUtf8 c) (addFill keep (p .added) fill)) cs
     unfolding parseFrom
     turns o q k fill e = rw (e, parseFrom)
 
@@ -139,9 +134,10 @@ module _ (look : ℕ → ℕ) (edition : ℕ) where
           pub later : p .at < next .at
 
         onward : (o : Options) (q k : ℕ) (fill : Fill) → bodyAt look edition p c cs ≡ parse.Goes o q k fill
-            → Onward (goesTo p o q (p .at + length (encodeAll (take (suc k) (c ∷ cs)))) fill)
+            → Onward (goesTo o q (p .at + length (encodeAll (take (suc k) (c ∷ cs)))) (addFill keep (p .added) fill))
         unfolding encodeAll
         onward o q k fill e =
+            let added = addFill keep (p .added) fill in
             let e′ = p .at + length (encodeAll (take (suc k) (c ∷ cs))) in
             let a : After s e′ (drop k cs) = rw (here .step) at (after-chars s (p .at) (g .within) (g .well) (suc k)) in
             let w : p .at + lenUtf8 c + length (encodeAll (take k cs)) ≡ e′ = omega (arith, length-append (encode c) (encodeAll (take k cs))) in
@@ -152,9 +148,9 @@ module _ (look : ℕ → ℕ) (edition : ℕ) where
                 within = a .within;
                 well = a .well;
                 answer =
-                    ap (λ (l : List ℕ). readingOf (from 0 (goesTo p o q e′ fill) l)) (a .left)
-                    ∙ ap (λ (i : ℕ). readingOf (from 0 (goesTo p o q i fill) (drop k cs))) (sym w)
-                    ∙ ap readingOf (sym (turns p c cs o q k fill e ∙ skips k (goesTo p o q (p .at + lenUtf8 c) fill) cs))
+                    ap (λ (l : List ℕ). readingOf (from 0 (goesTo o q e′ added) l)) (a .left)
+                    ∙ ap (λ (i : ℕ). readingOf (from 0 (goesTo o q i added) (drop k cs))) (sym w)
+                    ∙ ap readingOf (sym (turns p c cs o q k fill e ∙ skips k (goesTo o q (p .at + lenUtf8 c) added) cs))
                     ∙ whole;
               };
               later = omega (arith, encode-some c, length-append (encode c) (encodeAll (take k cs)));

@@ -1,5 +1,3 @@
-pub mod Peeks
-pub mod Digits
 pub mod Turns
 pub mod Going
 pub mod Vectors

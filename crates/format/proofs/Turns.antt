@@ -15,25 +15,31 @@ use Rattle.utf8.specs.EncodeLaws.{encode1}
 use Rattle.utf8.specs.Chars.{chars, At}
 use Rattle.utf8.specs.CharsLaws.{at-char}
 use Rattle.cluster.specs.First.{goOn, firstEnd}
-use Rattle.format.specs.Options.{withAlignment, withWidth, withPrecision, withRepresentation, withFill}
+use Rattle.format_options.specs.Options.{withAlignment, withWidth, withPrecision, withRepresentation, withFill}
+use Rattle.format_options.specs.Letters.{isDigit, charToAlignment}
+use Rattle.format_options.specs.LettersLaws.{sign-low, digit-is}
+use Rattle.format_options.specs.declared.Part.{Part}
+use Rattle.format_options.specs.declared.Fill.{Fill}
+use Rattle.format_options.specs.declared.Fill.the-variants.{Is, NoFill}
+use Rattle.format_options.specs.declared.Representation.{Representation}
+use Rattle.format_options.specs.declared.Options.{Options}
+use Rattle.format_options.specs.declared.Outcome.{Outcome}
+use Rattle.format_options.specs.declared.Outcome.the-variants.{UnexpectedToken}
+use Rattle.format_number.specs.Number.{peeked, consumeU32}
+use Rattle.format_number.specs.PeekLaws.{ascii-here, peek-within}
+use Rattle.format_number.specs.NumberLaws.{began}
+use Rattle.format_number.specs.declared.Consumed.{Consumed}
+use Rattle.format_number.specs.declared.Consumed.the-variants.{Value, Wrong}
+use Rattle.format_arms.specs.Arms as arms
+use Rattle.format_arms.specs.Arms.{armOf}
+use Rattle.format_arms.specs.ArmsLaws.{ArmIs, arm-is}
+use Rattle.format_arms.specs.declared.Arm.{Arm}
+use Rattle.format_arms.specs.declared.Arm.the-variants as arm
+use Rattle.format_state.specs.State.{keep, goesTo, goesFilled, numberTo, failsWith}
+use Rattle.format_state.specs.declared.Parsing.{Parsing}
 use Rattle.format.specs.Parse as parse
-use Rattle.format.specs.Parse.{peeked, isDigit, consumeU32, charToAlignment, armOf, bodyOf, onConsumed}
-use Rattle.format.specs.ParseLaws.{ArmIs, arm-is}
-use Rattle.format.specs.Read.{goesTo, goesFilled, failsWith, widthTo, precisionTo, clusterTo, turnOf, bodyAt, turnAt, Here}
-use Rattle.format.specs.declared.Part.{Part}
-use Rattle.format.specs.declared.Fill.{Fill}
-use Rattle.format.specs.declared.Fill.the-variants.{Is, NoFill}
-use Rattle.format.specs.declared.Representation.{Representation}
-use Rattle.format.specs.declared.Options.{Options}
-use Rattle.format.specs.declared.Outcome.{Outcome}
-use Rattle.format.specs.declared.Outcome.the-variants.{UnexpectedToken}
-use Rattle.format.specs.declared.Consumed.{Consumed}
-use Rattle.format.specs.declared.Consumed.the-variants.{Value, Wrong}
-use Rattle.format.specs.declared.Arm.{Arm}
-use Rattle.format.specs.declared.Arm.the-variants as arm
-use Rattle.format.specs.declared.Parsing.{Parsing}
-use Rattle.format.proofs.Peeks.{ascii-here, peek-within, sign-low, digit-is}
-use Rattle.format.proofs.Digits.{began}
+use Rattle.format.specs.Parse.{addFill, bodyOf, onConsumed}
+use Rattle.format.specs.Read.{clusterTo, turnOf, bodyAt, turnAt, Here}
 
 -- one character of one byte, and k more of one byte each
 one-more : (k d : ℕ) (ds : List ℕ) → d < 128 → length (encodeAll (take k ds)) ≡ k → length (encodeAll (take (suc k) (d ∷ ds))) ≡ suc k
@@ -66,9 +72,9 @@ module _ (look : ℕ → ℕ) (edition : ℕ) (s : List ℕ) (p : Parsing) (c n 
   bytes k = omega (arith, here .width, length-append (encode c) (encodeAll (take k cs)))
 
   goes : (o : Options) (q k : ℕ) (fill : Fill) (e : ℕ) → body ≡ parse.Goes o q k fill → e ≡ at + n + length (encodeAll (take k cs))
-      → goesTo p o q e fill ≡ turn
+      → goesTo o q e (addFill keep (p .added) fill) ≡ turn
   goes o q k fill e b w =
-      ap {B = Parsing} (λ (i : ℕ). goesTo p o q i fill) (w ∙ sym (bytes k)) ∙ sym (ap (turnOf p (c ∷ cs)) b)
+      ap {B = Parsing} (λ (i : ℕ). goesTo o q i (addFill keep (p .added) fill)) (w ∙ sym (bytes k)) ∙ sym (ap (turnOf p (c ∷ cs)) b)
 
   filled : (o : Options) (q k len end e : ℕ) → body ≡ parse.goesFilled o q k (record { place = at; len = len }) → len ≡ end - at
       → e ≡ at + n + length (encodeAll (take k cs)) → goesFilled p o q end e ≡ turn
@@ -88,7 +94,7 @@ module _ (look : ℕ → ℕ) (edition : ℕ) (s : List ℕ) (p : Parsing) (c n 
   own = omega (arith, here .width)
 
   pub turn-fill-sign : armOf c (peeked cs) (p .position) ≡ arm.FillSign
-      → goesFilled p (withAlignment (charToAlignment (peeked cs)) (p .result)) parse.minWidth (at + n) (at + n + 1) ≡ turn
+      → goesFilled p (withAlignment (charToAlignment (peeked cs)) (p .result)) arms.minWidth (at + n) (at + n + 1) ≡ turn
   unfolding encodeAll
   turn-fill-sign e =
       let d = peeked cs in
@@ -98,37 +104,37 @@ module _ (look : ℕ → ℕ) (edition : ℕ) (s : List ℕ) (p : Parsing) (c n 
       filled (withAlignment (charToAlignment d) (p .result)) _ 1 _ _ _ (by-arm arm.FillSign e) own (omega (arith, w))
 
   pub turn-align : armOf c (peeked cs) (p .position) ≡ arm.Align
-      → goesTo p (withAlignment (charToAlignment c) (p .result)) parse.minWidth (at + n) NoFill ≡ turn
+      → goesTo (withAlignment (charToAlignment c) (p .result)) arms.minWidth (at + n) (p .added) ≡ turn
   unfolding encodeAll
-  turn-align e = goes (withAlignment (charToAlignment c) (p .result)) _ 0 _ _ (by-arm arm.Align e) (omega arith)
+  turn-align e = goes (withAlignment (charToAlignment c) (p .result)) _ 0 NoFill _ (by-arm arm.Align e) (omega arith)
 
-  pub turn-zero-fill : armOf c (peeked cs) (p .position) ≡ arm.ZeroFill → goesFilled p (p .result) parse.minWidth (at + n) (at + n) ≡ turn
+  pub turn-zero-fill : armOf c (peeked cs) (p .position) ≡ arm.ZeroFill → goesFilled p (p .result) arms.minWidth (at + n) (at + n) ≡ turn
   unfolding encodeAll
   turn-zero-fill e = filled (p .result) _ 0 _ _ _ (by-arm arm.ZeroFill e) own (omega arith)
 
   pub turn-represent : (r : Representation) → armOf c (peeked cs) (p .position) ≡ arm.Represent r
-      → goesTo p (withRepresentation r (p .result)) parse.end (at + n) NoFill ≡ turn
+      → goesTo (withRepresentation r (p .result)) arms.end (at + n) (p .added) ≡ turn
   unfolding encodeAll
-  turn-represent r e = goes (withRepresentation r (p .result)) _ 0 _ _ (by-arm (arm.Represent r) e) (omega arith)
+  turn-represent r e = goes (withRepresentation r (p .result)) _ 0 NoFill _ (by-arm (arm.Represent r) e) (omega arith)
 
   pub turn-unexpected : armOf c (peeked cs) (p .position) ≡ arm.Unexpected → failsWith p (UnexpectedToken c) ≡ turn
   turn-unexpected e = fails _ (by-arm arm.Unexpected e)
 
-  pub turn-width : armOf c (peeked cs) (p .position) ≡ arm.MinWidth → widthTo p (at + n) (consumeU32 c cs) ≡ turn
+  pub turn-width : armOf c (peeked cs) (p .position) ≡ arm.MinWidth → numberTo p false (at + n) (consumeU32 c cs) ≡ turn
   turn-width e = go (consumeU32 c cs) refl
     where
       f : ℕ → ℕ → parse.Body
-      f m k = parse.Goes (withWidth m (p .result)) parse.precision k NoFill
+      f m k = parse.Goes (withWidth m (p .result)) arms.precision k NoFill
 
       is : (r : Consumed) → consumeU32 c cs ≡ r → body ≡ onConsumed r f
       is r x = by-arm arm.MinWidth e ∙ ap (λ (y : Consumed). onConsumed y f) x
 
-      go : (r : Consumed) → consumeU32 c cs ≡ r → widthTo p (at + n) r ≡ turn
+      go : (r : Consumed) → consumeU32 c cs ≡ r → numberTo p false (at + n) r ≡ turn
       go (Value m k) x =
           let t = began c cs m k x .rest in
           let w : k ≡ t .more = omega (arith, t .is) in
           let v : at + n + k ≡ at + n + length (encodeAll (take k cs)) = rw w (omega (arith, t .bytes)) in
-          goes (withWidth m (p .result)) _ k _ _ (is (Value m k) x) v
+          goes (withWidth m (p .result)) _ k NoFill _ (is (Value m k) x) v
       go (Wrong o) x = fails o (is (Wrong o) x)
 
   -- what follows the first digit of a precision
@@ -148,7 +154,7 @@ module _ (look : ℕ → ℕ) (edition : ℕ) (s : List ℕ) (p : Parsing) (c n 
       omega (arith, peek-within s (at + n) (subst (ArmIs c d (p .position)) e (arm-is c d (p .position))), h .small)
 
   pub turn-precision : armOf c (peeked cs) (p .position) ≡ arm.Precision
-      → precisionTo p (at + n + 1) (consumeU32 (peeked cs) (chars (drop (at + n + 1) s))) ≡ turn
+      → numberTo p true (at + n + 1) (consumeU32 (peeked cs) (chars (drop (at + n + 1) s))) ≡ turn
   turn-precision e = go (consumeU32 d rest) refl
     where
       d : ℕ
@@ -158,12 +164,12 @@ module _ (look : ℕ → ℕ) (edition : ℕ) (s : List ℕ) (p : Parsing) (c n 
       rest = chars (drop (at + n + 1) s)
 
       f : ℕ → ℕ → parse.Body
-      f m k = parse.Goes (withPrecision m (p .result)) parse.type (suc k) NoFill
+      f m k = parse.Goes (withPrecision m (p .result)) arms.type (suc k) NoFill
 
       is : (r : Consumed) → consumeU32 d rest ≡ r → body ≡ onConsumed r f
       is r x = by-arm arm.Precision e ∙ ap (λ (y : Consumed). onConsumed y f) (same-number ∙ x)
 
-      go : (r : Consumed) → consumeU32 d rest ≡ r → precisionTo p (at + n + 1) r ≡ turn
+      go : (r : Consumed) → consumeU32 d rest ≡ r → numberTo p true (at + n + 1) r ≡ turn
       go (Value m k) x =
           let b = began d rest m k x in
           let low : d < 128 = omega (arith, digit-is d (b .digit)) in
@@ -172,7 +178,7 @@ module _ (look : ℕ → ℕ) (edition : ℕ) (s : List ℕ) (p : Parsing) (c n 
           let y : length (encodeAll (take k rest)) ≡ k = rw w (b .rest .bytes) in
           let z : length (encodeAll (take (suc k) cs)) ≡ suc k =
           ap (λ (l : List ℕ). length (encodeAll (take (suc k) l))) (a .rest) ∙ one-more k d rest low y in
-          goes (withPrecision m (p .result)) _ (suc k) _ _ (is (Value m k) x) (omega (arith, z))
+          goes (withPrecision m (p .result)) _ (suc k) NoFill _ (is (Value m k) x) (omega (arith, z))
       go (Wrong o) x = fails o (is (Wrong o) x)
 
   pub turn-cluster : armOf c (peeked cs) (p .position) ≡ arm.FillCluster
@@ -182,7 +188,7 @@ module _ (look : ℕ → ℕ) (edition : ℕ) (s : List ℕ) (p : Parsing) (c n 
       let end = firstEnd look edition at (c ∷ cs) in
       let fill : Part = record { place = at; len = firstEnd look edition 0 (c ∷ cs) } in
       let one : suc k - 1 ≡ k = omega arith in
-      let b : body ≡ parse.goesFilled (p .result) parse.alignment k fill =
-      by-arm arm.FillCluster e ∙ ap {B = parse.Body} (λ (j : ℕ). parse.goesFilled (p .result) parse.alignment j fill) one in
+      let b : body ≡ parse.goesFilled (p .result) arms.alignment k fill =
+      by-arm arm.FillCluster e ∙ ap {B = parse.Body} (λ (j : ℕ). parse.goesFilled (p .result) arms.alignment j fill) one in
       ap {B = Parsing} (λ (l : List ℕ). clusterTo p (firstEnd look edition at l)) (here .step)
-      ∙ filled (p .result) parse.alignment k _ end end b (omega arith) (bytes k)
+      ∙ filled (p .result) arms.alignment k _ end end b (omega arith) (bytes k)

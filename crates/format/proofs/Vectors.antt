@@ -3,22 +3,27 @@
 use Prim.Native.Nat.{ℕ}
 use mathlib.Core.Path.{_≡_, refl}
 use mathlib.Core.List.{List, [], _∷_}
+use Rattle.base.specs.Range.{inside}
 use Rattle.utf8.specs.Encode.{encode, encodeAll}
 use Rattle.property.specs.Table.{lastFrom, propertiesAt}
 use Rattle.fitness.specs.Small.{smallTable}
 use Rattle.uax29.specs.Uax29.{isControl, gb3, gb6, gb7, gb8, gb9, pairRule, endsPict, endsPictZwj, endsOdd, endsConsonant, endsLinked, gb9c, gb11, gb12}
 use Rattle.cluster.specs.First.{goOn}
-use Rattle.format.specs.Options.{noOptions, withAlignment, withWidth, withRepresentation, withFill}
-use Rattle.format.specs.Parse.{peeked, isSign, isDigit, charToAlignment, digitsFrom, consumeU32, representationOf, letterOf, lastArm, armOf, parseFrom}
-use Rattle.format.specs.Read.{nothingAdded, readFormat}
-use Rattle.format.specs.declared.Alignment.the-variants.{Left, Center}
-use Rattle.format.specs.declared.Representation.the-variants.{ExpLower}
-use Rattle.format.specs.declared.Part.{Part}
-use Rattle.format.specs.declared.Fill.the-variants.{Is, NoFill}
-use Rattle.format.specs.declared.Options.{Options}
-use Rattle.format.specs.declared.Outcome.{Outcome}
-use Rattle.format.specs.declared.Outcome.the-variants.{Fine, ExpectedNumber, TooLarge, UnexpectedToken}
-use Rattle.format.specs.declared.Strings.{Strings}
+use Rattle.format_options.specs.Options.{noOptions, withAlignment, withWidth, withRepresentation, withFill}
+use Rattle.format_options.specs.Letters.{isSign, isDigit, charToAlignment, representationOf}
+use Rattle.format_options.specs.declared.Alignment.the-variants.{Left, Center}
+use Rattle.format_options.specs.declared.Representation.the-variants.{ExpLower}
+use Rattle.format_options.specs.declared.Part.{Part}
+use Rattle.format_options.specs.declared.Fill.the-variants.{Is, NoFill}
+use Rattle.format_options.specs.declared.Options.{Options}
+use Rattle.format_options.specs.declared.Outcome.{Outcome}
+use Rattle.format_options.specs.declared.Outcome.the-variants.{Fine, ExpectedNumber, TooLarge, UnexpectedToken}
+use Rattle.format_number.specs.Number.{peeked, digitsFrom, consumeU32}
+use Rattle.format_arms.specs.Arms.{letterOf, lastArm, armOf}
+use Rattle.format_state.specs.State.{nothingAdded}
+use Rattle.format_state.specs.declared.Strings.{Strings}
+use Rattle.format.specs.Parse.{parseFrom}
+use Rattle.format.specs.Read.{readFormat}
 use Rattle.format.specs.declared.FormatRead.{FormatRead}
 
 abbrev read : List ℕ → FormatRead
@@ -68,5 +73,5 @@ vectors :
     ∷ is (UnexpectedToken 769) (withRepresentation ExpLower noOptions) nothingAdded
     ∷ is Fine (withFill (part 0 3) (withAlignment Left noOptions)) (one (part 0 3))
     ∷ []
-unfolding encode encodeAll lastFrom smallTable isControl gb3 gb6 gb7 gb8 gb9 pairRule endsPict endsPictZwj endsOdd endsConsonant endsLinked gb9c gb11 gb12 goOn peeked isSign isDigit charToAlignment digitsFrom consumeU32 representationOf letterOf lastArm armOf parseFrom readFormat
+unfolding inside encode encodeAll lastFrom smallTable isControl gb3 gb6 gb7 gb8 gb9 pairRule endsPict endsPictZwj endsOdd endsConsonant endsLinked gb9c gb11 gb12 goOn peeked isSign isDigit charToAlignment digitsFrom consumeU32 representationOf letterOf lastArm armOf parseFrom readFormat
 vectors = refl

@@ -1,4 +1,3 @@
-pub mod Options
 pub mod Parse
 pub mod Read
 pub mod ParseLaws

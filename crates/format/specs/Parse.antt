@@ -2,168 +2,32 @@
 -- gives the properties of a code point.
 -- The pool is whatever `add` adds to, one part of the format string after the other: a list of parts, in `parse`; what the code keeps, in
 -- `Read`. An addition cannot fail here: for a pool that can be full, P also says whether it was, and `add` then leaves it as it is.
--- `match (next, chars.peek(), position)` is told in two halves: `armOf` has the patterns, in their order, and `bodyOf` what stands behind
--- each, under its pattern.
+-- `match (next, chars.peek(), position)` is told in two halves: `armOf` of `format_arms` has the patterns, in their order, and `bodyOf` what
+-- stands behind each, under its pattern.
 -- Assumes nothing.
-use Prim.Native.Nat.{ℕ, zero, suc, _+_, _-_, _*_, _≤_}
-use mathlib.Core.Bool.{Bool, false, _&&_, _||_}
+use Prim.Native.Nat.{ℕ, zero, suc, _+_, _-_, _≤_}
 use mathlib.Core.List.{List, [], _∷_, _++_}
-use lib.Dec.{eqb, ltb, leb}
 use lib.ListN.{length, take, drop}
-use Rattle.base.specs.Pick.{pick}
 use Rattle.utf8.specs.Encode.{encode, WellFormed}
 use Rattle.cluster.specs.First.{firstSize, firstEnd}
-use Rattle.format.specs.Options.{noOptions, withAlignment, withWidth, withPrecision, withRepresentation, withFill}
-use Rattle.format.specs.declared.Alignment.{Alignment}
-use Rattle.format.specs.declared.Alignment.the-variants.{Left, Center, Right}
-use Rattle.format.specs.declared.Representation.{Representation}
-use Rattle.format.specs.declared.Representation.the-variants.{Debug, HexLower, HexUpper, Binary, Octal, ExpLower, ExpUpper}
-use Rattle.format.specs.declared.Shown.{Shown}
-use Rattle.format.specs.declared.Shown.the-variants.{As, Plain}
-use Rattle.format.specs.declared.Part.{Part}
-use Rattle.format.specs.declared.Fill.{Fill}
-use Rattle.format.specs.declared.Fill.the-variants.{Is, NoFill}
-use Rattle.format.specs.declared.Options.{Options}
-use Rattle.format.specs.declared.Outcome.{Outcome}
-use Rattle.format.specs.declared.Outcome.the-variants.{Fine, ExpectedNumber, TooLarge, UnexpectedToken}
-use Rattle.format.specs.declared.Consumed.{Consumed}
-use Rattle.format.specs.declared.Consumed.the-variants.{Value, Wrong}
-use Rattle.format.specs.declared.Arm.{Arm}
-use Rattle.format.specs.declared.Arm.the-variants as arm
-
--- ---- `FormatParsePosition`
-
-abbrev pub start : ℕ
-start = 0
-
-abbrev pub alignment : ℕ
-alignment = 1
-
-abbrev pub minWidth : ℕ
-minWidth = 2
-
-abbrev pub precision : ℕ
-precision = 3
-
-abbrev pub type : ℕ
-type = 4
-
-abbrev pub end : ℕ
-end = 5
-
--- ---- characters
-
--- no character: one more than the last code point
-abbrev pub noChar : ℕ
-noChar = 0x110000
-
--- `chars.peek()`
-unfoldable pub peeked : List ℕ → ℕ
-peeked [] = noChar
-peeked (c ∷ cs) = c
+use Rattle.format_options.specs.Options.{noOptions, withAlignment, withWidth, withPrecision, withRepresentation, withFill}
+use Rattle.format_options.specs.Letters.{charToAlignment}
+use Rattle.format_options.specs.declared.Part.{Part}
+use Rattle.format_options.specs.declared.Fill.{Fill}
+use Rattle.format_options.specs.declared.Fill.the-variants.{Is, NoFill}
+use Rattle.format_options.specs.declared.Options.{Options}
+use Rattle.format_options.specs.declared.Outcome.{Outcome}
+use Rattle.format_options.specs.declared.Outcome.the-variants.{Fine, UnexpectedToken}
+use Rattle.format_number.specs.Number.{peeked, consumeU32}
+use Rattle.format_number.specs.declared.Consumed.{Consumed}
+use Rattle.format_number.specs.declared.Consumed.the-variants.{Value, Wrong}
+use Rattle.format_arms.specs.Arms.{start, alignment, minWidth, precision, type, end, armOf}
+use Rattle.format_arms.specs.declared.Arm.{Arm}
+use Rattle.format_arms.specs.declared.Arm.the-variants as arm
 
 -- `c.len_utf8()`
 abbrev pub lenUtf8 : ℕ → ℕ
 lenUtf8 c = length (encode c)
-
--- `'<' | '^' | '>'`
-unfoldable pub isSign : ℕ → Bool
-isSign c = eqb c 60 || (eqb c 94 || eqb c 62)
-
--- `'0'`
-abbrev pub zeroDigit : ℕ
-zeroDigit = 48
-
--- `'0'..='9'`
-unfoldable pub isDigit : ℕ → Bool
-isDigit c = pick (ltb c zeroDigit) false (leb c 57)
-
--- `char_to_alignment`, which only the three signs reach
-unfoldable pub charToAlignment : ℕ → Alignment
-charToAlignment c = pick (eqb c 60) Left (pick (eqb c 94) Center Right)
-
--- ---- `consume_u32`
-
--- `u32::MAX`
-abbrev pub indexMax : ℕ
-indexMax = 4294967295
-
--- its loop: n is the number so far, and k how many digits the loop has taken. The first value over the limit is told
-unfoldable pub digitsFrom : ℕ → ℕ → List ℕ → Consumed
-digitsFrom n k [] = Value n k
-digitsFrom n k (c ∷ cs) =
-    let m = n * 10 + (c - zeroDigit) in
-    pick (isDigit c) (pick (ltb indexMax m) (Wrong (TooLarge m)) (digitsFrom m (k + 1) cs)) (Value n k)
-
--- the number that begins with `first` and goes on in cs
-unfoldable pub consumeU32 : ℕ → List ℕ → Consumed
-consumeU32 first cs = pick (isDigit first) (digitsFrom (first - zeroDigit) 0 cs) (Wrong (ExpectedNumber first))
-
--- ---- the patterns
-
--- `(_, Some('<' | '^' | '>'), Start)`
-abbrev pub isFillSign : ℕ → ℕ → Bool
-isFillSign peek position = isSign peek && eqb position start
-
--- `('<' | '^' | '>', _, Start | Alignment)`
-abbrev pub isAlign : ℕ → ℕ → Bool
-isAlign c position = isSign c && (eqb position start || eqb position alignment)
-
--- `('0', Some('0'..='9'), Start | MinWidth)`
-abbrev pub isZeroFill : ℕ → ℕ → ℕ → Bool
-isZeroFill c peek position = eqb c zeroDigit && (isDigit peek && (eqb position start || eqb position minWidth))
-
--- `('0'..='9', _, Start | MinWidth)`
-abbrev pub isWidth : ℕ → ℕ → Bool
-isWidth c position = isDigit c && (eqb position start || eqb position minWidth)
-
--- `('.', Some(_), Start | MinWidth | Precision)`
-abbrev pub isPrecision : ℕ → ℕ → ℕ → Bool
-isPrecision c peek position = eqb c 46 && (ltb peek noChar && (eqb position start || (eqb position minWidth || eqb position precision)))
-
--- `Start | MinWidth | Precision | Type`
-abbrev pub isBeforeEnd : ℕ → Bool
-isBeforeEnd position = eqb position start || (eqb position minWidth || (eqb position precision || eqb position type))
-
--- `'?'`, `'b'`, `'o'`, `'x'`, `'X'`, `'e'`, `'E'`
-unfoldable pub representationOf : ℕ → Shown
-representationOf c =
-    pick (eqb c 63) (As Debug)
-    (pick (eqb c 98) (As Binary)
-    (pick (eqb c 111) (As Octal)
-    (pick (eqb c 120) (As HexLower)
-    (pick (eqb c 88) (As HexUpper)
-    (pick (eqb c 101) (As ExpLower)
-    (pick (eqb c 69) (As ExpUpper)
-    Plain))))))
-
--- `('?', _, Start | MinWidth | Precision | Type)`, and the six arms after it, which differ in the letter alone
-unfoldable pub letterOf : ℕ → ℕ → Shown
-letterOf c position = pick (isBeforeEnd position) (representationOf c) Plain
-
--- f of the representation, or what is said where there is none
-abbrev pub onShown : {A : Type 0} → Shown → (Representation → A) → A → A
-onShown (As r) f none = f r
-onShown Plain f none = none
-
--- the arms from the letters on
-unfoldable pub lastArm : ℕ → ℕ → Arm
-lastArm c position =
-    onShown (letterOf c position) arm.Represent
-    -- `(_, _, Start)`
-    (pick (eqb position start) arm.FillCluster
-    -- `(other, _, _)`
-    arm.Unexpected)
-
--- the first arm whose pattern matches
-unfoldable pub armOf : ℕ → ℕ → ℕ → Arm
-armOf c peek position =
-    pick (isFillSign peek position) arm.FillSign
-    (pick (isAlign c position) arm.Align
-    (pick (isZeroFill c peek position) arm.ZeroFill
-    (pick (isWidth c position) arm.MinWidth
-    (pick (isPrecision c peek position) arm.Precision
-    (lastArm c position)))))
 
 -- ---- the bodies
 

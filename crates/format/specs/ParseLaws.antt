@@ -1,5 +1,4 @@
 -- Laws of `parse`.
---     ArmIs, arm-is            what each arm of the match says of the characters and the position
 --     parse-adds               a pool of any kind ends as the list of strings says
 --     ZeroIn                   a part that is a zero
 --     Keeps, parse-keeps       what is kept by a first fill, by a zero and by every other arm holds at the end: the way to show something of
@@ -8,63 +7,28 @@
 use Prim.Native.Nat.{ℕ, zero, suc, _+_, _≤_, _<_}
 use native.Mathlib.Omega.{arith}
 use mathlib.Core.Path.{_≡_, refl, sym, ap, subst, _∙_}
-use mathlib.Core.Bool.{true}
 use mathlib.Core.List.{List, [], _∷_, _++_, append-nil}
-use lib.Dec.{eqb, ltb}
 use lib.ListN.{length, take, drop, length-append, length-drop, take-append-drop}
 use lib.Seq.{drop-drop, take-append-seam, drop-append-seam}
-use borrow.Author.Tests.{eqb-true, ltb-true}
-use Rattle.base.specs.Pick.{pick}
-use Rattle.base.specs.PickLaws.{by-test}
-use Rattle.base.specs.AllLaws.{and-left, and-right}
 use Rattle.utf8.specs.Encode.{encode, encodeAll, Scalars, WellFormed}
 use Rattle.utf8.specs.EncodeLaws.{all-append}
 use Rattle.utf8.specs.Chars.{chars}
 use Rattle.utf8.specs.CharsLaws.{chars-well}
 use Rattle.cluster.specs.First.{firstSize, firstEnd}
-use Rattle.format.specs.Options.{noOptions, withWidth, withPrecision}
-use Rattle.format.specs.Parse.{start, alignment, minWidth, precision, type, end, noChar, peeked, lenUtf8, zeroDigit, isSign, consumeU32}
-use Rattle.format.specs.Parse.{isFillSign, isAlign, isZeroFill, isWidth, isPrecision, letterOf, onShown, lastArm, armOf}
-use Rattle.format.specs.Parse.{Body, Goes, Fails, onConsumed, bodyOf, OnePass, addFill, parseFrom, parseWith, append, parse, stringOf, PartIn, addAll}
-use Rattle.format.specs.declared.Shown.{Shown}
-use Rattle.format.specs.declared.Shown.the-variants.{As, Plain}
-use Rattle.format.specs.declared.Part.{Part}
-use Rattle.format.specs.declared.Fill.{Fill}
-use Rattle.format.specs.declared.Fill.the-variants.{Is, NoFill}
-use Rattle.format.specs.declared.Options.{Options}
-use Rattle.format.specs.declared.Consumed.{Consumed}
-use Rattle.format.specs.declared.Consumed.the-variants.{Value, Wrong}
-use Rattle.format.specs.declared.Arm.{Arm}
-use Rattle.format.specs.declared.Arm.the-variants as arm
-
--- ---- the arms
-
--- what is known where an arm is taken: a fill is set at the start alone, or is a zero; a precision has a character after its dot
-abbrev pub ArmIs : ℕ → ℕ → ℕ → Arm → Type 0
-ArmIs c peek position arm.FillSign = (isSign peek ≡ true) × (position ≡ start)
-ArmIs c peek position arm.Align = Unit {0}
-ArmIs c peek position arm.ZeroFill = c ≡ zeroDigit
-ArmIs c peek position arm.MinWidth = Unit {0}
-ArmIs c peek position arm.Precision = peek < noChar
-ArmIs c peek position (arm.Represent r) = Unit {0}
-ArmIs c peek position arm.FillCluster = position ≡ start
-ArmIs c peek position arm.Unexpected = Unit {0}
-
-module _ (c peek position : ℕ) where
-  last-is : (l : Shown) → ArmIs c peek position (onShown l arm.Represent (pick (eqb position start) arm.FillCluster arm.Unexpected))
-  last-is (As r) = tt
-  last-is Plain = by-test (ArmIs c peek position) (eqb position start) (λ t. eqb-true position start t) (λ t. tt)
-
-  pub arm-is : ArmIs c peek position (armOf c peek position)
-  unfolding armOf lastArm
-  arm-is =
-      let P = ArmIs c peek position in
-      by-test P (isFillSign peek position) (λ t. (and-left (isSign peek) _ t, eqb-true position start (and-right (isSign peek) _ t)))
-      (λ _. by-test P (isAlign c position) (λ _. tt)
-      (λ _. by-test P (isZeroFill c peek position) (λ t. eqb-true c zeroDigit (and-left (eqb c zeroDigit) _ t))
-      (λ _. by-test P (isWidth c position) (λ _. tt)
-      (λ _. by-test P (isPrecision c peek position)
-      (λ t. ltb-true peek noChar (and-left (ltb peek noChar) _ (and-right (eqb c 46) _ t))) (λ _. last-is (letterOf c position))))))
+use Rattle.format_options.specs.Options.{noOptions, withWidth, withPrecision}
+use Rattle.format_options.specs.Letters.{zeroDigit}
+use Rattle.format_options.specs.declared.Part.{Part}
+use Rattle.format_options.specs.declared.Fill.{Fill}
+use Rattle.format_options.specs.declared.Fill.the-variants.{Is, NoFill}
+use Rattle.format_options.specs.declared.Options.{Options}
+use Rattle.format_number.specs.Number.{peeked, consumeU32}
+use Rattle.format_number.specs.declared.Consumed.{Consumed}
+use Rattle.format_number.specs.declared.Consumed.the-variants.{Value, Wrong}
+use Rattle.format_arms.specs.Arms.{start, alignment, minWidth, precision, type, end, armOf}
+use Rattle.format_arms.specs.ArmsLaws.{ArmIs, arm-is}
+use Rattle.format_arms.specs.declared.Arm.{Arm}
+use Rattle.format_arms.specs.declared.Arm.the-variants as arm
+use Rattle.format.specs.Parse.{lenUtf8, Body, Goes, Fails, onConsumed, bodyOf, OnePass, addFill, parseFrom, parseWith, append, parse, stringOf, PartIn, addAll}
 
 -- ---- the pool
 

@@ -10,13 +10,16 @@ use mathlib.Core.Path.{_≡_, refl, sym, ap, subst, _∙_}
 use mathlib.Core.List.{List, [], _∷_}
 use Rattle.utf8.specs.Encode.{WellFormed}
 use Rattle.utf8.specs.Chars.{chars}
-use Rattle.format.specs.Parse.{start, zeroDigit, OnePass, addFill, parseWith, append, parse, stringOf, PartIn, FillIn, addPart, addAll}
+use Rattle.format_options.specs.Letters.{zeroDigit}
+use Rattle.format_options.specs.declared.Part.{Part}
+use Rattle.format_options.specs.declared.Fill.{Fill}
+use Rattle.format_options.specs.declared.Fill.the-variants.{Is, NoFill}
+use Rattle.format_arms.specs.Arms.{start}
+use Rattle.format_state.specs.State.{nothingAdded, keep, keepBy}
+use Rattle.format_state.specs.declared.Strings.{Strings}
+use Rattle.format.specs.Parse.{OnePass, addFill, parseWith, append, parse, stringOf, PartIn, FillIn, addPart, addAll}
 use Rattle.format.specs.ParseLaws.{parse-adds, Keeps, parse-keeps}
-use Rattle.format.specs.Read.{nothingAdded, keep, keepBy, readFormat, addBoth, lastOf}
-use Rattle.format.specs.declared.Part.{Part}
-use Rattle.format.specs.declared.Fill.{Fill}
-use Rattle.format.specs.declared.Fill.the-variants.{Is, NoFill}
-use Rattle.format.specs.declared.Strings.{Strings}
+use Rattle.format.specs.Read.{readFormat, addBoth, lastOf}
 use Rattle.format.specs.declared.FormatRead.{FormatRead}
 
 module _ (s : List ℕ) where

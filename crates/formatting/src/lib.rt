@@ -2,10 +2,10 @@
 // bytes, and prints the options and the pool. It is a library, so that the program for many format strings prints of each what the
 // program for one does.
 ghost use mathlib.Core.Path.{_≡_};
-use format::Fill;
-use format::OptionalNumber;
-use format::Options;
-use format::Shown;
+use format_options::Fill;
+use format_options::OptionalNumber;
+use format_options::Options;
+use format_options::Shown;
 use libc::STDOUT_FILENO;
 use parse::After;
 use parse::Parsed;
@@ -36,7 +36,7 @@ fn print_given(given: OptionalNumber) {
 fn print_shown(shown: Shown) {
     match shown {
         Shown::As(representation) => print_number(
-            format::representation_number(representation) as u64,
+            format_options::representation_number(representation) as u64,
         ),
         Shown::Plain => print_none(),
     }
@@ -63,7 +63,7 @@ fn print_options(options: Options, index: OptionalNumber) {
     let representation = options.representation;
     let fill = options.fill;
     io::write_all(STDOUT_FILENO, b"options");
-    print_number(format::alignment_number(alignment) as u64);
+    print_number(format_options::alignment_number(alignment) as u64);
     print_given(width);
     print_given(precision);
     print_shown(representation);

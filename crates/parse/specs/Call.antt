@@ -20,11 +20,11 @@ use Rattle.pool.specs.declared.Added.{Added}
 use Rattle.pool.specs.declared.Added.the-variants as pool
 use Rattle.format.specs.Parse as form
 use Rattle.format.specs.Parse.{parseWith, stringOf}
-use Rattle.format.specs.declared.OptionalNumber.{OptionalNumber}
-use Rattle.format.specs.declared.OptionalNumber.the-variants.{Number, Nothing}
-use Rattle.format.specs.declared.Options.{Options}
-use Rattle.format.specs.declared.Outcome.{Outcome}
-use Rattle.format.specs.declared.Outcome.the-variants as outcome
+use Rattle.format_options.specs.declared.OptionalNumber.{OptionalNumber}
+use Rattle.format_options.specs.declared.OptionalNumber.the-variants.{Number, Nothing}
+use Rattle.format_options.specs.declared.Options.{Options}
+use Rattle.format_options.specs.declared.Outcome.{Outcome}
+use Rattle.format_options.specs.declared.Outcome.the-variants as outcome
 use Rattle.parse.specs.declared.Adding.{Adding}
 use Rattle.parse.specs.declared.After.{After}
 use Rattle.parse.specs.declared.Parsed.{Parsed}

@@ -31,8 +31,8 @@ use Rattle.pool.specs.declared.Added.the-variants as pool
 use Rattle.format.specs.Read.{addBoth}
 use Rattle.format.specs.Parse.{addPart}
 use Rattle.format.specs.ReadLaws.{parse-two-stages}
-use Rattle.format.specs.declared.OptionalNumber.{OptionalNumber}
-use Rattle.format.specs.declared.OptionalNumber.the-variants.{Number}
+use Rattle.format_options.specs.declared.OptionalNumber.{OptionalNumber}
+use Rattle.format_options.specs.declared.OptionalNumber.the-variants.{Number}
 use Rattle.parse.specs.Call.{Pool, pooled, addingAfter, onAdded, addTo, lent, answer, parsed, refusedAs, Comes, comes, call, Parses}
 use Rattle.parse.specs.Plan.{readOf}
 use Rattle.parse.specs.declared.Adding.{Adding}

@@ -2,14 +2,14 @@
 -- Assumes nothing.
 use Prim.Native.Nat.{ℕ}
 use mathlib.Core.List.{List, [], _∷_}
-use Rattle.format.specs.Options.{alignmentNumber, representationNumber}
-use Rattle.format.specs.declared.OptionalNumber.{OptionalNumber}
-use Rattle.format.specs.declared.OptionalNumber.the-variants.{Number, Nothing}
-use Rattle.format.specs.declared.Shown.{Shown}
-use Rattle.format.specs.declared.Shown.the-variants.{As, Plain}
-use Rattle.format.specs.declared.Fill.{Fill}
-use Rattle.format.specs.declared.Fill.the-variants.{Is, NoFill}
-use Rattle.format.specs.declared.Options.{Options}
+use Rattle.format_options.specs.Options.{alignmentNumber, representationNumber}
+use Rattle.format_options.specs.declared.OptionalNumber.{OptionalNumber}
+use Rattle.format_options.specs.declared.OptionalNumber.the-variants.{Number, Nothing}
+use Rattle.format_options.specs.declared.Shown.{Shown}
+use Rattle.format_options.specs.declared.Shown.the-variants.{As, Plain}
+use Rattle.format_options.specs.declared.Fill.{Fill}
+use Rattle.format_options.specs.declared.Fill.the-variants.{Is, NoFill}
+use Rattle.format_options.specs.declared.Options.{Options}
 use Rattle.parse.specs.declared.Parsed.{Parsed}
 use Rattle.parse.specs.declared.Parsed.the-variants.{Read, TooLong, BadEdition, BadTable, BadUtf8, CutUtf8, BadState}
 use Rattle.parse.specs.declared.Parsed.the-variants.{ExpectedNumber, FormatNumberIsTooLarge, UnexpectedToken, PoolFull}

@@ -15,9 +15,9 @@ use Rattle.pool_rows.specs.Rows.{fitPool}
 use Rattle.pool_rows.specs.declared.Counts.{Counts}
 use Rattle.format.specs.Parse.{addFill, addPart, stringOf, PartIn}
 use Rattle.format.specs.Read.{readFormat}
-use Rattle.format.specs.declared.OptionalNumber.the-variants.{Nothing}
-use Rattle.format.specs.declared.Fill.{Fill}
-use Rattle.format.specs.declared.Fill.the-variants.{Is, NoFill}
+use Rattle.format_options.specs.declared.OptionalNumber.the-variants.{Nothing}
+use Rattle.format_options.specs.declared.Fill.{Fill}
+use Rattle.format_options.specs.declared.Fill.the-variants.{Is, NoFill}
 use Rattle.format.specs.declared.FormatRead.{FormatRead}
 use Rattle.parse.specs.Call.{Pool, pooled, addTo, refusedAs, answerOf}
 use Rattle.parse.specs.declared.Adding.{Adding}

@@ -34,9 +34,9 @@ use Rattle.format.specs.Parse.{PartIn}
 use Rattle.format.specs.Read.{addBoth}
 use Rattle.format.specs.Parse.{addPart, FillIn}
 use Rattle.format.specs.ReadLaws.{AddedIn, added-in}
-use Rattle.format.specs.declared.Part.{Part}
-use Rattle.format.specs.declared.Fill.{Fill}
-use Rattle.format.specs.declared.Fill.the-variants.{Is, NoFill}
+use Rattle.format_options.specs.declared.Part.{Part}
+use Rattle.format_options.specs.declared.Fill.{Fill}
+use Rattle.format_options.specs.declared.Fill.the-variants.{Is, NoFill}
 use Rattle.format.specs.declared.FormatRead.{FormatRead}
 use Rattle.parse.specs.Call.{Pool, pooled, addingAfter, addTo, lent, refusedAs, answer, Comes, comes, Parses}
 use Rattle.parse.specs.Call as call

@@ -2,10 +2,10 @@
 ghost use mathlib.Core.Path.{_≡_};
 ghost use Rattle.parse.specs.Numbers.{givenNumber, shownNumber, fillPlace, fillLen, optionsNumbers, noNumbers, numbersOf};
 use crate::Parsed;
-use format::Fill;
-use format::OptionalNumber;
-use format::Options;
-use format::Shown;
+use format_options::Fill;
+use format_options::OptionalNumber;
+use format_options::Options;
+use format_options::Shown;
 
 // No number: every option's own number is smaller.
 pub const NONE: u64 = 18446744073709551615;
@@ -14,7 +14,7 @@ fn shown_number(shown: Shown) -> u64
     ensures { λ r. ⌜ r ≡ shownNumber shown ⌝ }
 {
     match shown {
-        Shown::As(representation) => format::representation_number(representation) as u64,
+        Shown::As(representation) => format_options::representation_number(representation) as u64,
         Shown::Plain => NONE,
     }
 }
@@ -56,7 +56,7 @@ fn options_numbers(options: Options, index: OptionalNumber) -> [u64; 7]
     let representation = options.representation;
     let fill = options.fill;
     [
-        format::alignment_number(alignment) as u64,
+        format_options::alignment_number(alignment) as u64,
         given_number(width),
         given_number(precision),
         shown_number(representation),

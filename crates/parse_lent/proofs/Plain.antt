@@ -24,8 +24,8 @@ use Rattle.pool_rows.proofs.Counts as Counts
 use Rattle.pool_rows.proofs.Counts.Laws as Counts′
 use Rattle.pool.proofs.Added as Added
 use Rattle.pool.proofs.Added.Laws as Added′
-use Rattle.format.proofs.Fill as Fill
-use Rattle.format.proofs.Fill.Laws as Fill′
+use Rattle.format_options.proofs.Fill as Fill
+use Rattle.format_options.proofs.Fill.Laws as Fill′
 use Rattle.parse.proofs.Terms as Terms
 use Rattle.parse.proofs.Terms.Laws as Terms′
 use Rattle.parse.proofs.Adding as Adding

@@ -13,8 +13,8 @@ use Rattle.pool.specs.declared.Added.{Added}
 use Rattle.pool_lent.specs.EntriesLaws.{same-numbers}
 use Rattle.pool_lent.specs.declared.Entry.{Entry}
 use Rattle.format.specs.Parse.{addFill, addPart}
-use Rattle.format.specs.declared.Fill.{Fill}
-use Rattle.format.specs.declared.Fill.the-variants.{Is, NoFill}
+use Rattle.format_options.specs.declared.Fill.{Fill}
+use Rattle.format_options.specs.declared.Fill.the-variants.{Is, NoFill}
 use Rattle.parse.specs.Call.{pooled, addingAfter, addTo}
 use Rattle.parse.specs.CallLaws.{adds-after, one-answer}
 use Rattle.parse.specs.Plan.{isAdding, fillString}

@@ -8,7 +8,7 @@ ghost use Rattle.pool_lent.specs.Entries.{numbersOf};
 ghost use Rattle.parse.specs.Call.{pooled, addTo, Parses};
 ghost use Rattle.parse.specs.Plan.{CanAdd, CanPlan, addPlan};
 ghost use Rattle.parse_lent.specs.Lent.{ParsesEntries};
-use format::Fill;
+use format_options::Fill;
 use parse::Adding;
 use parse::After;
 use parse::Parsed;

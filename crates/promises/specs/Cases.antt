@@ -11,12 +11,12 @@ use Rattle.token.specs.Kind.{error, commentMulti, id, stringStart, stringEnd, s
 use Rattle.rows.specs.declared.Row.{Row}
 use Rattle.words.specs.Words.{bytes}
 use Rattle.pool_rows.specs.Rows.{stringsOf}
-use Rattle.format.specs.declared.Alignment.the-variants.{Default}
-use Rattle.format.specs.declared.Shown.the-variants.{Plain}
-use Rattle.format.specs.declared.OptionalNumber.{OptionalNumber}
-use Rattle.format.specs.declared.OptionalNumber.the-variants.{Number, Nothing}
-use Rattle.format.specs.declared.Fill.{Fill}
-use Rattle.format.specs.declared.Fill.the-variants.{Is, NoFill}
+use Rattle.format_options.specs.declared.Alignment.the-variants.{Default}
+use Rattle.format_options.specs.declared.Shown.the-variants.{Plain}
+use Rattle.format_options.specs.declared.OptionalNumber.{OptionalNumber}
+use Rattle.format_options.specs.declared.OptionalNumber.the-variants.{Number, Nothing}
+use Rattle.format_options.specs.declared.Fill.{Fill}
+use Rattle.format_options.specs.declared.Fill.the-variants.{Is, NoFill}
 use Rattle.parse.specs.Call as parse
 use Rattle.parse.specs.Call.{Pool, lent}
 use Rattle.parse.specs.declared.Parsed.{Parsed}

@@ -38,7 +38,10 @@ use Rattle.reading.specs.Scan.{endOf, scanned, written}
 use Rattle.pool_rows.specs.Rows.{stringsFrom, indexOf, roomOf, runsTo, fitIn}
 use Rattle.pool.specs.Pool.{placed, added, bytesAfter, entriesAfter}
 use Rattle.pool_rows.specs.Rows as rows
-use Rattle.format.specs.Parse.{peeked, isSign, isDigit, charToAlignment, digitsFrom, consumeU32, representationOf, letterOf, lastArm, armOf, parseFrom}
+use Rattle.format_options.specs.Letters.{isSign, isDigit, charToAlignment, representationOf}
+use Rattle.format_number.specs.Number.{peeked, digitsFrom, consumeU32}
+use Rattle.format_arms.specs.Arms.{letterOf, lastArm, armOf}
+use Rattle.format.specs.Parse.{parseFrom}
 use Rattle.input.specs.Input.{inputCheck}
 use Rattle.parse.specs.Call.{addTo, parsed, call}
 use Rattle.promises.specs.Cases.{ran, want, cases}

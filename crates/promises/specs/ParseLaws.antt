@@ -19,10 +19,10 @@ use Rattle.input.specs.declared.Input.{Input}
 use Rattle.input.specs.declared.Input.the-variants.{Fine, Refused}
 use Rattle.pool_rows.specs.Rows.{fitPool}
 use Rattle.pool_rows.specs.declared.Counts.{Counts}
-use Rattle.format.specs.declared.OptionalNumber.{OptionalNumber}
-use Rattle.format.specs.declared.Options.{Options}
-use Rattle.format.specs.declared.Outcome.{Outcome}
-use Rattle.format.specs.declared.Outcome.the-variants as outcome
+use Rattle.format_options.specs.declared.OptionalNumber.{OptionalNumber}
+use Rattle.format_options.specs.declared.Options.{Options}
+use Rattle.format_options.specs.declared.Outcome.{Outcome}
+use Rattle.format_options.specs.declared.Outcome.the-variants as outcome
 use Rattle.parse.specs.Call.{lent, onOutcome, answerOf, answer, parsed, Comes, comes, refusedAs, call, Parses, numberOf, valueOf}
 use Rattle.parse.specs.CallLaws.{called, one-answer, parses-refused, parses-unfit}
 use Rattle.parse.specs.declared.After.{After}

@@ -1,10 +1,10 @@
 // Whether an answer of the parse is that of a line: `0 A W P R I FILL`, or the number of a refusal and its place or value. A is the alignment;
 // the width, the precision, the representation and the fill's index are 0 for none, else one more than their number; FILL is 0 for none, else 1
 // and the fill's place and length (tools/README.md).
-use format::Fill;
-use format::OptionalNumber;
-use format::Options;
-use format::Shown;
+use format_options::Fill;
+use format_options::OptionalNumber;
+use format_options::Options;
+use format_options::Shown;
 use lines::same;
 use parse::Parsed;
 use parse::answer;
@@ -21,7 +21,8 @@ fn given_number(given: OptionalNumber) -> usize {
 // The same of a representation.
 fn shown_number(shown: Shown) -> usize {
     match shown {
-        Shown::As(representation) => 1 + format::representation_number(representation) as usize,
+        Shown::As(representation) => 1
+            + format_options::representation_number(representation) as usize,
         Shown::Plain => 0,
     }
 }
@@ -45,7 +46,11 @@ fn same_options(text: &[u8], at: usize, options: Options, index: OptionalNumber)
     let precision = options.precision;
     let representation = options.representation;
     let fill = options.fill;
-    let at = same(text, at, format::alignment_number(alignment) as usize);
+    let at = same(
+        text,
+        at,
+        format_options::alignment_number(alignment) as usize,
+    );
     let at = same(text, at, given_number(width));
     let at = same(text, at, given_number(precision));
     let at = same(text, at, shown_number(representation));

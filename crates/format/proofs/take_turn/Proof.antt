@@ -9,10 +9,11 @@ use denote.Ref.{now}
 use Rattle.base.specs.Refusal.{formatMost}
 use Rattle.utf8.specs.Chars.{chars}
 use Rattle.property.specs.Table.{propertiesAt}
-use Rattle.format.specs.Parse.{peeked, armOf}
+use Rattle.format_number.specs.Number.{peeked}
+use Rattle.format_arms.specs.Arms.{armOf}
+use Rattle.format_arms.specs.declared.Arm.{Arm}
+use Rattle.format_arms.specs.declared.Arm.the-variants as arm
 use Rattle.format.specs.Read.{Here}
-use Rattle.format.specs.declared.Arm.{Arm}
-use Rattle.format.specs.declared.Arm.the-variants as arm
 use Rattle.format.proofs.Turns.{next-within, dot-within, turn-fill-sign, turn-align, turn-zero-fill, turn-width, turn-precision, turn-represent, turn-cluster, turn-unexpected}
 use Rattle.format.proofs.take_turn.Statement.{statement}
 use Rattle.format.proofs.take_turn.Tie as tie

@@ -20,8 +20,8 @@ use Rattle.pool_lent.proofs.Entry as E
 use Rattle.parse_lent.proofs.Again.{LentAgain, lends-again, comes-back}
 use Rattle.format.specs.Parse.{addFill}
 use Rattle.format.specs.Parse.{addPart}
-use Rattle.format.specs.declared.Fill.{Fill}
-use Rattle.format.proofs.Fill as Fill
+use Rattle.format_options.specs.declared.Fill.{Fill}
+use Rattle.format_options.proofs.Fill as Fill
 use Rattle.parse.specs.Call.{Pool, pooled, addTo}
 use Rattle.parse.specs.declared.Adding.{Adding}
 use Rattle.parse.proofs.Adding as Adding

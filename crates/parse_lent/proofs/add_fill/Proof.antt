@@ -31,8 +31,8 @@ use Rattle.pool_lent.proofs.Shared.{at-end}
 use Rattle.pool_lent.proofs.Turns.{is-true, is-false}
 use Rattle.format.specs.Parse.{addFill}
 use Rattle.format.specs.Parse.{addPart}
-use Rattle.format.specs.declared.Fill.{Fill}
-use Rattle.format.proofs.Fill as Fill
+use Rattle.format_options.specs.declared.Fill.{Fill}
+use Rattle.format_options.proofs.Fill as Fill
 use Rattle.parse.specs.Call.{pooled, addingAfter, addTo}
 use Rattle.parse.specs.declared.Adding.{Adding}
 use Rattle.parse.proofs.Adding as Adding

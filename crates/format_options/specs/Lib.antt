@@ -1,0 +1,3 @@
+pub mod Options
+pub mod Letters
+pub mod LettersLaws
