@@ -1,3 +1,3 @@
 pub mod Keywords
-pub mod Groups
+pub mod Places
 pub mod KeywordsLaws

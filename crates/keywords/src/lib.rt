@@ -1,12 +1,12 @@
 // Which keyword a name is (lexer.rs `check_keyword!`).
 //
-// A name is first told by its length, so that few words are left to compare. Each of the functions below has the words of one length, in
-// the Rust's order.
+// A name's length and its first letters give it one of 64 places, and no two keywords have the same. So a name is compared with one word at
+// most.
 ghost use mathlib.Core.Path.{_≡_};
+ghost use Prim.Native.Nat.{_≤_};
 ghost use lib.ListN.{take, drop};
-ghost use Rattle.words.specs.Words.{startsWith};
 ghost use Rattle.keywords.specs.Keywords.{keywordOf};
-ghost use Rattle.keywords.specs.Groups.{checked, keywordAt};
+ghost use Rattle.keywords.specs.Places.{placeBy, wordAt};
 use token::kinds::AND;
 use token::kinds::AS;
 use token::kinds::AWAIT;
@@ -43,72 +43,158 @@ use token::kinds::YIELD;
 use words::starts_with;
 use words::within;
 
-// The kind that was found before; where none was, `kind` if the bytes at `at` begin with the word, or else Id.
-fn check_keyword(found: u8, source: &[u8], at: usize, word: &[u8], kind: u8) -> u8
-    ensures { λ r. ⌜ r ≡ checked found (startsWith (now (word .entry)) (drop at (now (source .entry)))) kind ⌝ }
+// A keyword: its bytes, filled up with dots, and its kind. Where there is none, the kind is Id.
+struct Word {
+    text: [u8; 8],
+    kind: u8,
+}
+
+// The place of a name of `len` bytes that begins with these two.
+fn place(len: usize, first: u8, second: u8) -> usize
+    requires { ⌜ len ≤ 8 ⌝ }
+    ensures { λ r. ⌜ r ≡ placeBy len first second ⌝ }
 {
-    if found != ID {
-        return found;
+    (5 * (first as usize) + 2 * ((second as usize) / 2) + len) % 64
+}
+
+// The keyword that has the place.
+fn word_at(place: usize) -> Word
+    ensures { λ r. ⌜ r ≡ wordAt place ⌝ }
+{
+    match place {
+        0 => Word {
+            text: [b'w', b'h', b'i', b'l', b'e', b'.', b'.', b'.'],
+            kind: WHILE,
+        },
+        3 => Word {
+            text: [b'l', b'e', b't', b'.', b'.', b'.', b'.', b'.'],
+            kind: LET,
+        },
+        6 => Word {
+            text: [b'm', b'a', b't', b'c', b'h', b'.', b'.', b'.'],
+            kind: MATCH,
+        },
+        10 => Word {
+            text: [b'y', b'i', b'e', b'l', b'd', b'.', b'.', b'.'],
+            kind: YIELD,
+        },
+        14 => Word {
+            text: [b'l', b'o', b'o', b'p', b'.', b'.', b'.', b'.'],
+            kind: LOOP,
+        },
+        20 => Word {
+            text: [b'c', b'a', b't', b'c', b'h', b'.', b'.', b'.'],
+            kind: CATCH,
+        },
+        22 => Word {
+            text: [b'a', b'n', b'd', b'.', b'.', b'.', b'.', b'.'],
+            kind: AND,
+        },
+        23 => Word {
+            text: [b'n', b'o', b't', b'.', b'.', b'.', b'.', b'.'],
+            kind: NOT,
+        },
+        25 => Word {
+            text: [b'a', b's', b'.', b'.', b'.', b'.', b'.', b'.'],
+            kind: AS,
+        },
+        29 => Word {
+            text: [b'd', b'e', b'b', b'u', b'g', b'.', b'.', b'.'],
+            kind: DEBUG,
+        },
+        30 => Word {
+            text: [b'n', b'u', b'l', b'l', b'.', b'.', b'.', b'.'],
+            kind: NULL,
+        },
+        31 => Word {
+            text: [b'o', b'r', b'.', b'.', b'.', b'.', b'.', b'.'],
+            kind: OR,
+        },
+        32 => Word {
+            text: [b'a', b'w', b'a', b'i', b't', b'.', b'.', b'.'],
+            kind: AWAIT,
+        },
+        33 => Word {
+            text: [b'b', b'r', b'e', b'a', b'k', b'.', b'.', b'.'],
+            kind: BREAK,
+        },
+        34 => Word {
+            text: [b'c', b'o', b'n', b's', b't', b'.', b'.', b'.'],
+            kind: CONST,
+        },
+        35 => Word {
+            text: [b'f', b'a', b'l', b's', b'e', b'.', b'.', b'.'],
+            kind: FALSE,
+        },
+        36 => Word {
+            text: [b'r', b'e', b't', b'u', b'r', b'n', b'.', b'.'],
+            kind: RETURN,
+        },
+        37 => Word {
+            text: [b'c', b'o', b'n', b't', b'i', b'n', b'u', b'e'],
+            kind: CONTINUE,
+        },
+        39 => Word {
+            text: [b's', b'e', b'l', b'f', b'.', b'.', b'.', b'.'],
+            kind: SELF_,
+        },
+        45 => Word {
+            text: [b'f', b'i', b'n', b'a', b'l', b'l', b'y', b'.'],
+            kind: FINALLY,
+        },
+        47 => Word {
+            text: [b'f', b'o', b'r', b'.', b'.', b'.', b'.', b'.'],
+            kind: FOR,
+        },
+        48 => Word {
+            text: [b't', b'h', b'e', b'n', b'.', b'.', b'.', b'.'],
+            kind: THEN,
+        },
+        49 => Word {
+            text: [b't', b'h', b'r', b'o', b'w', b'.', b'.', b'.'],
+            kind: THROW,
+        },
+        52 => Word {
+            text: [b'f', b'r', b'o', b'm', b'.', b'.', b'.', b'.'],
+            kind: FROM,
+        },
+        53 => Word {
+            text: [b'i', b'f', b'.', b'.', b'.', b'.', b'.', b'.'],
+            kind: IF,
+        },
+        55 => Word {
+            text: [b'e', b'x', b'p', b'o', b'r', b't', b'.', b'.'],
+            kind: EXPORT,
+        },
+        57 => Word {
+            text: [b't', b'r', b'y', b'.', b'.', b'.', b'.', b'.'],
+            kind: TRY,
+        },
+        58 => Word {
+            text: [b't', b'r', b'u', b'e', b'.', b'.', b'.', b'.'],
+            kind: TRUE,
+        },
+        59 => Word {
+            text: [b's', b'w', b'i', b't', b'c', b'h', b'.', b'.'],
+            kind: SWITCH,
+        },
+        60 => Word {
+            text: [b'u', b'n', b't', b'i', b'l', b'.', b'.', b'.'],
+            kind: UNTIL,
+        },
+        61 => Word {
+            text: [b'i', b'n', b'.', b'.', b'.', b'.', b'.', b'.'],
+            kind: IN,
+        },
+        63 => Word {
+            text: [b'i', b'm', b'p', b'o', b'r', b't', b'.', b'.'],
+            kind: IMPORT,
+        },
+        _ => Word {
+            text: [b'.', b'.', b'.', b'.', b'.', b'.', b'.', b'.'],
+            kind: ID,
+        },
     }
-    if starts_with(source, at, word) {
-        return kind;
-    }
-    ID
-}
-
-fn keyword_of_2(source: &[u8], at: usize) -> u8
-    ensures { λ r. ⌜ r ≡ keywordAt 2 (drop at (now (source .entry))) ⌝ }
-{
-    let found = check_keyword(ID, source, at, b"as", AS);
-    let found = check_keyword(found, source, at, b"if", IF);
-    let found = check_keyword(found, source, at, b"in", IN);
-    check_keyword(found, source, at, b"or", OR)
-}
-
-fn keyword_of_3(source: &[u8], at: usize) -> u8
-    ensures { λ r. ⌜ r ≡ keywordAt 3 (drop at (now (source .entry))) ⌝ }
-{
-    let found = check_keyword(ID, source, at, b"and", AND);
-    let found = check_keyword(found, source, at, b"for", FOR);
-    let found = check_keyword(found, source, at, b"let", LET);
-    let found = check_keyword(found, source, at, b"not", NOT);
-    check_keyword(found, source, at, b"try", TRY)
-}
-
-fn keyword_of_4(source: &[u8], at: usize) -> u8
-    ensures { λ r. ⌜ r ≡ keywordAt 4 (drop at (now (source .entry))) ⌝ }
-{
-    let found = check_keyword(ID, source, at, b"from", FROM);
-    let found = check_keyword(found, source, at, b"loop", LOOP);
-    let found = check_keyword(found, source, at, b"null", NULL);
-    let found = check_keyword(found, source, at, b"self", SELF_);
-    let found = check_keyword(found, source, at, b"then", THEN);
-    check_keyword(found, source, at, b"true", TRUE)
-}
-
-fn keyword_of_5(source: &[u8], at: usize) -> u8
-    ensures { λ r. ⌜ r ≡ keywordAt 5 (drop at (now (source .entry))) ⌝ }
-{
-    let found = check_keyword(ID, source, at, b"await", AWAIT);
-    let found = check_keyword(found, source, at, b"break", BREAK);
-    let found = check_keyword(found, source, at, b"catch", CATCH);
-    let found = check_keyword(found, source, at, b"const", CONST);
-    let found = check_keyword(found, source, at, b"debug", DEBUG);
-    let found = check_keyword(found, source, at, b"false", FALSE);
-    let found = check_keyword(found, source, at, b"match", MATCH);
-    let found = check_keyword(found, source, at, b"throw", THROW);
-    let found = check_keyword(found, source, at, b"until", UNTIL);
-    let found = check_keyword(found, source, at, b"while", WHILE);
-    check_keyword(found, source, at, b"yield", YIELD)
-}
-
-fn keyword_of_6(source: &[u8], at: usize) -> u8
-    ensures { λ r. ⌜ r ≡ keywordAt 6 (drop at (now (source .entry))) ⌝ }
-{
-    let found = check_keyword(ID, source, at, b"export", EXPORT);
-    let found = check_keyword(found, source, at, b"import", IMPORT);
-    let found = check_keyword(found, source, at, b"return", RETURN);
-    check_keyword(found, source, at, b"switch", SWITCH)
 }
 
 // The kind of the keyword that the `len` bytes at `at` are, or Id.
@@ -116,14 +202,16 @@ pub fn keyword(source: &[u8], at: usize, len: usize) -> u8
     ensures { λ r. ⌜ r ≡ keywordOf (take len (drop at (now (source .entry)))) ⌝ }
 {
     let n = within(source, at, len);
-    match n {
-        2 => keyword_of_2(source, at),
-        3 => keyword_of_3(source, at),
-        4 => keyword_of_4(source, at),
-        5 => keyword_of_5(source, at),
-        6 => keyword_of_6(source, at),
-        7 => check_keyword(ID, source, at, b"finally", FINALLY),
-        8 => check_keyword(ID, source, at, b"continue", CONTINUE),
-        _ => ID,
+    if n < 2 {
+        return ID;
     }
+    if 8 < n {
+        return ID;
+    }
+    let word = word_at(place(n, source[at], source[at + 1]));
+    let text = word.text;
+    if starts_with(source, at, &text[..n]) {
+        return word.kind;
+    }
+    ID
 }

@@ -14,7 +14,7 @@ use lib.Seq.{getD-drop}
 use Rattle.base.specs.Pick.{pick}
 use Rattle.base.specs.PickLaws.{by-eq}
 use Rattle.words.specs.Words.{bytes, Entry, startsWith, firstIn}
-use Rattle.words.specs.WordsLaws.{narrowed}
+use Rattle.words.specs.WordsLaws.{narrowed, Outside, among, outside-other}
 use Rattle.symbols.specs.Symbols.{found, symbols, symbolIn, symbolOf}
 use Rattle.symbols.specs.Groups.{symbolsOf}
 use Rattle.symbols.specs.declared.SymbolAt.{SymbolAt}
@@ -30,20 +30,6 @@ not-first (c ∷ text) (b ∷ l) p h k = rw k
 -- the bytes that a symbol begins with, the greatest first, as the code's `match` leaves them behind
 abbrev pub firstBytes : List ℕ
 firstBytes = bytes "}|{^][@?>=<;:/.-,+*)(%!"
-
--- what such a `match` knows of the byte that it left over
-abbrev pub Outside : ℕ → List ℕ → Type 0
-Outside b [] = Unit
-Outside b (c ∷ cs) = Outside b cs × (b ≡ c → ⊥)
-
-abbrev among : ℕ → List ℕ → Bool
-among c [] = false
-among c (d ∷ cs) = pick (eqb c d) true (among c cs)
-
-outside-other : (b c : ℕ) (cs : List ℕ) → Outside b cs → among c cs ≡ true → eqb b c ≡ false
-outside-other b c [] o m = absurd (false≢true m)
-outside-other b c (d ∷ cs) o m =
-    by-eq (λ (t : Bool). t ≡ true → eqb b c ≡ false) c d (λ e _. ne-eqb b c (λ h. o .1 (h ∙ e))) (λ _ m. outside-other b c cs (o .0) m) m
 
 module _ (s : List ℕ) (at : ℕ) (h : at < length s) where
   first-byte : getD (drop at s) 0 0 ≡ getD s at 0

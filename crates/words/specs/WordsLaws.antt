@@ -4,16 +4,18 @@
 --     every, by-first                                  what holds of each entry that can be found holds of what is found
 --     narrowed                                         a search needs to look only at the entries that can pass
 --     ascii, ascii-at, otherKind                       what a table may say of its entries
+--     Outside, among, outside-other                    a number that a `match` left over is none of its numbers
 -- Assumes nothing.
-use mathlib.Core.Path.{_≡_, refl}
+use mathlib.Core.Path.{_≡_, refl, _∙_}
 use mathlib.Core.Bool.{Bool, true, false, not, _&&_, false≢true, and-eq-true-iff}
 use mathlib.Core.List.{List, [], _∷_}
 use Prim.Native.Nat.{ℕ, zero, suc, _≤_, _<_}
 use native.Mathlib.Omega.{arith}
 use lib.Dec.{eqb, ltb}
-use borrow.Author.Tests.{eqb-true, eq-eqb, ltb-true}
+use borrow.Author.Tests.{eqb-true, eq-eqb, ne-eqb, ltb-true}
 use lib.ListN.{length, getD, take}
-use Rattle.base.specs.PickLaws.{by-test}
+use Rattle.base.specs.Pick.{pick}
+use Rattle.base.specs.PickLaws.{by-test, by-eq}
 use Rattle.words.specs.Words.{isWord, startsWith, Entry, firstIn, only}
 
 -- ---- words
@@ -98,3 +100,19 @@ ascii-at (b ∷ l) (suc i) e h = ascii-at l i (and-eq-true-iff (ltb b 128) (asci
 -- an entry's kind is another
 abbrev pub otherKind : ℕ → Entry → Bool
 otherKind kind e = not (eqb (e .kind) kind)
+
+-- ---- what a `match` leaves over
+
+-- what a `match` on some numbers, the greatest first, knows of a number that it left over
+abbrev pub Outside : ℕ → List ℕ → Type 0
+Outside b [] = Unit
+Outside b (c ∷ cs) = Outside b cs × (b ≡ c → ⊥)
+
+abbrev pub among : ℕ → List ℕ → Bool
+among c [] = false
+among c (d ∷ cs) = pick (eqb c d) true (among c cs)
+
+pub outside-other : (b c : ℕ) (cs : List ℕ) → Outside b cs → among c cs ≡ true → eqb b c ≡ false
+outside-other b c [] o m = absurd (false≢true m)
+outside-other b c (d ∷ cs) o m =
+    by-eq (λ (t : Bool). t ≡ true → eqb b c ≡ false) c d (λ e _. ne-eqb b c (λ h. o .1 (h ∙ e))) (λ _ m. outside-other b c cs (o .0) m) m

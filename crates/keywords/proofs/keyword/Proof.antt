@@ -1,103 +1,92 @@
--- `keywords::keyword` meets its contract: only the keywords of the name's length can be the name. Assumes nothing.
-use mathlib.Core.Path.{_≡_, refl}
-use Prim.Native.Nat.{ℕ}
+-- `keywords::keyword` meets its contract: only the keyword that has the name's place can be the name. Assumes nothing.
+use mathlib.Core.Path.{_≡_, sym}
+use Prim.Native.Nat.{_+_, _≤_, _<_}
+use native.Mathlib.Omega.{arith}
 use borrow.Author.Needs.{needs}
-use borrow.Author.Tests.{ne-eqb}
-use lib.ListN.{take, drop}
-use Rattle.words.specs.Words.{firstIn}
+use lib.ListN.{length, take, drop, length-take, length-drop}
+use lib.Seq.{length-take-le}
+use Rattle.base.specs.Pick.{pick}
+use Rattle.token.specs.Kind.{id}
 use Rattle.keywords.specs.Keywords.{keywordOf}
-use Rattle.keywords.specs.Groups.{keywordsOf, keywordAt}
-use Rattle.keywords.proofs.Chain.{begun, next, done}
-use Rattle.keywords.proofs.Narrow.{by-keyword}
+use Rattle.keywords.proofs.Narrow.{by-length, eight, compared}
 use Rattle.keywords.proofs.keyword.Statement.{statement}
 use Rattle.keywords.proofs.keyword.Tie as tie
 
--- n is how many bytes the name has, and r what was answered of the keywords of n bytes
-arm : (p : tie.After-within) (n : ℕ) {r : ℕ} → p .within .result ≡ n → r ≡ keywordAt n (drop (p .before .before .args .at) (p .before .before .args .source .now))
-    → r ≡ keywordOf (take (p .before .before .args .len) (drop (p .before .before .args .at) (p .before .before .args .source .now)))
-arm p n = let a = p .before .before .args in by-keyword (drop (a .at) (a .source .now)) (a .len) n (p .within .ensures)
+-- the name's first two bytes are there
+inside : (p : tie.After-within) → 2 ≤ p .within .result → p .before .before .args .at + 1 < length (p .before .before .args .source .now)
+inside p h =
+    let a = p .before .before .args in
+    omega (arith, p .within .ensures, length-take (a .len) (drop (a .at) (a .source .now)), length-drop (a .at) (a .source .now))
+
+-- where the name's length was told, on the way to its word
+abbrev named : tie.After-word-at → tie.After-within
+named p = p .before .before .before .before .before .before
 
 within-requires : tie.Need-within-requires
 within-requires c κs = search needs
 
-keyword-of-2-requires : tie.Need-keyword-of-2-requires
-keyword-of-2-requires c κs = search needs
-
-keyword-of-3-requires : tie.Need-keyword-of-3-requires
-keyword-of-3-requires c κs = search needs
-
-keyword-of-4-requires : tie.Need-keyword-of-4-requires
-keyword-of-4-requires c κs = search needs
-
-keyword-of-5-requires : tie.Need-keyword-of-5-requires
-keyword-of-5-requires c κs = search needs
-
-keyword-of-6-requires : tie.Need-keyword-of-6-requires
-keyword-of-6-requires c κs = search needs
-
-slice-aggregate-check-keyword : tie.Need-slice-aggregate-check-keyword
-slice-aggregate-check-keyword c = search needs
-
-check-keyword-requires : tie.Need-check-keyword-requires
-check-keyword-requires c κs = search needs
-
-slice-aggregate-check-keyword-2 : tie.Need-slice-aggregate-check-keyword-2
-slice-aggregate-check-keyword-2 c = search needs
-
-check-keyword-requires-2 : tie.Need-check-keyword-requires-2
-check-keyword-requires-2 c κs = search needs
-
 returns : tie.Need-returns
-returns c = arm (c .before .before) 2 (c .before .match .keys1) (c .keyword-of-2 .ensures)
+returns c = by-length _ (λ h. omega (arith, h .0, c .before .within .ensures, c .if1 .taken))
 
 returns-2 : tie.Need-returns-2
-returns-2 c = arm (c .before .before) 3 (c .before .match .keys2) (c .keyword-of-3 .ensures)
+returns-2 c = by-length _ (λ h. omega (arith, h .1, c .before .before .within .ensures, c .if2 .taken))
+
+shared-slice-read-place : tie.Need-shared-slice-read-place
+shared-slice-read-place c = omega (arith, inside (c .before .before .before) (omega arith))
+
+add-place : tie.Need-add-place
+add-place c = omega (arith, inside (c .before .before .before) (omega arith))
+
+shared-slice-read-place-2 : tie.Need-shared-slice-read-place-2
+shared-slice-read-place-2 c = omega (arith, inside (c .before .before .before .before) (omega arith))
+
+place-requires : tie.Need-place-requires
+place-requires c κs = search needs
+
+word-at-requires : tie.Need-word-at-requires
+word-at-requires c κs = search needs
+
+array-share-prefix-text : tie.Need-array-share-prefix-text
+array-share-prefix-text c =
+    let p = c .before in
+    let a = named p .before .before .args in
+    omega (arith, eight (a .source .now) (a .at) (a .len) (named p .within .ensures) (omega arith) (omega arith) (p .before .place .ensures) (p .word-at .ensures))
+
+slice-aggregate-starts-with : tie.Need-slice-aggregate-starts-with
+slice-aggregate-starts-with c = sym (length-take-le _ _ (array-share-prefix-text (c .before)))
+
+starts-with-requires : tie.Need-starts-with-requires
+starts-with-requires c κs = search needs
+
+-- what the comparison says of the name
+said : (c : tie.After-starts-with) → let p = c .before .before .before in let a = named p .before .before .args in
+    pick (c .starts-with .result) (p .word-at .result .kind) id ≡ keywordOf (take (a .len) (drop (a .at) (a .source .now)))
+said c =
+    let p = c .before .before .before in
+    let a = named p .before .before .args in
+    compared (a .source .now) (a .at) (a .len) (named p .within .ensures) (omega arith) (omega arith) (p .before .place .ensures) (p .word-at .ensures)
+    (c .starts-with .ensures)
 
 returns-3 : tie.Need-returns-3
-returns-3 c = arm (c .before .before) 4 (c .before .match .keys3) (c .keyword-of-4 .ensures)
+returns-3 c = rw (c .if3 .taken) at (said (c .before))
 
 returns-4 : tie.Need-returns-4
-returns-4 c = arm (c .before .before) 5 (c .before .match .keys4) (c .keyword-of-5 .ensures)
-
-returns-5 : tie.Need-returns-5
-returns-5 c = arm (c .before .before) 6 (c .before .match .keys5) (c .keyword-of-6 .ensures)
-
-returns-6 : tie.Need-returns-6
-returns-6 c =
-    arm (c .before .before .before) 7 (c .before .before .match .keys6)
-    (begun _ (keywordsOf 7) (next _ _ _ _ refl (c .check-keyword .ensures) (done _ _)))
-
-returns-7 : tie.Need-returns-7
-returns-7 c =
-    arm (c .before .before .before) 8 (c .before .before .match .keys7)
-    (begun _ (keywordsOf 8) (next _ _ _ _ refl (c .check-keyword2 .ensures) (done _ _)))
-
-returns-8 : tie.Need-returns-8
-unfolding firstIn
-returns-8 c =
-    let no = c .match .rest in
-    arm (c .before) _ refl
-    (simp (ne-eqb _ 8 (no .1), ne-eqb _ 7 (no .0 .1), ne-eqb _ 6 (no .0 .0 .1), ne-eqb _ 5 (no .0 .0 .0 .1), ne-eqb _ 4 (no .0 .0 .0 .0 .1), ne-eqb _ 3 (no .0 .0 .0 .0 .0 .1), ne-eqb _ 2 (no .0 .0 .0 .0 .0 .0 .1)))
+returns-4 c = rw (c .if3 .left) at (said (c .before))
 
 pub keyword-spec : {M : Type 1} → statement M
 keyword-spec =
     tie.close
     (tie.spec
     within-requires
-    keyword-of-2-requires
-    keyword-of-3-requires
-    keyword-of-4-requires
-    keyword-of-5-requires
-    keyword-of-6-requires
-    slice-aggregate-check-keyword
-    check-keyword-requires
-    slice-aggregate-check-keyword-2
-    check-keyword-requires-2
     returns
     returns-2
+    shared-slice-read-place
+    add-place
+    shared-slice-read-place-2
+    place-requires
+    word-at-requires
+    array-share-prefix-text
+    slice-aggregate-starts-with
+    starts-with-requires
     returns-3
-    returns-4
-    returns-5
-    returns-6
-    returns-7
-    returns-8)
+    returns-4)

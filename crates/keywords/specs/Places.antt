@@ -1,0 +1,35 @@
+-- How the code finds its way in the table: each keyword has a place of its own, by its length and its first letters. Nothing outside this
+-- crate needs it: what a keyword is, `Keywords` says, and the code answers that (proofs/Narrow.antt).
+-- Assumes nothing.
+use mathlib.Core.List.{List, [], _∷_, _++_}
+use Prim.Native.Nat.{ℕ, _+_, _*_, _/_, _%_}
+use lib.Dec.{eqb}
+use lib.ListN.{length, getD, drop}
+use Rattle.token.specs.Kind.{id}
+use Rattle.words.specs.Words.{bytes, Entry, only}
+use Rattle.keywords.specs.Keywords.{keywords}
+use Rattle.keywords.specs.declared.Word.{Word}
+
+-- the place of a name of n bytes that begins with these two
+unfoldable pub placeBy : ℕ → ℕ → ℕ → ℕ
+placeBy n first second = (5 * first + 2 * (second / 2) + n) % 64
+
+abbrev pub placeOf : List ℕ → ℕ
+placeOf l = placeBy (length l) (getD l 0 0) (getD l 1 0)
+
+-- the keywords that have the place p
+unfoldable pub keywordsAt : ℕ → List Entry
+keywordsAt p = only (λ e. eqb p (placeOf (e .text))) keywords
+
+-- bytes filled up to eight with dots
+abbrev pub filled : List ℕ → List ℕ
+filled text = text ++ drop (length text) (bytes "........")
+
+-- the first of some keywords as the code keeps it
+abbrev pub firstWord : List Entry → Word
+firstWord [] = record { text = filled []; kind = id }
+firstWord (e ∷ es) = record { text = filled (e .text); kind = e .kind }
+
+-- the word that has the place p
+unfoldable pub wordAt : ℕ → Word
+wordAt p = firstWord (keywordsAt p)
