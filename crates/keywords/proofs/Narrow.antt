@@ -1,7 +1,7 @@
 -- A search in the table needs to look only at the keyword that has the name's place.
---     eight, compared    a name is compared with the word at its place
---     by-length     a name that is too short or too long is no keyword
---     by-none       a place that no keyword has
+--     compared, eight    a name is compared with the first bytes of the eight that stand at its place
+--     by-length          a name that is too short or too long is no keyword
+--     by-none            what stands at a place that no keyword has
 -- Assumes nothing.
 use mathlib.Core.Path.{_≡_, refl, sym, ap, _∙_}
 use mathlib.Core.Bool.{Bool, true, false, not, _&&_, _||_, false≢true, and-eq-true-iff}
@@ -10,7 +10,7 @@ use Prim.Native.Nat.{ℕ, _+_, _≤_, _<_}
 use native.Mathlib.Nat.{add-zero, mod-lt}
 use native.Mathlib.Omega.{arith}
 use lib.Dec.{eqb, ltb, leb}
-use borrow.Author.Tests.{eqb-true, eq-eqb, ne-eqb, le-ltb, leb-true}
+use borrow.Author.Tests.{eqb-true, eq-eqb, le-ltb, leb-true}
 use lib.ListN.{length, getD, take, drop, length-take}
 use lib.Seq.{take-append-seam, getD-take, getD-drop, length-take-le}
 use Rattle.base.specs.Pick.{pick}
@@ -18,10 +18,10 @@ use Rattle.base.specs.PickLaws.{by-test}
 use Rattle.base.specs.All.{allGood}
 use Rattle.base.specs.AllLaws.{good-at}
 use Rattle.token.specs.Kind.{id}
-use Rattle.words.specs.Words.{bytes, isWord, startsWith, Entry, firstIn, only}
+use Rattle.words.specs.Words.{isWord, startsWith, Entry, firstIn, only}
 use Rattle.words.specs.WordsLaws.{word-same, word-itself, every, by-first, narrowed, Outside, among, outside-other}
-use Rattle.keywords.specs.Keywords.{keywords, keywordOf}
 use Rattle.words.proofs.Compare.{by-start}
+use Rattle.keywords.specs.Keywords.{keywords, keywordOf}
 use Rattle.keywords.specs.Places.{placeBy, placeOf, keywordsAt, filled, firstWord, wordAt}
 use Rattle.keywords.specs.declared.Word.{Word}
 
@@ -30,11 +30,11 @@ same-when true b f g = sym (f refl)
 same-when false true f g = g refl
 same-when false false f g = refl
 
--- of the bytes that a keyword is filled up to, only the keyword itself has its place
+-- the first n of the bytes that a keyword is filled up to have its place only where they are the keyword
 abbrev alone : List ℕ → ℕ → Bool
 alone text n = ltb n 2 || (not (eqb (placeOf (take n (filled text))) (placeOf text)) || isWord text (take n (filled text)))
 
--- what the table says of each keyword
+-- what holds of each keyword
 abbrev fair : Entry → Bool
 fair e = allGood (alone (e .text)) 9
 
@@ -42,7 +42,7 @@ all-fair : every fair keywords ≡ true
 unfolding allGood isWord placeBy
 all-fair = refl
 
--- no two keywords have the same place, and what stands there is eight bytes long
+-- at most one keyword has the place p, and what stands there is eight bytes long
 abbrev fit : ℕ → Bool
 fit p = leb (length (keywordsAt p)) 1 && eqb (length (wordAt p .text)) 8
 
@@ -75,7 +75,7 @@ module _ (l : List ℕ) (some : 2 ≤ length l) (few : length l ≤ 8) where
       (λ t. sym k ∙ eq-eqb (placeOf l) (placeOf (e .text)) (ap placeOf (word-same (e .text) l t)))
       (λ t. absurd (false≢true t))
 
-  -- of at most one keyword
+  -- of at most one keyword, a search asks what the code asks
   of-one : (es : List Entry) → length es ≤ 1
       → firstIn (λ e. isWord (begun e) l) (λ e. e .kind) id es ≡ pick (isWord (take (length l) (firstWord es .text)) l) (firstWord es .kind) id
   unfolding firstIn

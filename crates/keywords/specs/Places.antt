@@ -1,5 +1,5 @@
--- How the code finds its way in the table: each keyword has a place of its own, by its length and its first letters. Nothing outside this
--- crate needs it: what a keyword is, `Keywords` says, and the code answers that (proofs/Narrow.antt).
+-- How the code finds its way in the table: each keyword has a place of its own, by its length and first letters. Nothing outside this crate
+-- needs it: what a keyword is, `Keywords` says, and the code answers that (proofs/Narrow.antt).
 -- Assumes nothing.
 use mathlib.Core.List.{List, [], _∷_, _++_}
 use Prim.Native.Nat.{ℕ, _+_, _*_, _/_, _%_}
@@ -25,11 +25,11 @@ keywordsAt p = only (λ e. eqb p (placeOf (e .text))) keywords
 abbrev pub filled : List ℕ → List ℕ
 filled text = text ++ drop (length text) (bytes "........")
 
--- the first of some keywords as the code keeps it
+-- the first of some keywords as it stands in the code; only dots, and Id, where there is none
 abbrev pub firstWord : List Entry → Word
 firstWord [] = record { text = filled []; kind = id }
 firstWord (e ∷ es) = record { text = filled (e .text); kind = e .kind }
 
--- the word that has the place p
+-- what stands at the place p
 unfoldable pub wordAt : ℕ → Word
 wordAt p = firstWord (keywordsAt p)

@@ -1,7 +1,7 @@
 // Which keyword a name is (lexer.rs `check_keyword!`).
 //
-// A name's length and its first letters give it one of 64 places, and no two keywords have the same. So a name is compared with one word at
-// most.
+// A name's length and first letters give it one of 64 places, and no two keywords have the same. So a name is compared with one word at most,
+// the one that stands at its place.
 ghost use mathlib.Core.Path.{_≡_};
 ghost use Prim.Native.Nat.{_≤_};
 ghost use lib.ListN.{take, drop};
@@ -43,13 +43,14 @@ use token::kinds::YIELD;
 use words::starts_with;
 use words::within;
 
-// A keyword: its bytes, filled up with dots, and its kind. Where there is none, the kind is Id.
+// What stands at a place: a keyword's bytes, filled up to eight with dots, and its kind; or only dots, and Id.
 struct Word {
     text: [u8; 8],
     kind: u8,
 }
 
-// The place of a name of `len` bytes that begins with these two.
+// The place of a name of `len` bytes that begins with these two. By length and first byte alone, "if" and "in", "then" and "true", "catch" and
+// "const" would have the same.
 fn place(len: usize, first: u8, second: u8) -> usize
     requires { ⌜ len ≤ 8 ⌝ }
     ensures { λ r. ⌜ r ≡ placeBy len first second ⌝ }
@@ -57,7 +58,7 @@ fn place(len: usize, first: u8, second: u8) -> usize
     (5 * (first as usize) + 2 * ((second as usize) / 2) + len) % 64
 }
 
-// The keyword that has the place.
+// What stands at a place. LLVM makes a table of constants of this; an array that is indexed would be built on the stack at each use.
 fn word_at(place: usize) -> Word
     ensures { λ r. ⌜ r ≡ wordAt place ⌝ }
 {

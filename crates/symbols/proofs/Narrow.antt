@@ -1,19 +1,16 @@
 -- A search in the table needs to look only at the entries that can pass.
 --     by-symbol, by-none, past-end     those that begin with the first byte; no entry does; there is no byte
 -- Assumes nothing.
-use mathlib.Core.Path.{_≡_, refl, sym, ap, _∙_}
-use mathlib.Core.Bool.{Bool, true, false, _&&_, false≢true, and-eq-true-iff}
+use mathlib.Core.Path.{_≡_, refl, ap, _∙_}
+use mathlib.Core.Bool.{true, false, _&&_, false≢true, and-eq-true-iff}
 use mathlib.Core.List.{List, [], _∷_}
 use Prim.Native.Nat.{ℕ, _≤_, _<_}
 use native.Mathlib.Nat.{add-zero}
 use native.Mathlib.Omega.{arith}
 use lib.Dec.{eqb, ltb}
-use borrow.Author.Tests.{ne-eqb}
 use lib.ListN.{length, getD, drop, length-drop, drop-of-length-le}
 use lib.Seq.{getD-drop}
-use Rattle.base.specs.Pick.{pick}
-use Rattle.base.specs.PickLaws.{by-eq}
-use Rattle.words.specs.Words.{bytes, Entry, startsWith, firstIn}
+use Rattle.words.specs.Words.{bytes, startsWith, firstIn}
 use Rattle.words.specs.WordsLaws.{narrowed, Outside, among, outside-other}
 use Rattle.symbols.specs.Symbols.{found, symbols, symbolIn, symbolOf}
 use Rattle.symbols.specs.Groups.{symbolsOf}
