@@ -65,3 +65,18 @@ mustQueue c n = leb n (c .queued) && hasMore c
 -- the cursor that has queued one more token
 unfoldable pub queuedOne : Cursor → Cursor
 queuedOne c = record { taken = c .taken; queued = c .queued + 1; count = c .count; status = c .status }
+
+-- ---- document 02, C-1: what a look at place n queues
+
+-- how many of m tokens are there, from the cursor on: at End no more than are left
+abbrev pub thereOf : Cursor → Status → ℕ → ℕ
+thereOf c End m = pick (ltb (c .count - c .taken) m) (c .count - c .taken) m
+thereOf c Stuck m = m
+
+-- how many are queued for it: so many as were, or n + 1 of those that are there, whichever is larger
+unfoldable pub queuedFor : Cursor → ℕ → ℕ
+queuedFor c n = pick (ltb (c .queued) (thereOf c (c .status) (n + 1))) (thereOf c (c .status) (n + 1)) (c .queued)
+
+-- the cursor that has so many queued
+abbrev pub queueing : Cursor → ℕ → Cursor
+queueing c m = record { taken = c .taken; queued = m; count = c .count; status = c .status }

@@ -1,8 +1,10 @@
 // A cursor over a scan's records (document 01, "Look-ahead"): which cursors are fit, which record each place means, and the cursor after a
 // token was handed out or queued. It knows records by their index alone: no list, and nothing of what a record says.
 ghost use mathlib.Core.Path.{_≡_};
-ghost use Prim.Native.Nat.{_-_, _≤_};
-ghost use Rattle.cursor.specs.Cursor.{queueMost, isFit, lastPlace, ahead, movedOn, mustQueue, queuedOne};
+ghost use Prim.Native.Nat.{_+_, _-_, _≤_};
+ghost use lib.Dec.{ltb};
+ghost use Rattle.base.specs.Pick.{pick};
+ghost use Rattle.cursor.specs.Cursor.{queueMost, isFit, lastPlace, ahead, movedOn, mustQueue, queuedOne, thereOf, queuedFor, queueing};
 
 // The most tokens that may be queued.
 pub const QUEUE_MOST: usize = 65_535;
@@ -33,6 +35,16 @@ fn lower(n: usize) -> usize
         return 0;
     }
     n - 1
+}
+
+// The larger of two.
+fn larger(m: usize, n: usize) -> usize
+    ensures { λ r. ⌜ r ≡ pick (ltb m n) n m ⌝ }
+{
+    if m < n {
+        return n;
+    }
+    m
 }
 
 impl Cursor {
@@ -114,6 +126,55 @@ impl Cursor {
         Cursor {
             taken: self.taken,
             queued: self.queued + 1,
+            count: self.count,
+            status,
+        }
+    }
+
+    // Would a look at place n queue more tokens than may be (document 02, C-1)?
+    pub fn overfills(self, n: usize) -> bool
+        requires { ⌜ (self .taken ≤ self .count) × (self .queued ≤ queueMost) ⌝ }
+        ensures { λ r. ⌜ r ≡ ltb queueMost (queuedFor self n) ⌝ }
+    {
+        if n < QUEUE_MOST {
+            return false;
+        }
+        let status = self.status;
+        match status {
+            Status::End => QUEUE_MOST < self.count - self.taken,
+            Status::Stuck => true,
+        }
+    }
+
+    // How many of n + 1 tokens are there.
+    fn there(self, n: usize) -> usize
+        requires { ⌜ (self .taken ≤ self .count) × (thereOf self (self .status) (n + 1) ≤ queueMost) ⌝ }
+        ensures { λ r. ⌜ r ≡ thereOf self (self .status) (n + 1) ⌝ }
+    {
+        let status = self.status;
+        match status {
+            Status::End => {
+                let left = self.count - self.taken;
+                if n < left {
+                    return n + 1;
+                }
+                left
+            }
+            Status::Stuck => n + 1,
+        }
+    }
+
+    // The cursor that has queued what a look at place n asks for: only what is lacking.
+    pub fn queued_for(self, n: usize) -> Cursor
+        requires { ⌜ (self .taken ≤ self .count) × (queuedFor self n ≤ queueMost) ⌝ }
+        ensures { λ r. ⌜ r ≡ queueing self (queuedFor self n) ⌝ }
+    {
+        let there = self.there(n);
+        let queued = larger(self.queued, there);
+        let status = self.status;
+        Cursor {
+            taken: self.taken,
+            queued,
             count: self.count,
             status,
         }

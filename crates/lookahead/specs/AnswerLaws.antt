@@ -5,19 +5,22 @@
 --     queued-row, queued-bad, queued-none            queued token n, by what is shown there
 --     next-row, next-bad, next-none                  `next`, by what is shown there
 --     peek-far, peek-as-is, peek-full, peek-more     `peek`, by its tests
+--     look-unfit, look-full, look-is                 `look_ahead`, by its tests
 -- Assumes nothing.
 use Prim.Native.Nat.{ℕ, _+_, _≤_, _<_}
 use mathlib.Core.Path.{_≡_, refl, sym}
 use mathlib.Core.Bool.{true, false}
+use lib.Dec.{ltb}
 use borrow.Author.Tests.{lt-ltb, le-ltb, eq-eqb, ne-eqb}
 use Rattle.rows.specs.declared.Row.{Row}
 use Rattle.rows.specs.declared.RowAt.{RowAt}
 use Rattle.rows.specs.declared.RowAt.the-variants.{Fit, Unfit}
-use Rattle.cursor.specs.Cursor.{queueMost, isFit, ahead, movedOn, mustQueue, queuedOne}
+use Rattle.cursor.specs.Cursor.{queueMost, isFit, ahead, movedOn, mustQueue, queuedOne, queuedFor, queueing}
 use Rattle.cursor.specs.declared.Cursor.{Cursor}
 use Rattle.lookahead.specs.Seen.{seenAt}
 use Rattle.lookahead.specs.Next.{givenBy, nextOf}
 use Rattle.lookahead.specs.Peek.{shownBy, queuedAt, peekOf}
+use Rattle.lookahead.specs.LookAhead.{lookAheadOf}
 use Rattle.lookahead.specs.declared.Seen.{Seen}
 use Rattle.lookahead.specs.declared.Seen.the-variants as seen
 use Rattle.lookahead.specs.declared.Given.{Given}
@@ -94,7 +97,25 @@ module _ (room : ℕ) (shown : ℕ → RowAt) (c : Cursor) (n : ℕ) (f : isFit 
     unfolding peekOf
     peek-more m q = rw (f, le-ltb (c .queued + 1) n h, m, ne-eqb (c .queued) queueMost q)
 
--- ---- both, by what is shown there
+-- ---- `look_ahead`
+
+module _ (room : ℕ) (shown : ℕ → RowAt) (c : Cursor) (n : ℕ) where
+  pub look-unfit : isFit room c ≡ false → peeked.BadState ≡ lookAheadOf room shown c n
+  unfolding lookAheadOf
+  look-unfit f = rw f
+
+  module _ (f : isFit room c ≡ true) where
+    pub look-full : ltb queueMost (queuedFor c n) ≡ true → peeked.QueueFull ≡ lookAheadOf room shown c n
+    unfolding lookAheadOf
+    look-full h = rw (f, h)
+
+    -- by what is seen, with the cursor that has queued what is lacking
+    pub look-is : ltb queueMost (queuedFor c n) ≡ false → {d : Cursor} {s : Seen} {v : Peeked} → d ≡ queueing c (queuedFor c n)
+        → s ≡ seenAt shown c n → v ≡ shownBy d s → v ≡ lookAheadOf room shown c n
+    unfolding lookAheadOf
+    look-is h {v = v} e q z = rw (f, h, ← e, ← q) z
+
+-- ---- `next` and `peek`, by what is shown there
 
 module _ (shown : ℕ → RowAt) (c : Cursor) (n : ℕ) {i : ℕ} (e : ahead c n ≡ i) (h : i < c .count) (q : n < c .queued) where
   pub queued-row : {row : Row} → shown i ≡ Fit row → peeked.Token row c ≡ queuedAt shown c n

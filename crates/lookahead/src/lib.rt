@@ -1,4 +1,5 @@
-// A scan's tokens one by one, and looking ahead: `next` and `peek` of lexer.rs's `KotoLexer`, over the list that a scan has written.
+// A scan's tokens one by one, and looking ahead: `next` and `peek` of lexer.rs's `KotoLexer`, over the list that a scan has written; and
+// `look_ahead`, which looks as the comment there says (document 02, C-1).
 //
 // The Rust keeps the tokens that it has looked at in a `VecDeque`. Here the list has all of them, so the queue is two numbers over it: the
 // queued tokens are those from `taken` on. This crate shows records through the crate `rows`, and knows neither a record's words nor what
@@ -10,7 +11,8 @@ ghost use Prim.Native.Nat.{_≤_};
 ghost use Rattle.rows.specs.Row.{room, shownAt};
 ghost use Rattle.lookahead.specs.Seen.{seenAt};
 ghost use Rattle.lookahead.specs.Next.{nextOf};
-ghost use Rattle.lookahead.specs.Peek.{queuedAt, peekOf};
+ghost use Rattle.lookahead.specs.Peek.{shownBy, queuedAt, peekOf};
+ghost use Rattle.lookahead.specs.LookAhead.{lookAheadOf};
 use cursor::Cursor;
 use cursor::QUEUE_MOST;
 use rows::Row;
@@ -34,14 +36,14 @@ pub enum Given {
     BadRecord(usize),
 }
 
-// What `peek` answers. A refusal leaves the cursor, so it has none.
+// What `peek` and `look_ahead` answer. A refusal leaves the cursor, so it has none.
 pub enum Peeked {
     Token { row: Row, cursor: Cursor },
-    // No token n is queued. One may have been queued all the same.
+    // There is no token n, or `peek` has not queued it. Some may have been queued all the same.
     Nothing { cursor: Cursor },
     // Refusal 8: the cursor is unfit for this list.
     BadState,
-    // Refusal 6: n is over queued + 1, where the Rust's subtraction underflows.
+    // Refusal 6, of `peek` alone: n is over queued + 1, where the Rust's subtraction underflows.
     PeekTooFar,
     // Refusal 7: a token must be queued, and no more may be.
     QueueFull,
@@ -81,17 +83,24 @@ pub fn next(list: &[u32], cursor: Cursor) -> Given
     }
 }
 
+// What was seen is shown.
+fn show(cursor: Cursor, seen: Seen) -> Peeked
+    ensures { λ r. ⌜ r ≡ shownBy cursor seen ⌝ }
+{
+    match seen {
+        Seen::Token(row) => Peeked::Token { row, cursor },
+        Seen::Nothing => Peeked::Nothing { cursor },
+        Seen::BadRecord(i) => Peeked::BadRecord(i),
+    }
+}
+
 // Shows queued token n, or that not so many are queued.
 fn queued_at(list: &[u32], cursor: Cursor, n: usize) -> Peeked
     requires { ⌜ cursor .count ≤ room (now list) ⌝ }
     ensures { λ r. ⌜ r ≡ queuedAt (shownAt (now (list .entry))) cursor n ⌝ }
 {
     if n < cursor.queued {
-        return match see(list, cursor, n) {
-            Seen::Token(row) => Peeked::Token { row, cursor },
-            Seen::Nothing => Peeked::Nothing { cursor },
-            Seen::BadRecord(i) => Peeked::BadRecord(i),
-        };
+        return show(cursor, see(list, cursor, n));
     }
     Peeked::Nothing { cursor }
 }
@@ -114,4 +123,19 @@ pub fn peek(list: &[u32], cursor: Cursor, n: usize) -> Peeked
         return Peeked::QueueFull;
     }
     queued_at(list, cursor.queued_one(), n)
+}
+
+// Shows the token that the (n+1)th following `next` would hand out, and queues what is lacking for it. Refused are an unfit cursor, then more
+// tokens than may be queued, then a record that may not be shown.
+pub fn look_ahead(list: &[u32], cursor: Cursor, n: usize) -> Peeked
+    ensures { λ r. ⌜ r ≡ lookAheadOf (room (now (list .entry))) (shownAt (now (list .entry))) cursor n ⌝ }
+{
+    if !cursor.is_fit(rows::room(list)) {
+        return Peeked::BadState;
+    }
+    if cursor.overfills(n) {
+        return Peeked::QueueFull;
+    }
+    let after = cursor.queued_for(n);
+    show(after, see(list, cursor, n))
 }
