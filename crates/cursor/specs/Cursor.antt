@@ -68,14 +68,18 @@ queuedOne c = record { taken = c .taken; queued = c .queued + 1; count = c .coun
 
 -- ---- document 02, C-1: what a look at place n queues
 
--- how many of m tokens are there, from the cursor on: at End no more than are left
-abbrev pub thereOf : Cursor → Status → ℕ → ℕ
-thereOf c End m = pick (ltb (c .count - c .taken) m) (c .count - c .taken) m
-thereOf c Stuck m = m
+-- how many of m tokens are there, where so many records are left: at End no more than those
+abbrev pub thereOf : ℕ → Status → ℕ → ℕ
+thereOf left End m = pick (ltb left m) left m
+thereOf left Stuck m = m
+
+-- of m tokens from the cursor on
+abbrev pub there : Cursor → ℕ → ℕ
+there c m = thereOf (c .count - c .taken) (c .status) m
 
 -- how many are queued for it: so many as were, or n + 1 of those that are there, whichever is larger
 unfoldable pub queuedFor : Cursor → ℕ → ℕ
-queuedFor c n = pick (ltb (c .queued) (thereOf c (c .status) (n + 1))) (thereOf c (c .status) (n + 1)) (c .queued)
+queuedFor c n = pick (ltb (c .queued) (there c (n + 1))) (there c (n + 1)) (c .queued)
 
 -- the cursor that has so many queued
 abbrev pub queueing : Cursor → ℕ → Cursor

@@ -21,7 +21,7 @@ use mathlib.Core.Bool.{true, false, false≢true, and-eq-true-iff}
 use lib.Dec.{leb, ltb}
 use borrow.Author.Tests.{ltb-true, ltb-false, leb-true, lt-ltb, le-ltb, le-leb}
 use Rattle.base.specs.PickLaws.{by-lt, split-lt, is-second}
-use Rattle.cursor.specs.Cursor.{queueMost, fitBy, isFit, startCursor, lastPlace, recordAt, ahead, movedOn, hasMore, mustQueue, queuedOne, thereOf, queuedFor, queueing}
+use Rattle.cursor.specs.Cursor.{queueMost, fitBy, isFit, startCursor, lastPlace, recordAt, ahead, movedOn, hasMore, mustQueue, queuedOne, thereOf, there, queuedFor, queueing}
 use Rattle.cursor.specs.declared.Status.{Status}
 use Rattle.cursor.specs.declared.Status.the-variants.{End, Stuck}
 use Rattle.cursor.specs.declared.Cursor.{Cursor}
@@ -184,33 +184,32 @@ must-both c n e = let tests = and-eq-true-iff (leb n (c .queued)) (hasMore c) .0
 -- ---- what a look at place n queues
 
 -- the smaller of m and of what is left
-pub there-end : (c : Cursor) (m : ℕ) → thereOf c End m ≡ m - (m - (c .count - c .taken))
-there-end c m =
-    by-lt (λ (r : ℕ). r ≡ m - (m - (c .count - c .taken))) (c .count - c .taken) m (λ h. omega arith) (λ h. omega arith)
+pub there-end : (left m : ℕ) → thereOf left End m ≡ m - (m - left)
+there-end left m = by-lt (λ (r : ℕ). r ≡ m - (m - left)) left m (λ h. omega arith) (λ h. omega arith)
 
-pub there-most : (c : Cursor) (s : Status) (m : ℕ) → thereOf c s m ≤ m
-there-most c End m = omega (arith, there-end c m)
-there-most c Stuck m = omega arith
+pub there-most : (left : ℕ) (s : Status) (m : ℕ) → thereOf left s m ≤ m
+there-most left End m = omega (arith, there-end left m)
+there-most left Stuck m = omega arith
 
 -- the larger of what is queued and of what is there
-pub queued-for : (c : Cursor) (n : ℕ) {s : Status} → c .status ≡ s → queuedFor c n ≡ c .queued + (thereOf c s (n + 1) - c .queued)
+pub queued-for : (c : Cursor) (n : ℕ) {s : Status} → c .status ≡ s
+    → queuedFor c n ≡ c .queued + (thereOf (c .count - c .taken) s (n + 1) - c .queued)
 unfolding queuedFor
 queued-for c n e =
     rw (← e)
-    (by-lt (λ (r : ℕ). r ≡ c .queued + (thereOf c (c .status) (n + 1) - c .queued)) (c .queued) (thereOf c (c .status) (n + 1))
-    (λ h. omega arith) (λ h. omega arith))
+    (by-lt (λ (r : ℕ). r ≡ c .queued + (there c (n + 1) - c .queued)) (c .queued) (there c (n + 1)) (λ h. omega arith) (λ h. omega arith))
 
 module _ (c : Cursor) (n : ℕ) where
-  pub there-all : c .status ≡ End → n < c .count - c .taken → n + 1 ≡ thereOf c (c .status) (n + 1)
+  pub there-all : c .status ≡ End → n < c .count - c .taken → n + 1 ≡ there c (n + 1)
   there-all e h = rw (e, le-ltb (c .count - c .taken) (n + 1) (omega arith))
 
-  pub there-left : c .status ≡ End → c .count - c .taken ≤ n → c .count - c .taken ≡ thereOf c (c .status) (n + 1)
+  pub there-left : c .status ≡ End → c .count - c .taken ≤ n → c .count - c .taken ≡ there c (n + 1)
   there-left e h = rw (e, lt-ltb (c .count - c .taken) (n + 1) (omega arith))
 
-  pub there-stuck : c .status ≡ Stuck → n + 1 ≡ thereOf c (c .status) (n + 1)
+  pub there-stuck : c .status ≡ Stuck → n + 1 ≡ there c (n + 1)
   there-stuck e = rw e
 
-  pub there-queued : thereOf c (c .status) (n + 1) ≤ queuedFor c n
+  pub there-queued : there c (n + 1) ≤ queuedFor c n
   there-queued = omega (arith, queued-for c n refl)
 
 pub queueing-fits : (room : ℕ) (c : Cursor) (n : ℕ) → isFit room c ≡ true → queuedFor c n ≤ queueMost
@@ -223,19 +222,20 @@ queueing-fits room c n f h =
     go : (s : Status) → c .status ≡ s → fitBy c s ≡ true → fitBy (queueing c (queuedFor c n)) s ≡ true
     go End e b =
         le-leb (queuedFor c n) (c .count - c .taken)
-        (omega (arith, queued-for c n e, there-end c (n + 1), leb-true (c .queued) (c .count - c .taken) b))
+        (omega (arith, queued-for c n e, there-end (c .count - c .taken) (n + 1), leb-true (c .queued) (c .count - c .taken) b))
     go Stuck e b = b
 
 module _ (c : Cursor) (n : ℕ) (q : c .queued ≤ queueMost) where
   pub over-none : n < queueMost → ltb queueMost (queuedFor c n) ≡ false
-  over-none h = le-ltb queueMost (queuedFor c n) (omega (arith, queued-for c n refl, there-most c (c .status) (n + 1)))
+  over-none h = le-ltb queueMost (queuedFor c n) (omega (arith, queued-for c n refl, there-most (c .count - c .taken) (c .status) (n + 1)))
 
   module _ (h : queueMost ≤ n) where
     pub over-end : c .status ≡ End → ltb queueMost (queuedFor c n) ≡ ltb queueMost (c .count - c .taken)
     over-end e =
-        split-lt queueMost (c .count - c .taken)
-        (λ k. lt-ltb queueMost (queuedFor c n) (omega (arith, queued-for c n e, there-end c (n + 1))) ∙ sym (lt-ltb queueMost (c .count - c .taken) k))
-        (λ k. le-ltb queueMost (queuedFor c n) (omega (arith, queued-for c n e, there-end c (n + 1))) ∙ sym (le-ltb queueMost (c .count - c .taken) k))
+        let left = c .count - c .taken in
+        split-lt queueMost left
+        (λ k. lt-ltb queueMost (queuedFor c n) (omega (arith, queued-for c n e, there-end left (n + 1))) ∙ sym (lt-ltb queueMost left k))
+        (λ k. le-ltb queueMost (queuedFor c n) (omega (arith, queued-for c n e, there-end left (n + 1))) ∙ sym (le-ltb queueMost left k))
 
     pub over-stuck : c .status ≡ Stuck → ltb queueMost (queuedFor c n) ≡ true
     over-stuck e = lt-ltb queueMost (queuedFor c n) (omega (arith, queued-for c n e))

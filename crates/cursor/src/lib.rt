@@ -4,7 +4,7 @@ ghost use mathlib.Core.Path.{_≡_};
 ghost use Prim.Native.Nat.{_+_, _-_, _≤_};
 ghost use lib.Dec.{ltb};
 ghost use Rattle.base.specs.Pick.{pick};
-ghost use Rattle.cursor.specs.Cursor.{queueMost, isFit, lastPlace, ahead, movedOn, mustQueue, queuedOne, thereOf, queuedFor, queueing};
+ghost use Rattle.cursor.specs.Cursor.{queueMost, isFit, lastPlace, ahead, movedOn, mustQueue, queuedOne, there, queuedFor, queueing};
 
 // The most tokens that may be queued.
 pub const QUEUE_MOST: usize = 65_535;
@@ -148,8 +148,8 @@ impl Cursor {
 
     // How many of n + 1 tokens are there.
     fn there(self, n: usize) -> usize
-        requires { ⌜ (self .taken ≤ self .count) × (thereOf self (self .status) (n + 1) ≤ queueMost) ⌝ }
-        ensures { λ r. ⌜ r ≡ thereOf self (self .status) (n + 1) ⌝ }
+        requires { ⌜ (self .taken ≤ self .count) × (there self (n + 1) ≤ queueMost) ⌝ }
+        ensures { λ r. ⌜ r ≡ there self (n + 1) ⌝ }
     {
         let status = self.status;
         match status {

@@ -6,16 +6,22 @@
 --     next-row, next-bad, next-none                  `next`, by what is shown there
 --     peek-far, peek-as-is, peek-full, peek-more     `peek`, by its tests
 --     look-unfit, look-full, look-is                 `look_ahead`, by its tests
+--     look-queued                                    it shows queued token n of the cursor that has queued what is lacking
 -- Assumes nothing.
-use Prim.Native.Nat.{ℕ, _+_, _≤_, _<_}
-use mathlib.Core.Path.{_≡_, refl, sym}
+use Prim.Native.Nat.{ℕ, _+_, _-_, _≤_, _<_}
+use native.Mathlib.Omega.{arith}
+use mathlib.Core.Path.{_≡_, refl, sym, _∙_}
 use mathlib.Core.Bool.{true, false}
 use lib.Dec.{ltb}
 use borrow.Author.Tests.{lt-ltb, le-ltb, eq-eqb, ne-eqb}
+use Rattle.base.specs.PickLaws.{split-lt}
 use Rattle.rows.specs.declared.Row.{Row}
 use Rattle.rows.specs.declared.RowAt.{RowAt}
 use Rattle.rows.specs.declared.RowAt.the-variants.{Fit, Unfit}
-use Rattle.cursor.specs.Cursor.{queueMost, isFit, ahead, movedOn, mustQueue, queuedOne, queuedFor, queueing}
+use Rattle.cursor.specs.Cursor.{queueMost, isFit, recordAt, ahead, movedOn, mustQueue, queuedOne, queuedFor, queueing}
+use Rattle.cursor.specs.CursorLaws.{record-at, there-end, queued-for}
+use Rattle.cursor.specs.declared.Status.{Status}
+use Rattle.cursor.specs.declared.Status.the-variants.{End, Stuck}
 use Rattle.cursor.specs.declared.Cursor.{Cursor}
 use Rattle.lookahead.specs.Seen.{seenAt}
 use Rattle.lookahead.specs.Next.{givenBy, nextOf}
@@ -137,3 +143,20 @@ module _ (room : ℕ) (shown : ℕ → RowAt) (c : Cursor) (f : isFit room c ≡
 
   pub next-none : c .count ≤ i → given.Nothing ≡ nextOf room shown c
   next-none h = next-is room shown c f (see-nothing shown c 0 (sym e) h) refl
+
+-- ---- `look_ahead`, by what is queued
+
+-- where a look has queued no token n there is none
+none-there : (c : Cursor) (n : ℕ) → queuedFor c n ≤ n → (s : Status) → c .status ≡ s → c .count ≤ recordAt (c .count) s (c .taken + n)
+none-there c n h End e = omega (arith, queued-for c n e, there-end (c .count - c .taken) (n + 1), record-at (c .count) End (c .taken + n))
+none-there c n h Stuck e = absurd (omega (arith, queued-for c n e))
+
+pub look-queued : (room : ℕ) (shown : ℕ → RowAt) (c : Cursor) (n : ℕ) → isFit room c ≡ true → ltb queueMost (queuedFor c n) ≡ false
+    → queuedAt shown (queueing c (queuedFor c n)) n ≡ lookAheadOf room shown c n
+unfolding seenAt
+look-queued room shown c n f h =
+    split-lt n (queuedFor c n)
+    (λ k. sym (show-is shown (queueing c (queuedFor c n)) n k refl refl) ∙ look-is room shown c n f h refl refl refl)
+    (λ k.
+    let e = see-nothing shown c n refl (none-there c n k (c .status) refl) in
+    sym (queued-none shown (queueing c (queuedFor c n)) n k) ∙ look-is room shown c n f h refl e refl)

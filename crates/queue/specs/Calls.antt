@@ -1,4 +1,4 @@
--- Sequences of `next` and `peek`, here and in the Rust, and when a cursor stands for the Rust's lexer. As a cursor does, they go over a
+-- Sequences of `next`, `peek` and `look_ahead`, here and over the Rust's queue, and when a cursor stands for the Rust's lexer. As a cursor does, they go over a
 -- list that has room for so many records and shows these (`room`, `shown`).
 -- Assumes nothing.
 use Prim.Native.Nat.{ℕ, _+_, _<_}
@@ -17,7 +17,8 @@ use Rattle.lookahead.specs.Next as ofNext
 use Rattle.lookahead.specs.Next.{nextOf}
 use Rattle.lookahead.specs.Peek as ofPeek
 use Rattle.lookahead.specs.Peek.{peekOf}
-use Rattle.queue.specs.Queue.{KotoLexer, Answered, Stream, get, rustNext, rustPeek}
+use Rattle.lookahead.specs.LookAhead.{lookAheadOf}
+use Rattle.queue.specs.Queue.{KotoLexer, Answered, Stream, get, rustNext, rustPeek, commentLook}
 use Rattle.cursor.specs.declared.Status.{Status}
 use Rattle.cursor.specs.declared.Cursor.{Cursor}
 use Rattle.lookahead.specs.declared.Given.{Given}
@@ -25,10 +26,11 @@ use Rattle.lookahead.specs.declared.Given.the-variants as given
 use Rattle.lookahead.specs.declared.Peeked.{Peeked}
 use Rattle.lookahead.specs.declared.Peeked.the-variants as peeked
 
--- one of the two calls
+-- one of the calls
 pub data Call : Type 0 where
   next : Call
   peek : ℕ → Call
+  lookAhead : ℕ → Call
 
 -- ---- here
 
@@ -52,7 +54,7 @@ givenCursor c given.Nothing = c
 givenCursor c given.BadState = c
 givenCursor c (given.BadRecord i) = c
 
--- the token that `peek` shows
+-- the token that `peek` or `look_ahead` shows
 abbrev pub peekedToken : Peeked → Option Row
 peekedToken (peeked.Token row after) = some row
 peekedToken (peeked.Nothing after) = option.none
@@ -74,7 +76,7 @@ peekedCursor c (peeked.BadRecord i) = c
 abbrev pub ofGiven : Cursor → Given → Outcome
 ofGiven c r = record { number = ofNext.numberOf r; token = givenToken r; cursor = givenCursor c r }
 
--- an answer of `peek`
+-- an answer of `peek` or `look_ahead`
 abbrev pub ofPeeked : Cursor → Peeked → Outcome
 ofPeeked c r = record { number = ofPeek.numberOf r; token = peekedToken r; cursor = peekedCursor c r }
 
@@ -82,6 +84,7 @@ ofPeeked c r = record { number = ofPeek.numberOf r; token = peekedToken r; curso
 abbrev pub call : ℕ → (ℕ → RowAt) → Cursor → Call → Outcome
 call room shown c next = ofGiven c (nextOf room shown c)
 call room shown c (peek n) = ofPeeked c (peekOf room shown c n)
+call room shown c (lookAhead n) = ofPeeked c (lookAheadOf room shown c n)
 
 -- the cursor after some calls
 unfoldable pub afterCalls : ℕ → (ℕ → RowAt) → Cursor → List Call → Cursor
@@ -102,6 +105,7 @@ Unrefused room shown c (x ∷ calls) = (call room shown c x .number ≡ none) ×
 abbrev pub isNext : Call → ℕ
 isNext next = 1
 isNext (peek n) = 0
+isNext (lookAhead n) = 0
 
 -- how many of them are `next`
 unfoldable pub nexts : List Call → ℕ
@@ -121,10 +125,11 @@ pub record Stands (room count : ℕ) (status : Status) (i : ℕ) (c : Cursor) : 
 
 -- ---- in the Rust
 
--- a call
+-- a call; its look-ahead is the comment's
 abbrev pub rustCall : Stream → KotoLexer → Call → Answered
 rustCall stream k next = rustNext stream k
 rustCall stream k (peek n) = rustPeek stream k n
+rustCall stream k (lookAhead n) = commentLook stream k n
 
 -- the lexer after some calls
 unfoldable pub rustAfter : Stream → KotoLexer → List Call → KotoLexer

@@ -17,17 +17,18 @@ use lib.ListN.{length}
 use Rattle.base.specs.Refusal.{none, peekTooFar, queueFull, badState, badRecord}
 use Rattle.rows.specs.declared.Row.{Row}
 use Rattle.rows.specs.declared.RowAt.{RowAt}
-use Rattle.cursor.specs.Cursor.{isFit, startCursor, recordAt, ahead, movedOn, queuedOne}
-use Rattle.cursor.specs.CursorLaws.{record-at, held-plus, last-most, taken-held, moved-fits, queued-fits, must-both}
+use Rattle.cursor.specs.Cursor.{isFit, startCursor, recordAt, ahead, movedOn, queuedOne, queuedFor, queueing}
+use Rattle.cursor.specs.CursorLaws.{record-at, held-plus, last-most, taken-held, moved-fits, queued-fits, queueing-fits, must-both}
 use Rattle.lookahead.specs.Next.{nextOf}
 use Rattle.lookahead.specs.Peek.{queuedAt, peekOf}
+use Rattle.lookahead.specs.LookAhead.{lookAheadOf}
 use Rattle.cursor.specs.declared.Status.{Status}
 use Rattle.cursor.specs.declared.Cursor.{Cursor}
 use Rattle.lookahead.specs.declared.Given.{Given}
 use Rattle.lookahead.specs.declared.Peeked.{Peeked}
 use Rattle.queue.specs.Queue.{get}
-use Rattle.queue.specs.Calls.{Call, next, peek, Outcome, ofGiven, ofPeeked, call, afterCalls, isNext, nexts, Shows, Stands}
-use Rattle.queue.specs.StreamLaws.{get-past, by-next, by-queued, by-peek}
+use Rattle.queue.specs.Calls.{Call, next, peek, lookAhead, Outcome, ofGiven, ofPeeked, call, afterCalls, isNext, nexts, Shows, Stands}
+use Rattle.queue.specs.StreamLaws.{get-past, by-next, by-queued, by-peek, by-look}
 
 -- what a call leaves: the cursor is fit for the same records, m places on, and no refusal 8 or 9 was given
 pub record Leaves (room : ℕ) (c : Cursor) (m : ℕ) (o : Outcome) : Type 0 where
@@ -101,9 +102,17 @@ module _ (room : ℕ) (shown : ℕ → RowAt) (rows : List Row) (w : Shows shown
         (λ m q. queued-leaves (queuedOne c) (queued-fits room c f (must-both c n m .1) q) refl refl refl n)
         (λ m h. queued-leaves c f refl refl refl n)
 
+    -- and so does 7 of a look ahead
+    look-leaves : (n : ℕ) → Leaves room c 0 (ofPeeked c (lookAheadOf room shown c n))
+    look-leaves n =
+        by-look room shown c f (λ (r : Peeked). Leaves room c 0 (ofPeeked c r)) n
+        (λ h. same-place c f refl refl refl queueFull option.none (λ z. omega arith) (λ z. omega arith))
+        (λ h. queued-leaves (queueing c (queuedFor c n)) (queueing-fits room c n f h) refl refl refl n)
+
     pub call-leaves : (x : Call) → Leaves room c (isNext x) (call room shown c x)
     call-leaves next = next-leaves
     call-leaves (peek n) = peek-leaves n
+    call-leaves (lookAhead n) = look-leaves n
 
 -- ---- where the cursor stands
 

@@ -1,6 +1,6 @@
 -- lexer.rs `KotoLexer`, line by line: `next` and `peek` over a queue. The `TokenLexer` inside it is known by its stream, which is what its
 -- calls answer one after the other, and by how many were made; the crate `rust` has the stream of a source. `QueueLaws` proves that a
--- cursor says the same.
+-- cursor says the same. Beside them stands the look-ahead that the comment there describes.
 -- Assumes nothing.
 use Prim.Native.Nat.{ℕ, zero, suc, _+_, _-_}
 use mathlib.Core.Bool.{Bool}
@@ -79,4 +79,16 @@ addTokens stream (suc m) k =
 unfoldable pub rustPeek : Stream → KotoLexer → ℕ → Answered
 rustPeek stream k n =
     let after : KotoLexer = addTokens stream (tokensToAdd n (length (k .«token_queue»))) k in
+    record { token = get (after .«token_queue») n; after = after }
+
+-- ---- not in lexer.rs: document 02, C-1, over the same queue, as the comment of `peek_n` says it
+
+-- how many tokens a queue of so many lacks for its token n
+abbrev pub lacking : ℕ → ℕ → ℕ
+lacking n len = n + 1 - len
+
+-- so many are added, as `peek` adds them, and then `token_queue.get(n)`
+unfoldable pub commentLook : Stream → KotoLexer → ℕ → Answered
+commentLook stream k n =
+    let after : KotoLexer = addTokens stream (lacking n (length (k .«token_queue»))) k in
     record { token = get (after .«token_queue») n; after = after }

@@ -1,39 +1,41 @@
 -- A cursor says what the Rust's lexer says, call by call, over a list that shows rows which stand for the lexer's stream.
 --     start-mirrors            the cursor of a scan's answer stands for a new lexer
---     next-agrees, peek-agrees, call-agrees    a call that is not refused answers the same token, or none, and leads on
+--     next-agrees, peek-agrees, look-agrees, call-agrees    a call that is not refused answers the same token, or none, and leads on
 --     calls-agree, calls-mirror    so does every sequence of such calls
 --     far-underflows           refusal 6 is given exactly where the Rust's subtraction underflows
 --     full-queued              refusal 7 only where 65,535 tokens are queued
 -- Assumes nothing.
-use Prim.Native.Nat.{ℕ, suc, _+_, _-_, _≤_, _<_}
+use Prim.Native.Nat.{ℕ, zero, suc, _+_, _-_, _≤_, _<_}
 use native.Mathlib.Omega.{arith}
 use mathlib.Core.Path.{_≡_, refl, sym, ap, subst, _∙_}
-use mathlib.Core.Bool.{true, false}
+use mathlib.Core.Bool.{Bool, true, false}
 use mathlib.Core.List.{List, [], _∷_}
 use mathlib.Core.Option.{Option, some}
 use mathlib.Core.Option as option
 use lib.ListN.{length, length-append}
-use borrow.Author.Tests.{ltb-true, ltb-false, lt-ltb, le-ltb, le-leb}
+use borrow.Author.Tests.{ltb-true, ltb-false, leb-true, lt-ltb, le-ltb, le-leb}
 use Rattle.base.specs.PickLaws.{by-lt, split-lt}
 use Rattle.base.specs.Refusal.{none, peekTooFar, queueFull}
 use Rattle.rows.specs.declared.Row.{Row}
 use Rattle.rows.specs.declared.RowAt.{RowAt}
-use Rattle.cursor.specs.Cursor.{queueMost, isFit, startCursor, recordAt, ahead, movedOn, hasMore, mustQueue, queuedOne}
-use Rattle.cursor.specs.CursorLaws.{record-at, last-most, held-plus, same-plus, moved-fits, queued-fits, queued-there, must-both}
+use Rattle.cursor.specs.Cursor.{queueMost, fitBy, isFit, startCursor, recordAt, ahead, movedOn, hasMore, mustQueue, queuedOne, thereOf, there, queuedFor, queueing}
+use Rattle.cursor.specs.CursorLaws.{record-at, last-most, held-plus, same-plus, moved-fits, queued-fits, queued-there, must-both, fits-of, there-end, queued-for}
 use Rattle.lookahead.specs.Next.{nextOf}
 use Rattle.lookahead.specs.Peek as ofPeek
 use Rattle.lookahead.specs.Peek.{queuedAt, peekOf}
+use Rattle.lookahead.specs.LookAhead.{lookAheadOf}
 use Rattle.lookahead.specs.AnswerLaws.{peek-far}
 use Rattle.cursor.specs.declared.Status.{Status}
+use Rattle.cursor.specs.declared.Status.the-variants.{End, Stuck}
 use Rattle.cursor.specs.declared.Cursor.{Cursor}
 use Rattle.lookahead.specs.declared.Given.{Given}
 use Rattle.lookahead.specs.declared.Given.the-variants as given
 use Rattle.lookahead.specs.declared.Peeked.{Peeked}
 use Rattle.queue.specs.Queue.{KotoLexer, newLexer, Stream, get, rustNext}
-use Rattle.queue.specs.Queue.{maxOf, tokensToAdd, underflows, pushBack, addTokens, rustPeek}
-use Rattle.queue.specs.Calls.{Call, next, peek, ofGiven, ofPeeked, call, afterCalls, tokensOf, Unrefused, Shows}
+use Rattle.queue.specs.Queue.{maxOf, tokensToAdd, underflows, pushBack, addTokens, rustPeek, lacking, commentLook}
+use Rattle.queue.specs.Calls.{Call, next, peek, lookAhead, ofGiven, ofPeeked, call, afterCalls, tokensOf, Unrefused, Shows}
 use Rattle.queue.specs.Calls.{rustCall, rustAfter, rustTokens, Streams, Mirrors, Agrees}
-use Rattle.queue.specs.StreamLaws.{get-past, get-some, get-front, get-last, by-next, by-queued, by-peek}
+use Rattle.queue.specs.StreamLaws.{get-past, get-some, get-front, get-last, by-next, by-queued, by-peek, by-look}
 
 pub start-mirrors : (room : ℕ) (rows : List Row) (status : Status) → isFit room (startCursor (length rows) status) ≡ true
     → Mirrors room rows status (startCursor (length rows) status) newLexer
@@ -208,6 +210,92 @@ module _ (room : ℕ) (stream : Stream) (rows : List Row) (status : Status) (v :
         mirrors = called-past past;
       })
 
+-- ---- tokens are added one by one, as many as there are
+
+-- how many are queued after a loop that is to add m
+abbrev filled : Cursor → ℕ → ℕ
+filled c m = there c (c .queued + m)
+
+module _ (room : ℕ) (c : Cursor) (f : isFit room c ≡ true) where
+  -- none
+  fill-none : filled c 0 ≡ c .queued
+  fill-none = go (c .status) (fits-of room c f .by-status)
+    where
+      go : (s : Status) → fitBy c s ≡ true → thereOf (c .count - c .taken) s (c .queued + 0) ≡ c .queued
+      go End b = omega (arith, there-end (c .count - c .taken) (c .queued + 0), leb-true (c .queued) (c .count - c .taken) b)
+      go Stuck b = omega arith
+
+  -- none either where there is no token past the queued ones
+  fill-past : (m : ℕ) → c .count ≤ ahead c (c .queued) → filled c m ≡ c .queued
+  fill-past m = go (c .status) (fits-of room c f .by-status)
+    where
+      go : (s : Status) → fitBy c s ≡ true → c .count ≤ recordAt (c .count) s (c .taken + c .queued) → thereOf (c .count - c .taken) s (c .queued + m) ≡ c .queued
+      go End b h =
+          omega (
+            arith,
+            there-end (c .count - c .taken) (c .queued + m),
+            leb-true (c .queued) (c .count - c .taken) b,
+            record-at (c .count) End (c .taken + c .queued),
+          )
+      go Stuck b h = absurd (omega (arith, ltb-true (c .taken) (c .count) b, record-at (c .count) Stuck (c .taken + c .queued)))
+
+  -- and else one at least
+  fill-more : (m : ℕ) → ahead c (c .queued) < c .count → c .queued < filled c (suc m)
+  fill-more m = go (c .status)
+    where
+      go : (s : Status) → recordAt (c .count) s (c .taken + c .queued) < c .count → c .queued < thereOf (c .count - c .taken) s (c .queued + suc m)
+      go End h = omega (arith, there-end (c .count - c .taken) (c .queued + suc m), record-at (c .count) End (c .taken + c .queued))
+      go Stuck h = omega arith
+
+-- what is lacking for a look at place n: the smaller of what is left and of the larger is the larger of both smaller ones
+fill-end : (left q n : ℕ) → q ≤ left → thereOf left End (q + lacking n q) ≡ q + (thereOf left End (n + 1) - q)
+fill-end left q n h =
+    split-lt (n + 1) q
+    (λ k. let z : q + lacking n q ≡ q = omega arith in
+    ap (thereOf left End) z ∙ omega (arith, there-end left q, there-end left (n + 1)))
+    (λ k. let z : q + lacking n q ≡ n + 1 = omega arith in
+    ap (thereOf left End) z ∙ omega (arith, there-end left (n + 1)))
+
+fill-look : (room : ℕ) (c : Cursor) (n : ℕ) → isFit room c ≡ true → filled c (lacking n (c .queued)) ≡ queuedFor c n
+fill-look room c n f = go (c .status) refl (fits-of room c f .by-status)
+  where
+    go : (s : Status) → c .status ≡ s → fitBy c s ≡ true
+        → thereOf (c .count - c .taken) s (c .queued + lacking n (c .queued)) ≡ queuedFor c n
+    go End e b = fill-end (c .count - c .taken) (c .queued) n (leb-true (c .queued) (c .count - c .taken) b) ∙ sym (queued-for c n e)
+    go Stuck e b = omega (arith, queued-for c n e)
+
+module _ (room : ℕ) (stream : Stream) (rows : List Row) (status : Status) (v : Streams stream rows status) where
+  adds-one : (c : Cursor) (k : KotoLexer) → Mirrors room rows status c k → (m : ℕ) (t : Row) → get rows (ahead c (c .queued)) ≡ some t
+      → addTokens stream (suc m) k ≡ addTokens stream m (pushBack (called k) t)
+  unfolding addTokens
+  adds-one c k w m t e = rw (lexer-token room stream rows status v c k w ∙ e)
+
+  adds-none : (c : Cursor) (k : KotoLexer) → Mirrors room rows status c k → (m : ℕ) → get rows (ahead c (c .queued)) ≡ option.none
+      → addTokens stream (suc m) k ≡ called k
+  unfolding addTokens
+  adds-none c k w m e = rw (lexer-token room stream rows status v c k w ∙ e)
+
+  -- the cursor that has queued as many stands for the lexer after the loop
+  adds : (m : ℕ) (c : Cursor) (k : KotoLexer) → Mirrors room rows status c k → filled c m ≤ queueMost
+      → Mirrors room rows status (queueing c (filled c m)) (addTokens stream m k)
+  unfolding addTokens queuedOne
+  adds zero c k w h = subst (λ (q : ℕ). Mirrors room rows status (queueing c q) k) (sym (fill-none room c (w .fit))) w
+  adds (suc m) c k w h =
+      split-lt (ahead c (c .queued)) (c .count)
+      (λ more.
+      let t = get-some rows (ahead c (c .queued)) (omega (arith, w .counted)) in
+      let n = fill-more room c (w .fit) m more in
+      let one = pushed room stream rows status v c k w (lt-ltb _ _ more) (λ q. omega arith) (t .0) (t .1) in
+      let p : c .queued + 1 + m ≡ c .queued + suc m = omega arith in
+      subst (Mirrors room rows status (queueing c (filled c (suc m)))) (sym (adds-one c k w m (t .0) (t .1)))
+      (subst (λ (q : ℕ). Mirrors room rows status (queueing c (there c q)) (addTokens stream m (pushBack (called k) (t .0)))) p
+      (adds m (queuedOne c) (pushBack (called k) (t .0)) one (subst (λ (q : ℕ). there c q ≤ queueMost) (sym p) h))))
+      (λ past.
+      let none-left = get-past rows (ahead c (c .queued)) (omega (arith, w .counted)) in
+      subst (Mirrors room rows status (queueing c (filled c (suc m)))) (sym (adds-none c k w m none-left))
+      (subst (λ (q : ℕ). Mirrors room rows status (queueing c q) (called k)) (sym (fill-past room c (w .fit) (suc m) past))
+      (called-past room stream rows status v c k w past)))
+
 -- ---- `peek` in the Rust
 
 rust-peek-is : (stream : Stream) (k : KotoLexer) (n : ℕ) {after : KotoLexer}
@@ -262,9 +350,31 @@ module _ (room : ℕ) (shown : ℕ → RowAt) (stream : Stream) (rows : List Row
         (pushed room stream rows status v c k m (both .1) q (t .0) (t .1)))
         (λ e h. let u = none-added room stream rows status v c k m n e h in after-loop n c (u .after) (u .loop) (u .mirrors))
 
+    comment-look-is : (n : ℕ) {after : KotoLexer} → addTokens stream (lacking n (length (k .«token_queue»))) k ≡ after
+        → commentLook stream k n ≡ record { token = get (after .«token_queue») n; after = after }
+    unfolding commentLook
+    comment-look-is n e = rw e
+
+    pub look-agrees : (n : ℕ) → ofPeek.numberOf (lookAheadOf room shown c n) ≡ none
+        → Agrees room rows status (ofPeeked c (lookAheadOf room shown c n)) (commentLook stream k n)
+    look-agrees n =
+        by-look room shown c (m .fit)
+        (λ (r : Peeked). ofPeek.numberOf r ≡ none → Agrees room rows status (ofPeeked c r) (commentLook stream k n)) n
+        (λ h z. absurd (omega arith))
+        (λ h z.
+        let e = fill-look room c n (m .fit) in
+        let lacks : lacking n (length (k .«token_queue»)) ≡ lacking n (c .queued) = ap (lacking n) (m .long) in
+        let w : Mirrors room rows status (queueing c (queuedFor c n)) (addTokens stream (lacking n (c .queued)) k) =
+        subst (λ (q : ℕ). Mirrors room rows status (queueing c q) (addTokens stream (lacking n (c .queued)) k)) e
+        (adds room stream rows status v (lacking n (c .queued)) c k m (omega arith)) in
+        subst (Agrees room rows status (ofPeeked c (queuedAt shown (queueing c (queuedFor c n)) n)))
+        (sym (comment-look-is n (ap (λ (j : ℕ). addTokens stream j k) lacks)))
+        (queued-agrees (queueing c (queuedFor c n)) (addTokens stream (lacking n (c .queued)) k) w c n))
+
     pub call-agrees : (x : Call) → call room shown c x .number ≡ none → Agrees room rows status (call room shown c x) (rustCall stream k x)
     call-agrees next = λ _. next-agrees
     call-agrees (peek n) = peek-agrees n
+    call-agrees (lookAhead n) = look-agrees n
 
     -- ---- the refusals that the Rust does not have
 

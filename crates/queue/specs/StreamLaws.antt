@@ -3,7 +3,7 @@
 --     get-front, get-last       the same after a `push_back`
 --     shows-by                  rows that are shown, each by its index
 --     by-next, by-queued        a property of `next`'s answers, and of a look's at the queue, over rows that are shown
---     by-peek                   a property of `peek`'s answers, by its tests
+--     by-peek, by-look          a property of `peek`'s and of `look_ahead`'s answers, by their tests
 -- Assumes nothing.
 use Prim.Native.Nat.{ℕ, zero, suc, _+_, _≤_, _<_}
 use native.Mathlib.Omega.{arith}
@@ -11,16 +11,19 @@ use mathlib.Core.Path.{_≡_, refl, sym, ap, subst, _∙_}
 use mathlib.Core.Bool.{Bool, true, false}
 use mathlib.Core.List.{List, [], _∷_, _++_}
 use mathlib.Core.Option.{none, some, Option·some-injective, Option·none-ne-some}
+use lib.Dec.{ltb}
 use lib.ListN.{length, getD}
+use borrow.Author.Tests.{ltb-true, ltb-false}
 use Rattle.base.specs.PickLaws.{split-lt, split-eq}
 use Rattle.rows.specs.declared.Row.{Row}
 use Rattle.rows.specs.declared.RowAt.{RowAt}
 use Rattle.rows.specs.declared.RowAt.the-variants.{Fit}
-use Rattle.cursor.specs.Cursor.{queueMost, isFit, ahead, movedOn, mustQueue, queuedOne}
+use Rattle.cursor.specs.Cursor.{queueMost, isFit, ahead, movedOn, mustQueue, queuedOne, queuedFor, queueing}
 use Rattle.cursor.specs.CursorLaws.{queued-there}
 use Rattle.lookahead.specs.Next.{nextOf}
 use Rattle.lookahead.specs.Peek.{queuedAt, peekOf}
-use Rattle.lookahead.specs.AnswerLaws.{next-row, next-none, queued-row, queued-none, peek-far, peek-as-is, peek-full, peek-more}
+use Rattle.lookahead.specs.LookAhead.{lookAheadOf}
+use Rattle.lookahead.specs.AnswerLaws.{next-row, next-none, queued-row, queued-none, peek-far, peek-as-is, peek-full, peek-more, look-full, look-queued}
 use Rattle.cursor.specs.declared.Cursor.{Cursor}
 use Rattle.lookahead.specs.declared.Given.{Given}
 use Rattle.lookahead.specs.declared.Given.the-variants as given
@@ -104,3 +107,12 @@ by-peek room shown c f P n far full more as-is =
         split-eq (c .queued) queueMost (λ q. subst P (peek-full room shown c n f h e q) (full e q))
         (λ q. subst P (peek-more room shown c n f h e q) (more e q))
     near h false e = subst P (peek-as-is room shown c n f h e) (as-is e h)
+
+pub by-look : (room : ℕ) (shown : ℕ → RowAt) (c : Cursor) → isFit room c ≡ true → (P : Peeked → Type 0) (n : ℕ)
+    → (queueMost < queuedFor c n → P peeked.QueueFull)
+    → (queuedFor c n ≤ queueMost → P (queuedAt shown (queueing c (queuedFor c n)) n)) → P (lookAheadOf room shown c n)
+by-look room shown c f P n full shows = by-room (ltb queueMost (queuedFor c n)) refl
+  where
+    by-room : (t : Bool) → ltb queueMost (queuedFor c n) ≡ t → P (lookAheadOf room shown c n)
+    by-room true e = subst P (look-full room shown c n f e) (full (ltb-true _ _ e))
+    by-room false e = subst P (look-queued room shown c n f e) (shows (ltb-false _ _ e))

@@ -15,7 +15,10 @@ add-result : tie.Need-add-result
 add-result c = search needs
 
 returns : tie.Need-returns
-returns c = there-all _ _ (c .before .before .enum-told .given .1) (c .if1 .taken)
+returns c =
+    let told = c .before .before in
+    let start = told .before .before in
+    there-all (start .args .self) (start .args .n) (told .enum-told .given .1) (c .if1 .taken)
 
 enum-told-2 : tie.Need-enum-told-2
 enum-told-2 c = search needs
@@ -26,10 +29,15 @@ add-result-2 c =
     omega (arith, start .pre .1, there-stuck (start .args .self) (start .args .n) (c .enum-told2 .given .1))
 
 returns-2 : tie.Need-returns-2
-returns-2 c = there-left _ _ (c .before .before .enum-told .given .1) (c .if1 .left)
+returns-2 c =
+    let told = c .before .before in
+    let start = told .before .before in
+    there-left (start .args .self) (start .args .n) (told .enum-told .given .1) (c .if1 .left)
 
 returns-3 : tie.Need-returns-3
-returns-3 c = there-stuck _ _ (c .enum-told2 .given .1)
+returns-3 c =
+    let start = c .before .before in
+    there-stuck (start .args .self) (start .args .n) (c .enum-told2 .given .1)
 
 pub there-spec : {M : Type 1} → statement M
 there-spec =
