@@ -1,8 +1,9 @@
 /* koto_lexer.h: Koto's lexer, its format options and the string side of its constant pool, for C.
  *
- * The code is Rattle, and each call is proved to meet its contract (docs/PROMISES.md). `rt staticlib koto_lexer` writes
- * target/staticlib/libkoto_lexer.a, for x86-64 Linux with 64-bit pointers. A later version may add names; a name that is here keeps its
- * meaning.
+ * The code is Rattle, and each call is proved to meet its contract (docs/PROMISES.md). `tools/archive` writes
+ * target/staticlib/libkoto_lexer.a, for x86-64 Linux with 64-bit pointers. KOTO_LEXER_VERSION is the version of this header and of its
+ * archive. Before 1.0.0 its second number rises with each change of the calls, and a caller must follow; from 1.0.0 on a later version may
+ * add names, and a name that is here keeps its meaning.
  *
  * What every call does
  * - It takes every input and returns. It keeps nothing between calls, allocates nothing, and reads and writes only what it is lent. Of the C
@@ -25,6 +26,8 @@
 #include <stddef.h>
 #include <stdint.h>
 
+#define KOTO_LEXER_VERSION "0.2.0"
+
 #ifdef __cplusplus
 extern "C" {
 #endif
@@ -36,7 +39,7 @@ extern "C" {
  *    1 TOO_LONG                    a source over KOTO_SOURCE_MOST bytes, or a format string over KOTO_FORMAT_MOST
  *    2 BAD_TABLE                   a table that is unfit. Place: 0 for a bad count, else the first bad run, from 0, else, where only code
  *                                  points 0 to 127 have other properties than every table must give them, the count
- *    3 BAD_UTF8                    ill-formed bytes. Place: the offset of the first such sequence
+ *    3 BAD_UTF8                    bytes of which the first ill-formed sequence is wrong, whatever may follow. Place: its offset
  *    4 LIST_FULL                   a token is left to read and no record has room (place: the current byte), or a row is too short for a
  *                                  table file's numbers
  *    5 MODES_FULL                  a token would push a 65th mode. Place: the current byte
@@ -50,6 +53,8 @@ extern "C" {
  *   13 POOL_FULL                   a string is not in the pool, and no entry or too few bytes are free
  *   14 BAD_FILE                    a table file whose first six bytes or whose length are wrong. Place: the first wrong byte, or the file's
  *                                  length where bytes lack
+ *   15 CUT_UTF8                    bytes of which the first ill-formed sequence is a proper beginning of a character that the end stops: what
+ *                                  lacks may still arrive. Given where 3 would be, and never with it. Place: its offset
  */
 
 #define KOTO_NO_REFUSAL 0u
@@ -67,6 +72,7 @@ extern "C" {
 #define KOTO_UNEXPECTED_TOKEN 12u
 #define KOTO_POOL_FULL 13u
 #define KOTO_BAD_FILE 14u
+#define KOTO_CUT_UTF8 15u
 
 /* ---- How a scan ends: the status, which a cursor over its list carries ----
  *
@@ -236,19 +242,20 @@ typedef struct koto_counts {
 /* Reads the UTF-8 character at byte `at`.
  *
  * in       the bytes; a place, which may be past their end
- * out      code: its code point. len: how many bytes it has, 1 to 4. cut: 0
- * refused  3 BAD_UTF8: no whole character begins there. cut: 1 where the bytes to the end are a beginning of one, or none are left; else 0.
- *            code and len: 0. (The place is `at`.)
+ * out      code: its code point. len: how many bytes it has, 1 to 4
+ * refused  one of these, with code and len 0 (the place is `at`)
+ *          3 BAD_UTF8: no character begins with the bytes there
+ *          15 CUT_UTF8: the bytes to the end are a beginning of one, or none are left
  */
-uint32_t koto_read_char(const uint8_t *bytes, size_t bytes_len, size_t at, uint32_t *code, size_t *len, uint32_t *cut);
+uint32_t koto_read_char(const uint8_t *bytes, size_t bytes_len, size_t at, uint32_t *code, size_t *len);
 
 /* Checks that all bytes are well-formed UTF-8. No bytes are.
  *
  * in       the bytes
- * out      place: 0. cut: 0
- * refused  3 BAD_UTF8. place: the offset of the first ill-formed sequence. cut: 1 where the end cuts a character there, else 0
+ * out      place: 0
+ * refused  3 BAD_UTF8 or 15 CUT_UTF8, with its place
  */
-uint32_t koto_check_utf8(const uint8_t *bytes, size_t bytes_len, size_t *place, uint32_t *cut);
+uint32_t koto_check_utf8(const uint8_t *bytes, size_t bytes_len, size_t *place);
 
 /* Checks a property table.
  *
@@ -281,7 +288,7 @@ uint32_t koto_read_table(const uint8_t *file, size_t file_len, uint32_t *row, si
  * refused  in this order, each with len 0
  *          1 TOO_LONG. place: 0
  *          2 BAD_TABLE, with its place
- *          3 BAD_UTF8, with its place
+ *          3 BAD_UTF8 or 15 CUT_UTF8, with its place
  */
 uint32_t koto_first_cluster(const uint8_t *source, size_t source_len, const uint32_t *table, size_t table_len, size_t *len,
                             size_t *place);
@@ -295,7 +302,7 @@ uint32_t koto_first_cluster(const uint8_t *source, size_t source_len, const uint
  * refused  in this order, each with status KOTO_REFUSED, and its place in byte
  *          1 TOO_LONG. count: 0, byte: 0; the whole list stays
  *          2 BAD_TABLE. count: 0; the whole list stays
- *          3 BAD_UTF8. count: 0; the whole list stays
+ *          3 BAD_UTF8 or 15 CUT_UTF8. count: 0; the whole list stays
  *          4 LIST_FULL, 5 MODES_FULL: list and count have the records before the token that is left, and behind them the list stays
  */
 uint32_t koto_scan(const uint8_t *source, size_t source_len, const uint32_t *table, size_t table_len, uint32_t *list,
@@ -341,7 +348,7 @@ uint32_t koto_peek(const uint32_t *list, size_t list_len, size_t taken, size_t *
  * out      index: the string's. place: 0. Where it was not there: its bytes and its entry behind those in use, and counts with one entry and
  *            so many bytes more; all else stays
  * refused  in this order, each with index 0; the pool stays
- *          3 BAD_UTF8, with its place
+ *          3 BAD_UTF8 or 15 CUT_UTF8, with its place
  *          8 BAD_STATE. place: 0
  *          13 POOL_FULL. place: 0
  */
@@ -354,7 +361,7 @@ uint32_t koto_add_string(const uint8_t *string, size_t string_len, uint8_t *byte
  * out      options: alignment a KOTO_ALIGNMENT; width, precision, representation (a KOTO_REPRESENTATION) and the fill's three, each KOTO_NONE
  *            where the format string has none. value: 0. The pool: with the strings that koto adds as it reads
  * refused  in this order, each with all seven options KOTO_NONE, and its place or value in value
- *          1 TOO_LONG, 2 BAD_TABLE, 3 BAD_UTF8, 8 BAD_STATE: the pool stays
+ *          1 TOO_LONG, 2 BAD_TABLE, 3 BAD_UTF8 or 15 CUT_UTF8, 8 BAD_STATE: the pool stays
  *          10 EXPECTED_NUMBER, 11 FORMAT_NUMBER_IS_TOO_LARGE, 12 UNEXPECTED_TOKEN, and 13 POOL_FULL where a string found no room, whatever would
  *            have been found after it: the pool has the strings that were added before
  */

@@ -21,7 +21,8 @@ enum {
     NO_TABLE = 4,
     TABLE_REFUSED = 5,
     NO_MEMORY = 6,
-    NO_OUTPUT = 7
+    NO_OUTPUT = 7,
+    STILL_ARRIVING = 8
 };
 
 /* The table's file, from the folder of the program. */
@@ -45,7 +46,8 @@ static const char HELP[] =
     "  --help         this text\n"
     "\n"
     "exit status: 0 end or stuck, 1 the scan was refused, 2 bad usage, 3 the script can't be read, 4 the table can't be read,\n"
-    "             5 the table's file was refused, 6 no memory, 7 the output can't be written\n";
+    "             5 the table's file was refused, 6 no memory, 7 the output can't be written, 8 the script's end cuts a character:\n"
+    "             it may still be arriving (refused 15)\n";
 
 typedef struct {
     const char *script;
@@ -177,7 +179,7 @@ static int list_tokens(bytes script, words table) {
     print_records(list, count);
     free(list.at);
     if (refused != 0) {
-        return print_refused(refused, byte, SCAN_REFUSED);
+        return print_refused(refused, byte, refused == KOTO_CUT_UTF8 ? STILL_ARRIVING : SCAN_REFUSED);
     }
     printf("%s %zu %zu\n", end == KOTO_STUCK ? "stuck" : "end", count, byte);
     return FINE;

@@ -73,21 +73,18 @@ impl Library {
         self.source.is_whole() && self.full.is_whole() && self.table.is_whole()
     }
 
-    /// code, length, cut
-    pub fn read_char(&self, at: usize) -> Said<(u32, usize, u32)> {
+    /// code, length
+    pub fn read_char(&self, at: usize) -> Said<(u32, usize)> {
         let (source, mut said) = (self.source.get(), Answers::new());
-        let number = unsafe {
-            raw::koto_read_char(source.as_ptr(), source.len(), at, said.narrow(0), said.size(1), said.narrow(2))
-        };
-        let answer = (said.as_narrow(0), said.as_size(1), said.as_narrow(2));
-        Said { number, answer, whole: said.is_whole(&[0, 2]) && self.texts_whole() }
+        let number = unsafe { raw::koto_read_char(source.as_ptr(), source.len(), at, said.narrow(0), said.size(1)) };
+        Said { number, answer: (said.as_narrow(0), said.as_size(1)), whole: said.is_whole(&[0]) && self.texts_whole() }
     }
 
-    /// place, cut
-    pub fn check_utf8(&self) -> Said<(usize, u32)> {
+    /// place
+    pub fn check_utf8(&self) -> Said<usize> {
         let (source, mut said) = (self.source.get(), Answers::new());
-        let number = unsafe { raw::koto_check_utf8(source.as_ptr(), source.len(), said.size(0), said.narrow(1)) };
-        Said { number, answer: (said.as_size(0), said.as_narrow(1)), whole: said.is_whole(&[1]) && self.texts_whole() }
+        let number = unsafe { raw::koto_check_utf8(source.as_ptr(), source.len(), said.size(0)) };
+        Said { number, answer: said.as_size(0), whole: said.is_whole(&[]) && self.texts_whole() }
     }
 
     /// place

@@ -2,7 +2,7 @@
 
 use crate::rich::Dice;
 
-const SPLICES: [&[u8]; 25] = [
+const SPLICES: [&[u8]; 27] = [
     b"'",
     b"\"",
     b"{",
@@ -18,6 +18,8 @@ const SPLICES: [&[u8]; 25] = [
     b"\x80",
     b"\xC0\x80",
     b"\xE2\x82",
+    b"\xC3",
+    b"\xF0\x9F\x98",
     b"\xED\xA0\x80",
     b"\xF4\x90\x80\x80",
     b"\xFF",

@@ -123,7 +123,7 @@ fn long() -> Vec<Vec<u8>> {
 }
 
 /// 1 for a format string that was not tried before, and now is
-fn one(run: &mut Run, dice: &mut Dice, format: &[u8]) -> usize {
+pub fn one(run: &mut Run, dice: &mut Dice, format: &[u8]) -> usize {
     if !run.tally.is_new("format", format) {
         return 0;
     }

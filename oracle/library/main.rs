@@ -2,6 +2,7 @@
 
 mod calls;
 mod cursors;
+mod cuts;
 mod damage;
 mod formats;
 #[allow(dead_code)]
@@ -39,6 +40,7 @@ fn main() {
     let mut dice = Dice::new(seed);
     scans::compare(&mut run, &mut dice, count);
     formats::compare(&mut run, &mut dice, count);
+    cuts::compare(&mut run, &mut dice);
     cursors::compare(&mut run, &mut dice, count / 5);
     tables::compare(&mut run, &mut dice, count / 50);
     pools::compare(&mut run, &mut dice, count / 5);

@@ -3,7 +3,7 @@
 use crate::Run;
 use crate::calls::Library;
 use crate::rich::Dice;
-use answers::Pool;
+use answers::{Pool, text_of};
 use koto_lexer::raw::{Counts, Entry};
 
 /// What stands in the rows where no string is
@@ -96,30 +96,30 @@ pub fn compare(run: &mut Run, dice: &mut Dice, count: usize) {
             1 => run.kinds.text(dice, 12).into_bytes(),
             _ => STRINGS[dice.below(STRINGS.len())].as_bytes().to_vec(),
         };
-        let (pool, rows) = some_pool(dice, &string);
-        run.library.source.fill(&string);
-        rows.lend(&mut run.library);
-        let said = run.library.add_string(rows.counts);
-        let (number, index, place, after) = wanted(&string, pool, &rows);
-        run.tally.note(
-            "add_string",
-            said.number,
-            &(said.number, said.answer),
-            &(number, (index, place, after.counts)),
-            &string,
-        );
-        if !said.whole || run.library.source.get() != string || !after.stands_in(&run.library) {
-            run.tally.spoiled("add_string", &string);
-        }
+        one(run, dice, &string);
     }
     println!("additions to pools: {count}");
 }
 
-/// Refusals 3, 8, 13, or the index: that of the first equal string, else of a new one
+/// A string added to some pool
+pub fn one(run: &mut Run, dice: &mut Dice, string: &[u8]) {
+    let (pool, rows) = some_pool(dice, string);
+    run.library.source.fill(string);
+    rows.lend(&mut run.library);
+    let said = run.library.add_string(rows.counts);
+    let (number, index, place, after) = wanted(string, pool, &rows);
+    let wanted = (number, (index, place, after.counts));
+    run.tally.note("add_string", said.number, &(said.number, said.answer), &wanted, string);
+    if !said.whole || run.library.source.get() != string || !after.stands_in(&run.library) {
+        run.tally.spoiled("add_string", string);
+    }
+}
+
+/// Refusals 3 or 15, 8, 13, or the index: that of the first equal string, else of a new one
 fn wanted(string: &[u8], pool: Option<Pool>, rows: &Rows) -> (u32, u32, usize, Rows) {
-    let text = match std::str::from_utf8(string) {
+    let text = match text_of(string) {
         Ok(text) => text.to_string(),
-        Err(error) => return (3, 0, error.valid_up_to(), rows.clone()),
+        Err((number, place)) => return (number, 0, place, rows.clone()),
     };
     let Some(Pool { mut strings, entries, bytes }) = pool else {
         return (8, 0, 0, rows.clone());

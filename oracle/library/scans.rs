@@ -4,7 +4,7 @@ use crate::calls::{Cursor, SOURCE_MOST, Table};
 use crate::damage::damaged;
 use crate::rich::Dice;
 use crate::{Run, kpt, scripts};
-use answers::{Call, Shown, Status};
+use answers::{Call, Shown, Status, text_of};
 use koto_lexer::raw::Record;
 
 /// What stands in a list before a scan
@@ -46,7 +46,7 @@ pub fn compare(run: &mut Run, dice: &mut Dice, count: usize) {
 }
 
 /// 1 for a source that was not tried before, and now is
-fn one(run: &mut Run, dice: &mut Dice, source: &[u8]) -> usize {
+pub fn one(run: &mut Run, dice: &mut Dice, source: &[u8]) -> usize {
     if !run.tally.is_new("source", source) {
         return 0;
     }
@@ -76,7 +76,7 @@ fn bad_table(run: &mut Run, dice: &mut Dice) -> Table {
     Table::Lent
 }
 
-/// Refusals 1 to 3 in their order, or the text
+/// Refusals 1, 2 and 3 or 15 in their order, or the text
 pub fn text<'a>(run: &Run, bytes: &'a [u8], most: usize, which: Table) -> Result<&'a str, (u32, usize)> {
     if bytes.len() > most {
         return Err((1, 0));
@@ -84,7 +84,7 @@ pub fn text<'a>(run: &Run, bytes: &'a [u8], most: usize, which: Table) -> Result
     if let Some(place) = (which == Table::Lent).then(|| kpt::bad_table(run.library.table.get())).flatten() {
         return Err((2, place));
     }
-    std::str::from_utf8(bytes).map_err(|error| (3, error.valid_up_to()))
+    text_of(bytes)
 }
 
 fn put(list: &mut [u32], records: &[answers::Record]) {
@@ -178,31 +178,32 @@ fn texts(run: &mut Run, source: &[u8], which: Table, dice: &mut Dice) {
     let is_whole = said.whole;
 
     let said = run.library.check_utf8();
-    let wanted = match std::str::from_utf8(source) {
-        Ok(_) => (0, (0, 0)),
-        Err(error) => (3, (error.valid_up_to(), u32::from(error.error_len().is_none()))),
-    };
+    let wanted = text_of(source).map_or_else(|refused| refused, |_| (0, 0));
     run.tally.note("check_utf8", said.number, &(said.number, said.answer), &wanted, source);
-    let is_whole = is_whole && said.whole;
-
+    if !(is_whole && said.whole) || run.library.source.get() != source {
+        run.tally.spoiled("first_cluster or check_utf8", source);
+    }
     let at = if dice.below(50) == 0 { usize::MAX - dice.below(3) } else { dice.below(source.len() + 2) };
+    char_at(run, source, at);
+}
+
+/// The character at a place of a source
+pub fn char_at(run: &mut Run, source: &[u8], at: usize) {
+    run.library.source.fill(source);
     let said = run.library.read_char(at);
     let rest = source.get(at..).unwrap_or_default();
     run.tally.note("read_char", said.number, &(said.number, said.answer), &first_char(rest), source);
-    if !(is_whole && said.whole) || run.library.source.get() != source {
-        run.tally.spoiled("first_cluster, check_utf8 or read_char", source);
+    if !said.whole || run.library.source.get() != source {
+        run.tally.spoiled("read_char", source);
     }
 }
 
-/// The first character by Rust's `from_utf8`
-fn first_char(rest: &[u8]) -> (u32, (u32, usize, u32)) {
+/// The first character by Rust's `from_utf8`; where nothing is left it is cut
+fn first_char(rest: &[u8]) -> (u32, (u32, usize)) {
     let rest = &rest[..rest.len().min(4)];
-    let (fine, is_cut) = match std::str::from_utf8(rest) {
-        Ok(text) => (text, true),
-        Err(error) => (std::str::from_utf8(&rest[..error.valid_up_to()]).expect("fine"), error.error_len().is_none()),
+    let (number, fine) = match text_of(rest) {
+        Ok(text) => (15, text),
+        Err((number, place)) => (number, text_of(&rest[..place]).expect("what stands before the place is fine")),
     };
-    match fine.chars().next() {
-        Some(c) => (0, (c.into(), c.len_utf8(), 0)),
-        None => (3, (0, 0, u32::from(is_cut))),
-    }
+    fine.chars().next().map_or((number, (0, 0)), |c| (0, (c.into(), c.len_utf8())))
 }

@@ -5,16 +5,16 @@ use std::hash::{DefaultHasher, Hash, Hasher};
 
 /// Each call, and the answers that it must have given at least once
 const WANTED: [(&str, &[u32]); 10] = [
-    ("read_char", &[0, 3]),
-    ("check_utf8", &[0, 3]),
+    ("read_char", &[0, 3, 15]),
+    ("check_utf8", &[0, 3, 15]),
     ("check_table", &[0, 2]),
     ("read_table", &[0, 2, 4, 14]),
-    ("first_cluster", &[0, 1, 2, 3]),
-    ("scan", &[0, 1, 2, 3, 4, 5]),
+    ("first_cluster", &[0, 1, 2, 3, 15]),
+    ("scan", &[0, 1, 2, 3, 4, 5, 15]),
     ("next", &[0, 8, 9]),
     ("peek", &[0, 6, 7, 8, 9]),
-    ("add_string", &[0, 3, 8, 13]),
-    ("parse", &[0, 1, 2, 3, 8, 10, 11, 12, 13]),
+    ("add_string", &[0, 3, 8, 13, 15]),
+    ("parse", &[0, 1, 2, 3, 8, 10, 11, 12, 13, 15]),
 ];
 
 const SHOWN_MOST: usize = 10;

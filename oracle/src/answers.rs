@@ -1,5 +1,13 @@
 //! What the two builds of koto's code are asked and answer, in plain numbers and under document 01's names.
 
+/// The text of well-formed bytes. Else refusal 3, or 15 where the end cuts the character that stands first of what is ill-formed, with its offset
+pub fn text_of(bytes: &[u8]) -> Result<&str, (u32, usize)> {
+    std::str::from_utf8(bytes).map_err(|error| {
+        let number = if error.error_len().is_none() { 15 } else { 3 };
+        (number, error.valid_up_to())
+    })
+}
+
 /// kind, detail, byte start, byte end, start line, start column, end line, end column, indent
 pub type Record = [u32; 9];
 

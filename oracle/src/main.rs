@@ -5,7 +5,7 @@ mod batch;
 mod kpt;
 mod rich;
 
-use answers::{Call, Judge, Options, Parse, Pool, Scan, Shown, Status};
+use answers::{Call, Judge, Options, Parse, Pool, Scan, Shown, Status, text_of};
 use std::fmt::Write as _;
 use std::io::{Read, Write};
 use std::process::exit;
@@ -153,7 +153,7 @@ fn put_hex(out: &mut String, bytes: &[u8]) {
     }
 }
 
-/// Refusals 1 to 3 in their order
+/// Refusals 1, 2 and 3 or 15 in their order
 fn text<'a>(asked: &Asked, bytes: &'a [u8], most: usize) -> Result<&'a str, (u32, usize)> {
     if bytes.len() > most {
         return Err((1, 0));
@@ -161,7 +161,7 @@ fn text<'a>(asked: &Asked, bytes: &'a [u8], most: usize) -> Result<&'a str, (u32
     if let Some(place) = asked.bad_table {
         return Err((2, place));
     }
-    std::str::from_utf8(bytes).map_err(|error| (3, error.valid_up_to()))
+    text_of(bytes)
 }
 
 fn tokens(asked: &Asked, source: &[u8]) -> Scan {
@@ -281,9 +281,9 @@ fn cluster(asked: &Asked, bytes: &[u8]) -> Result<usize, (u32, usize)> {
 
 /// 0 for well-formed bytes, 1 for bad and 2 for cut ones with the offset
 fn utf8(bytes: &[u8]) -> (u32, usize) {
-    match std::str::from_utf8(bytes) {
+    match text_of(bytes) {
         Ok(_) => (0, 0),
-        Err(error) => (if error.error_len().is_some() { 1 } else { 2 }, error.valid_up_to()),
+        Err((number, place)) => (if number == 3 { 1 } else { 2 }, place),
     }
 }
 

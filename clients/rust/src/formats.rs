@@ -17,6 +17,8 @@ pub enum Added {
     Index(u32),
     /// Refusal 3
     BadUtf8(usize),
+    /// Refusal 15: the end cuts a character.
+    CutUtf8(usize),
     /// Refusal 8: the pool is unfit.
     BadState,
     /// Refusal 13
@@ -69,6 +71,8 @@ pub enum Parsed {
     BadTable(usize),
     /// Refusal 3
     BadUtf8(usize),
+    /// Refusal 15: the end cuts a character.
+    CutUtf8(usize),
     /// Refusal 8: the pool is unfit.
     BadState,
     /// Refusal 10, with the code point
@@ -102,6 +106,7 @@ pub fn add_string(string: &[u8], pool: &mut Pool) -> Added {
         0 => Added::Index(index),
         3 => Added::BadUtf8(place),
         8 => Added::BadState,
+        15 => Added::CutUtf8(place),
         _ => Added::PoolFull,
     }
 }
@@ -134,6 +139,7 @@ pub fn parse(format: &[u8], table: &[u32], pool: &mut Pool) -> Parsed {
         10 => Parsed::ExpectedNumber(value as u32),
         11 => Parsed::FormatNumberIsTooLarge(value),
         12 => Parsed::UnexpectedToken(value as u32),
+        15 => Parsed::CutUtf8(value as usize),
         _ => Parsed::PoolFull,
     }
 }

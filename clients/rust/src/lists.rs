@@ -31,6 +31,8 @@ pub enum Scanned {
     BadTable(usize),
     /// Refusal 3
     BadUtf8(usize),
+    /// Refusal 15: the end cuts a character, so the source may still be arriving.
+    CutUtf8(usize),
     /// Refusal 4, after so many records
     ListFull {
         count: usize,
@@ -109,7 +111,8 @@ pub fn scan(source: &[u8], table: &[u32], list: &mut [u32]) -> Scanned {
         2 => Scanned::BadTable(byte),
         3 => Scanned::BadUtf8(byte),
         4 => Scanned::ListFull { count, byte },
-        _ => Scanned::ModesFull { count, byte },
+        5 => Scanned::ModesFull { count, byte },
+        _ => Scanned::CutUtf8(byte),
     }
 }
 

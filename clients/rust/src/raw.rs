@@ -49,15 +49,8 @@ pub const END: u32 = 0;
 pub const STUCK: u32 = 1;
 
 extern "C" {
-    pub fn koto_read_char(
-        bytes: *const u8,
-        bytes_len: usize,
-        at: usize,
-        code: *mut u32,
-        len: *mut usize,
-        cut: *mut u32,
-    ) -> u32;
-    pub fn koto_check_utf8(bytes: *const u8, bytes_len: usize, place: *mut usize, cut: *mut u32) -> u32;
+    pub fn koto_read_char(bytes: *const u8, bytes_len: usize, at: usize, code: *mut u32, len: *mut usize) -> u32;
+    pub fn koto_check_utf8(bytes: *const u8, bytes_len: usize, place: *mut usize) -> u32;
     pub fn koto_check_table(table: *const u32, table_len: usize, place: *mut usize) -> u32;
     pub fn koto_read_table(
         file: *const u8,

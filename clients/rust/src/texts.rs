@@ -9,9 +9,9 @@ pub enum Read {
         code: u32,
         len: usize,
     },
-    /// No character begins with these bytes.
+    /// Refusal 3: no character begins with these bytes.
     Bad,
-    /// The bytes to the end, of which there may be none, are a proper beginning of a character.
+    /// Refusal 15: the bytes to the end, of which there may be none, are a proper beginning of a character.
     Cut,
 }
 
@@ -19,9 +19,9 @@ pub enum Read {
 #[derive(Clone, Copy, Debug, PartialEq, Eq)]
 pub enum Utf8Check {
     Fine,
-    /// All before the place is well formed, and no character begins there.
+    /// Refusal 3: all before the place is well formed, and no character begins there.
     BadAt(usize),
-    /// All before the place is well formed, and the end cuts the character there.
+    /// Refusal 15: all before the place is well formed, and the end cuts the character there.
     CutAt(usize),
 }
 
@@ -57,26 +57,28 @@ pub enum Cluster {
     BadTable(usize),
     /// Refusal 3
     BadUtf8(usize),
+    /// Refusal 15: the end cuts a character.
+    CutUtf8(usize),
 }
 
 /// The character at a place of a slice
 pub fn read_char(bytes: &[u8], at: usize) -> Read {
-    let (mut code, mut len, mut cut) = (0, 0, 0);
+    let (mut code, mut len) = (0, 0);
     // SAFETY: the slice is lent for the call, and each answer word is a local.
-    match unsafe { raw::koto_read_char(bytes.as_ptr(), bytes.len(), at, &mut code, &mut len, &mut cut) } {
+    match unsafe { raw::koto_read_char(bytes.as_ptr(), bytes.len(), at, &mut code, &mut len) } {
         0 => Read::Char { code, len },
-        _ if cut == 0 => Read::Bad,
+        3 => Read::Bad,
         _ => Read::Cut,
     }
 }
 
 /// Checks a whole slice
 pub fn check_utf8(bytes: &[u8]) -> Utf8Check {
-    let (mut place, mut cut) = (0, 0);
+    let mut place = 0;
     // SAFETY: as in `read_char`
-    match unsafe { raw::koto_check_utf8(bytes.as_ptr(), bytes.len(), &mut place, &mut cut) } {
+    match unsafe { raw::koto_check_utf8(bytes.as_ptr(), bytes.len(), &mut place) } {
         0 => Utf8Check::Fine,
-        _ if cut == 0 => Utf8Check::BadAt(place),
+        3 => Utf8Check::BadAt(place),
         _ => Utf8Check::CutAt(place),
     }
 }
@@ -116,6 +118,7 @@ pub fn first_cluster(source: &[u8], table: &[u32]) -> Cluster {
         0 => Cluster::Length(len),
         1 => Cluster::TooLong,
         2 => Cluster::BadTable(place),
-        _ => Cluster::BadUtf8(place),
+        3 => Cluster::BadUtf8(place),
+        _ => Cluster::CutUtf8(place),
     }
 }

@@ -60,6 +60,7 @@ fn every_option() {
 fn refusals_of_a_parse() {
     assert_eq!(parsed(&vec![b'0'; FORMAT_MOST + 1], 4, 4).0, Parsed::TooLong);
     assert_eq!(parsed(b"5\xFF", 4, 4).0, Parsed::BadUtf8(1));
+    assert_eq!(parsed(b"x<\xE6\xBC", 4, 4), (Parsed::CutUtf8(2), Counts::default()));
     assert_eq!(parsed(b"_<5", 0, 4), (Parsed::PoolFull, Counts::default()));
     assert_eq!(parsed(b"_<5", 4, 0), (Parsed::PoolFull, Counts::default()));
     // An error takes no string back.
@@ -78,6 +79,7 @@ fn strings_of_a_pool() {
     assert_eq!(add_string(b"ab", &mut pool), Added::Index(0));
     assert_eq!(add_string(b"xyz", &mut pool), Added::PoolFull);
     assert_eq!(add_string(b"x\xFF", &mut pool), Added::BadUtf8(1));
+    assert_eq!(add_string(b"x\xF0\x9F\x98", &mut pool), Added::CutUtf8(1));
     assert_eq!(add_string(b"", &mut pool), Added::Index(2));
     assert_eq!(add_string(b"d", &mut pool), Added::PoolFull);
     assert_eq!((&pool.bytes[..3], pool.counts), (b"abc".as_slice(), Counts { entries: 3, bytes: 3 }));

@@ -66,6 +66,8 @@ fn refusals_of_a_scan() {
     assert_eq!(scan(b"a", &[], &mut list), Scanned::BadTable(0));
     assert_eq!(scan(b"a", &[48, 48], &mut list), Scanned::BadTable(1));
     assert_eq!(scan(b"ab\xFF", &table, &mut list), Scanned::BadUtf8(2));
+    assert_eq!(scan(b"ab\xE6\xBC", &table, &mut list), Scanned::CutUtf8(2));
+    assert_eq!(scan(b"ab\xE6\xBCc", &table, &mut list), Scanned::BadUtf8(2));
     assert_eq!(list, [7; 24]);
     assert_eq!(scan(b"a b c", &table, &mut list), Scanned::ListFull { count: 3, byte: 3 });
     let deep = b"'{".repeat(32);
@@ -147,6 +149,25 @@ fn characters() {
 }
 
 #[test]
+fn a_character_that_arrives_byte_by_byte() {
+    for c in ['\u{E9}', '\u{800}', '\u{D7FF}', '\u{10000}', '\u{10FFFF}'] {
+        let source = format!("'{c}").into_bytes();
+        let scanned = |len: usize| records(&source[..len]).1;
+        for len in 2..source.len() {
+            assert_eq!(scanned(len), Scanned::CutUtf8(1));
+            assert_eq!(check_utf8(&source[..len]), Utf8Check::CutAt(1));
+            assert_eq!(read_char(&source[..len], 1), Read::Cut);
+        }
+        assert!(scanned(source.len()).cursor().is_some());
+    }
+    // These look cut and are not: no character begins so.
+    for wrong in [b"\xED\xA0".as_slice(), b"\xE0\x80", b"\xF0\x80", b"\xF4\x90", b"\xF5", b"\xC0", b"\x80"] {
+        assert_eq!(records(wrong).1, Scanned::BadUtf8(0));
+        assert_eq!(read_char(wrong, 0), Read::Bad);
+    }
+}
+
+#[test]
 fn clusters() {
     let table = full_table();
     assert_eq!(first_cluster(b"", &table), Cluster::Length(0));
@@ -155,6 +176,7 @@ fn clusters() {
     assert_eq!(first_cluster(&vec![b'a'; SOURCE_MOST + 1], &table), Cluster::TooLong);
     assert_eq!(first_cluster(b"a", &[]), Cluster::BadTable(0));
     assert_eq!(first_cluster(b"a\x80", &table), Cluster::BadUtf8(1));
+    assert_eq!(first_cluster(b"a\xC3", &table), Cluster::CutUtf8(1));
 }
 
 #[test]
