@@ -26,7 +26,7 @@
 #include <stddef.h>
 #include <stdint.h>
 
-#define KOTO_LEXER_VERSION "0.2.0"
+#define KOTO_LEXER_VERSION "0.3.0"
 
 #ifdef __cplusplus
 extern "C" {
@@ -55,6 +55,7 @@ extern "C" {
  *                                  length where bytes lack
  *   15 CUT_UTF8                    bytes of which the first ill-formed sequence is a proper beginning of a character that the end stops: what
  *                                  lacks may still arrive. Given where 3 would be, and never with it. Place: its offset
+ *   17 BAD_EDITION                 a number that is no edition of the cluster rules
  */
 
 #define KOTO_NO_REFUSAL 0u
@@ -73,6 +74,7 @@ extern "C" {
 #define KOTO_POOL_FULL 13u
 #define KOTO_BAD_FILE 14u
 #define KOTO_CUT_UTF8 15u
+#define KOTO_BAD_EDITION 17u
 
 /* ---- How a scan ends: the status, which a cursor over its list carries ----
  *
@@ -91,6 +93,15 @@ extern "C" {
 #define KOTO_TABLE_MOST 8000u
 #define KOTO_QUEUE_MOST 65535u
 #define KOTO_RECORD_WORDS 8u
+
+/* ---- Editions of the cluster rules (UAX #29), which every call with a table takes behind it ----
+ *
+ * WITHOUT_GB9C: as before Unicode 15.1, for a host with older data; it does not look at a table's InCB. WITH_GB9C: an Indic conjunct is one
+ * cluster, as Unicode has it from 15.1 on. A cluster of the first is never longer than one of the second.
+ */
+
+#define KOTO_WITHOUT_GB9C 1u
+#define KOTO_WITH_GB9C 2u
 
 /* ---- Kinds of token, as a record has them ----
  *
@@ -281,32 +292,35 @@ uint32_t koto_check_table(const uint32_t *table, size_t table_len, size_t *place
  */
 uint32_t koto_read_table(const uint8_t *file, size_t file_len, uint32_t *row, size_t row_len, size_t *count, size_t *place);
 
-/* The first extended grapheme cluster of a source (UAX #29, GB3 to GB9c and GB11 to GB13, over the table's properties).
+/* The first extended grapheme cluster of a source (UAX #29, GB3 to GB9b, GB9c in the edition that has it, and GB11 to GB13, over the table's
+ * properties).
  *
- * in       the source; a table
+ * in       the source; a table; an edition
  * out      len: how many bytes it has; 0 for no bytes. place: 0
  * refused  in this order, each with len 0
  *          1 TOO_LONG. place: 0
+ *          17 BAD_EDITION. place: 0
  *          2 BAD_TABLE, with its place
  *          3 BAD_UTF8 or 15 CUT_UTF8, with its place
  */
-uint32_t koto_first_cluster(const uint8_t *source, size_t source_len, const uint32_t *table, size_t table_len, size_t *len,
-                            size_t *place);
+uint32_t koto_first_cluster(const uint8_t *source, size_t source_len, const uint32_t *table, size_t table_len, uint32_t edition,
+                            size_t *len, size_t *place);
 
 /* Scans a source into records. A record is KOTO_RECORD_WORDS words of the list: kind + 128 * detail, start, end, start line, start column,
  * end line, end column, indent. n bytes have at most n + n / 3 records.
  *
- * in       the source; a table; a list, of which nothing is read
+ * in       the source; a table; an edition, by which clusters are read; a list, of which nothing is read
  * out      list: the records from its start on, and behind them what was there. status: KOTO_END or KOTO_STUCK. count: how many records
  *            there are. byte: the current byte, where the last of them ends
  * refused  in this order, each with status KOTO_REFUSED, and its place in byte
  *          1 TOO_LONG. count: 0, byte: 0; the whole list stays
+ *          17 BAD_EDITION. count: 0, byte: 0; the whole list stays
  *          2 BAD_TABLE. count: 0; the whole list stays
  *          3 BAD_UTF8 or 15 CUT_UTF8. count: 0; the whole list stays
  *          4 LIST_FULL, 5 MODES_FULL: list and count have the records before the token that is left, and behind them the list stays
  */
-uint32_t koto_scan(const uint8_t *source, size_t source_len, const uint32_t *table, size_t table_len, uint32_t *list,
-                   size_t list_len, uint32_t *status, size_t *count, size_t *byte);
+uint32_t koto_scan(const uint8_t *source, size_t source_len, const uint32_t *table, size_t table_len, uint32_t edition,
+                   uint32_t *list, size_t list_len, uint32_t *status, size_t *count, size_t *byte);
 
 /* Hands out the next token of a scan, and moves the cursor on.
  *
@@ -357,17 +371,17 @@ uint32_t koto_add_string(const uint8_t *string, size_t string_len, uint8_t *byte
 
 /* Parses the format options of a string template, and adds their fill to a pool (see koto_add_string).
  *
- * in       the format string; a table; the pool
+ * in       the format string; a table; an edition, by which the fill's cluster is read; the pool
  * out      options: alignment a KOTO_ALIGNMENT; width, precision, representation (a KOTO_REPRESENTATION) and the fill's three, each KOTO_NONE
  *            where the format string has none. value: 0. The pool: with the strings that koto adds as it reads
  * refused  in this order, each with all seven options KOTO_NONE, and its place or value in value
- *          1 TOO_LONG, 2 BAD_TABLE, 3 BAD_UTF8 or 15 CUT_UTF8, 8 BAD_STATE: the pool stays
+ *          1 TOO_LONG, 17 BAD_EDITION, 2 BAD_TABLE, 3 BAD_UTF8 or 15 CUT_UTF8, 8 BAD_STATE: the pool stays
  *          10 EXPECTED_NUMBER, 11 FORMAT_NUMBER_IS_TOO_LARGE, 12 UNEXPECTED_TOKEN, and 13 POOL_FULL where a string found no room, whatever would
  *            have been found after it: the pool has the strings that were added before
  */
-uint32_t koto_parse(const uint8_t *format, size_t format_len, const uint32_t *table, size_t table_len, uint8_t *bytes,
-                    size_t bytes_len, koto_entry *entries, size_t entries_len, koto_counts *counts, koto_options *options,
-                    uint64_t *value);
+uint32_t koto_parse(const uint8_t *format, size_t format_len, const uint32_t *table, size_t table_len, uint32_t edition,
+                    uint8_t *bytes, size_t bytes_len, koto_entry *entries, size_t entries_len, koto_counts *counts,
+                    koto_options *options, uint64_t *value);
 
 #ifdef __cplusplus
 }

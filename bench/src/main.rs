@@ -5,11 +5,12 @@ mod inputs;
 mod stack;
 
 use clock::{Side, medians};
-use koto_lexer::{Counts, Entry, Given, Parsed, Pool, Scanned};
+use koto_lexer::{Counts, Edition, Entry, Given, Parsed, Pool, Scanned};
 use std::hint::black_box;
 
 const MEBIBYTE: usize = 1 << 20;
 const FORMATS: usize = 20_000;
+const EDITION: Edition = Edition::WITH_GB9C;
 
 fn main() {
     let table = full_table();
@@ -38,7 +39,7 @@ fn full_table() -> Vec<u32> {
 }
 
 fn scan(source: &[u8], table: &[u32], list: &mut [u32]) -> usize {
-    match koto_lexer::scan(source, table, list) {
+    match koto_lexer::scan(source, table, EDITION, list) {
         Scanned::End { count, .. } | Scanned::Stuck { count, .. } => count,
         refused => panic!("the input was refused: {refused:?}"),
     }
@@ -109,7 +110,7 @@ fn checks(table: &[u32]) {
 fn walks(table: &[u32]) {
     let source = inputs::input(0, 1 << 16);
     let mut list = vec![0; koto_lexer::room_for(source.len())];
-    let cursor = koto_lexer::scan(&source, table, &mut list).cursor().expect("a list");
+    let cursor = koto_lexer::scan(&source, table, EDITION, &mut list).cursor().expect("a list");
     let full = koto_rust::queued(std::str::from_utf8(&source).expect("a script"));
     let queue = || full.clone().map(|lexed| lexed.source_bytes.end).sum();
     let copy = || usize::from(black_box(full.clone()).source().is_empty());
@@ -144,7 +145,7 @@ fn formats(table: &[u32]) {
     let small = koto_lexer_small();
     let mut ours = |table: &[u32]| {
         let mut pool = Pool { bytes: &mut row, entries: &mut entries, counts: Counts::default() };
-        let read = |format: &&&[u8]| matches!(koto_lexer::parse(format, table, &mut pool), Parsed::Read(_));
+        let read = |format: &&&[u8]| matches!(koto_lexer::parse(format, table, EDITION, &mut pool), Parsed::Read(_));
         formats.iter().filter(read).count()
     };
     let rust = || koto_rust::parse_all(&formats);
@@ -170,7 +171,7 @@ fn long_formats(table: &[u32]) {
     let (mut row, mut entries) = (vec![0; 1 << 10], vec![Entry::default(); 1 << 7]);
     let mut ours = || {
         let mut pool = Pool { bytes: &mut row, entries: &mut entries, counts: Counts::default() };
-        usize::from(matches!(koto_lexer::parse(&format, table, &mut pool), Parsed::Read(_)))
+        usize::from(matches!(koto_lexer::parse(&format, table, EDITION, &mut pool), Parsed::Read(_)))
     };
     let formats = [format.as_slice()];
     let rust = || koto_rust::parse_all(&formats);
@@ -226,7 +227,7 @@ fn stacks(table: &[u32]) {
     let (mut row, mut entries) = (vec![0; 1 << 10], vec![Entry::default(); 1 << 7]);
     let mut parse = |format: &[u8]| {
         let mut pool = Pool { bytes: &mut row, entries: &mut entries, counts: Counts::default() };
-        usize::from(matches!(koto_lexer::parse(format, table, &mut pool), Parsed::Read(_)))
+        usize::from(matches!(koto_lexer::parse(format, table, EDITION, &mut pool), Parsed::Read(_)))
     };
     println!("koto_parse                    {:>6}", stack::used(&mut || black_box(parse("e\u{301}<08.3x".as_bytes()))));
     let file = std::fs::read(std::env::args().nth(1).expect("a table file")).expect("the table file");

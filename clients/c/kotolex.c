@@ -36,13 +36,14 @@ enum {
 #define PATH_ROOM 4096
 
 static const char HELP[] =
-    "usage: kotolex FILE [--table FILE]\n"
+    "usage: kotolex FILE [--table FILE] [--edition N]\n"
     "\n"
     "Lists the tokens of a Koto script of at most 1,048,576 bytes, one on a line, by nine numbers: kind, detail, the bytes where it starts\n"
     "and ends, the line and column where it starts, those where it ends, the indent of its line. Last comes how the scan ended: end or\n"
     "stuck with the count of tokens and the current byte, or refused with the refusal's number and place.\n"
     "\n"
     "  --table FILE   the property table; without it, " TABLE_FILE " beside the program\n"
+    "  --edition N    the edition of Unicode's cluster rules: 1 as before Unicode 15.1, without GB9c; 2, with it, if none is given\n"
     "  --help         this text\n"
     "\n"
     "exit status: 0 end or stuck, 1 the scan was refused, 2 bad usage, 3 the script can't be read, 4 the table can't be read,\n"
@@ -52,6 +53,7 @@ static const char HELP[] =
 typedef struct {
     const char *script;
     const char *table;
+    const char *edition;
     bool help;
 } options;
 
@@ -70,17 +72,39 @@ static int fail(int status, const char *what, const char *name) {
     return status;
 }
 
+/* Reads the word after an option that is not given twice. False where there is none. */
+static bool read_value(int argc, char **argv, int *i, const char **to) {
+    ++*i;
+    if (*i == argc || *to != NULL) {
+        return false;
+    }
+    *to = argv[*i];
+    return true;
+}
+
+/* Reads a number of at most nine digits. False for another word. */
+static bool read_number(const char *word, uint32_t *to) {
+    size_t len = strlen(word);
+    if (len == 0 || 9 < len || strspn(word, "0123456789") != len) {
+        return false;
+    }
+    *to = (uint32_t)strtoul(word, NULL, 10);
+    return true;
+}
+
 /* Reads the words of the command line. False for a line that is not as the help says. */
 static bool read_options(int argc, char **argv, options *to) {
     for (int i = 1; i < argc; i++) {
         if (strcmp(argv[i], "--help") == 0) {
             to->help = true;
         } else if (strcmp(argv[i], "--table") == 0) {
-            i++;
-            if (i == argc || to->table != NULL) {
+            if (!read_value(argc, argv, &i, &to->table)) {
                 return false;
             }
-            to->table = argv[i];
+        } else if (strcmp(argv[i], "--edition") == 0) {
+            if (!read_value(argc, argv, &i, &to->edition)) {
+                return false;
+            }
         } else if (argv[i][0] == '-' || to->script != NULL) {
             return false;
         } else {
@@ -165,7 +189,7 @@ static void print_records(words list, size_t count) {
 }
 
 /* Scans the script and prints what was written and how it ended. */
-static int list_tokens(bytes script, words table) {
+static int list_tokens(bytes script, words table, uint32_t edition) {
     /* A script of n bytes has at most n + n/3 records (docs/PROMISES.md, `never-full`). */
     words list = {NULL, KOTO_RECORD_WORDS * (script.len + script.len / 3)};
     /* malloc may answer a request for nothing by nothing. */
@@ -175,7 +199,7 @@ static int list_tokens(bytes script, words table) {
     }
     uint32_t end;
     size_t count, byte;
-    uint32_t refused = koto_scan(script.at, script.len, table.at, table.len, list.at, list.len, &end, &count, &byte);
+    uint32_t refused = koto_scan(script.at, script.len, table.at, table.len, edition, list.at, list.len, &end, &count, &byte);
     print_records(list, count);
     free(list.at);
     if (refused != 0) {
@@ -185,7 +209,7 @@ static int list_tokens(bytes script, words table) {
     return FINE;
 }
 
-static int run(const options *asked, const char *program) {
+static int run(const options *asked, uint32_t edition, const char *program) {
     char beside[PATH_ROOM];
     if (asked->table == NULL && !path_beside(program, beside, sizeof beside)) {
         return fail(NO_TABLE, "where is the table? --table FILE says it", "");
@@ -197,7 +221,7 @@ static int run(const options *asked, const char *program) {
         status = read_table(asked->table != NULL ? asked->table : beside, &table);
     }
     if (status == FINE) {
-        status = list_tokens(script, table);
+        status = list_tokens(script, table, edition);
     }
     free(script.at);
     free(table.at);
@@ -205,16 +229,17 @@ static int run(const options *asked, const char *program) {
 }
 
 int main(int argc, char **argv) {
-    options asked = {NULL, NULL, false};
+    options asked = {NULL, NULL, NULL, false};
+    uint32_t edition = KOTO_WITH_GB9C;
     int status = FINE;
-    if (!read_options(argc, argv, &asked)) {
+    if (!read_options(argc, argv, &asked) || (asked.edition != NULL && !read_number(asked.edition, &edition))) {
         fputs(HELP, stderr);
         return BAD_USAGE;
     }
     if (asked.help) {
         fputs(HELP, stdout);
     } else {
-        status = run(&asked, argv[0]);
+        status = run(&asked, edition, argv[0]);
     }
     if (fflush(stdout) != 0 || ferror(stdout) != 0) {
         return fail(NO_OUTPUT, "the output can't be written", "");

@@ -1,6 +1,7 @@
 //! Strings in a lent pool, and format options.
 
 use crate::raw::{self, Counts, Entry};
+use crate::Edition;
 
 /// A pool of strings in lent rows
 #[derive(Debug)]
@@ -67,6 +68,8 @@ pub enum Parsed {
     Read(Options),
     /// Refusal 1
     TooLong,
+    /// Refusal 17
+    BadEdition,
     /// Refusal 2
     BadTable(usize),
     /// Refusal 3
@@ -112,7 +115,7 @@ pub fn add_string(string: &[u8], pool: &mut Pool) -> Added {
 }
 
 /// Parses a format string, and adds its fill to the pool.
-pub fn parse(format: &[u8], table: &[u32], pool: &mut Pool) -> Parsed {
+pub fn parse(format: &[u8], table: &[u32], edition: Edition, pool: &mut Pool) -> Parsed {
     let (mut options, mut value) = (raw::Options::default(), 0);
     // SAFETY: as in `add_string`
     let refused = unsafe {
@@ -121,6 +124,7 @@ pub fn parse(format: &[u8], table: &[u32], pool: &mut Pool) -> Parsed {
             format.len(),
             table.as_ptr(),
             table.len(),
+            edition.0,
             pool.bytes.as_mut_ptr(),
             pool.bytes.len(),
             pool.entries.as_mut_ptr(),
@@ -140,6 +144,7 @@ pub fn parse(format: &[u8], table: &[u32], pool: &mut Pool) -> Parsed {
         11 => Parsed::FormatNumberIsTooLarge(value),
         12 => Parsed::UnexpectedToken(value as u32),
         15 => Parsed::CutUtf8(value as usize),
+        17 => Parsed::BadEdition,
         _ => Parsed::PoolFull,
     }
 }

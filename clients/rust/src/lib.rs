@@ -11,7 +11,8 @@ pub use formats::{add_string, parse, Added, Alignment, Fill, Options, Parsed, Po
 pub use lists::{next, peek, room_for, scan, Cursor, Given, Peeked, Scanned, Status, RECORD_WORDS};
 pub use raw::{Counts, Entry, Record};
 pub use texts::{
-    check_table, check_utf8, first_cluster, read_char, read_table, Cluster, Read, TableCheck, TableFile, Utf8Check,
+    check_table, check_utf8, first_cluster, read_char, read_table, Cluster, Edition, Read, TableCheck, TableFile,
+    Utf8Check,
 };
 
 /// Sources over this many bytes are refused.

@@ -1,6 +1,7 @@
 //! A source scanned into a list of records, and a cursor over that list.
 
 use crate::raw::{self, Record};
+use crate::Edition;
 
 /// The numbers of a record in a list
 pub const RECORD_WORDS: usize = 8;
@@ -27,6 +28,8 @@ pub enum Scanned {
     },
     /// Refusal 1
     TooLong,
+    /// Refusal 17
+    BadEdition,
     /// Refusal 2
     BadTable(usize),
     /// Refusal 3
@@ -88,7 +91,7 @@ pub const fn room_for(source_len: usize) -> usize {
 }
 
 /// Writes the records of a source at the start of the list.
-pub fn scan(source: &[u8], table: &[u32], list: &mut [u32]) -> Scanned {
+pub fn scan(source: &[u8], table: &[u32], edition: Edition, list: &mut [u32]) -> Scanned {
     let (mut status, mut count, mut byte) = (0, 0, 0);
     // SAFETY: the slices are lent for the call, the list to be written, and each answer word is a local.
     let refused = unsafe {
@@ -97,6 +100,7 @@ pub fn scan(source: &[u8], table: &[u32], list: &mut [u32]) -> Scanned {
             source.len(),
             table.as_ptr(),
             table.len(),
+            edition.0,
             list.as_mut_ptr(),
             list.len(),
             &mut status,
@@ -112,7 +116,8 @@ pub fn scan(source: &[u8], table: &[u32], list: &mut [u32]) -> Scanned {
         3 => Scanned::BadUtf8(byte),
         4 => Scanned::ListFull { count, byte },
         5 => Scanned::ModesFull { count, byte },
-        _ => Scanned::CutUtf8(byte),
+        15 => Scanned::CutUtf8(byte),
+        _ => Scanned::BadEdition,
     }
 }
 

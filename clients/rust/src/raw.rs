@@ -65,6 +65,7 @@ extern "C" {
         source_len: usize,
         table: *const u32,
         table_len: usize,
+        edition: u32,
         len: *mut usize,
         place: *mut usize,
     ) -> u32;
@@ -73,6 +74,7 @@ extern "C" {
         source_len: usize,
         table: *const u32,
         table_len: usize,
+        edition: u32,
         list: *mut u32,
         list_len: usize,
         status: *mut u32,
@@ -118,6 +120,7 @@ extern "C" {
         format_len: usize,
         table: *const u32,
         table_len: usize,
+        edition: u32,
         bytes: *mut u8,
         bytes_len: usize,
         entries: *mut Entry,

@@ -46,6 +46,24 @@ pub enum TableFile {
     BadTable(usize),
 }
 
+/// An edition of the cluster rules (UAX #29). Every call with a table takes one behind it, and refuses another number than the two (17).
+#[derive(Clone, Copy, Debug, PartialEq, Eq)]
+pub struct Edition(pub u32);
+
+impl Edition {
+    /// As before Unicode 15.1, for a host with older data
+    pub const WITHOUT_GB9C: Edition = Edition(1);
+    /// With GB9c, by which an Indic conjunct is one cluster
+    pub const WITH_GB9C: Edition = Edition(2);
+}
+
+/// The edition of the newer Unicode data
+impl Default for Edition {
+    fn default() -> Self {
+        Edition::WITH_GB9C
+    }
+}
+
 /// The first cluster
 #[derive(Clone, Copy, Debug, PartialEq, Eq)]
 pub enum Cluster {
@@ -53,6 +71,8 @@ pub enum Cluster {
     Length(usize),
     /// Refusal 1
     TooLong,
+    /// Refusal 17
+    BadEdition,
     /// Refusal 2
     BadTable(usize),
     /// Refusal 3
@@ -108,17 +128,26 @@ pub fn read_table(file: &[u8], row: &mut [u32]) -> TableFile {
 }
 
 /// The length of the first grapheme cluster (UAX #29)
-pub fn first_cluster(source: &[u8], table: &[u32]) -> Cluster {
+pub fn first_cluster(source: &[u8], table: &[u32], edition: Edition) -> Cluster {
     let (mut len, mut place) = (0, 0);
     // SAFETY: as in `read_char`
     let refused = unsafe {
-        raw::koto_first_cluster(source.as_ptr(), source.len(), table.as_ptr(), table.len(), &mut len, &mut place)
+        raw::koto_first_cluster(
+            source.as_ptr(),
+            source.len(),
+            table.as_ptr(),
+            table.len(),
+            edition.0,
+            &mut len,
+            &mut place,
+        )
     };
     match refused {
         0 => Cluster::Length(len),
         1 => Cluster::TooLong,
         2 => Cluster::BadTable(place),
         3 => Cluster::BadUtf8(place),
-        _ => Cluster::CutUtf8(place),
+        15 => Cluster::CutUtf8(place),
+        _ => Cluster::BadEdition,
     }
 }

@@ -9,7 +9,7 @@ use koto_lexer::*;
 fn parsed(format: &[u8], entries: usize, bytes: usize) -> (Parsed, Counts) {
     let (mut bytes, mut entries) = (vec![0; bytes], vec![Entry::default(); entries]);
     let mut pool = Pool { bytes: &mut bytes, entries: &mut entries, counts: Counts::default() };
-    let answer = parse(format, &full_table(), &mut pool);
+    let answer = parse(format, &full_table(), Edition::WITH_GB9C, &mut pool);
     (answer, pool.counts)
 }
 
@@ -66,8 +66,22 @@ fn refusals_of_a_parse() {
     // An error takes no string back.
     assert_eq!(parsed(b"_<5.x", 4, 4), (Parsed::ExpectedNumber(120), Counts { entries: 1, bytes: 1 }));
     let mut pool = Pool { bytes: &mut [], entries: &mut [], counts: Counts { entries: 1, bytes: 0 } };
-    assert_eq!(parse(b"5", &full_table(), &mut pool), Parsed::BadState);
-    assert_eq!(parse(b"5", &[], &mut pool), Parsed::BadTable(0));
+    assert_eq!(parse(b"5", &full_table(), Edition::WITH_GB9C, &mut pool), Parsed::BadState);
+    assert_eq!(parse(b"5", &[], Edition::WITH_GB9C, &mut pool), Parsed::BadTable(0));
+    assert_eq!(parse(b"5", &[], Edition(3), &mut pool), Parsed::BadEdition);
+    assert_eq!(parse(&vec![b'0'; FORMAT_MOST + 1], &[], Edition(3), &mut pool), Parsed::TooLong);
+}
+
+#[test]
+fn a_conjunct_as_the_fill() {
+    let (mut bytes, mut entries) = ([0; 16], [Entry::default(); 2]);
+    let mut pool = Pool { bytes: &mut bytes, entries: &mut entries, counts: Counts::default() };
+    let format = "\u{915}\u{94D}\u{937}^7".as_bytes();
+    // Without GB9c the cluster ends before the second consonant, which is no alignment.
+    assert_eq!(parse(format, &full_table(), Edition::WITHOUT_GB9C, &mut pool), Parsed::UnexpectedToken(0x937));
+    let wanted = Options { alignment: Alignment::Center, width: Some(7), fill: fill(0, 9), ..PLAIN };
+    let said = parse(format, &full_table(), Edition::WITH_GB9C, &mut pool);
+    assert_eq!(said, Parsed::Read(wanted));
 }
 
 #[test]

@@ -5,6 +5,9 @@ mod common;
 use common::{full_table, records};
 use koto_lexer::*;
 
+const WITH: Edition = Edition::WITH_GB9C;
+const WITHOUT: Edition = Edition::WITHOUT_GB9C;
+
 fn end(count: usize, byte: usize) -> Scanned {
     Scanned::End { count, byte }
 }
@@ -42,7 +45,7 @@ fn the_list_programs_example() {
 fn a_record_has_its_lines_columns_and_indent() {
     let source = "a\n  \u{6F22}\u{6F22}".as_bytes();
     let mut list = vec![0; room_for(source.len())];
-    let mut cursor = scan(source, &full_table(), &mut list).cursor().unwrap();
+    let mut cursor = scan(source, &full_table(), WITH, &mut list).cursor().unwrap();
     cursor.taken = 3;
     let wanted = Record {
         kind: 6,
@@ -62,18 +65,18 @@ fn a_record_has_its_lines_columns_and_indent() {
 fn refusals_of_a_scan() {
     let table = full_table();
     let mut list = [7; 24];
-    assert_eq!(scan(&vec![b'a'; SOURCE_MOST + 1], &table, &mut list), Scanned::TooLong);
-    assert_eq!(scan(b"a", &[], &mut list), Scanned::BadTable(0));
-    assert_eq!(scan(b"a", &[48, 48], &mut list), Scanned::BadTable(1));
-    assert_eq!(scan(b"ab\xFF", &table, &mut list), Scanned::BadUtf8(2));
-    assert_eq!(scan(b"ab\xE6\xBC", &table, &mut list), Scanned::CutUtf8(2));
-    assert_eq!(scan(b"ab\xE6\xBCc", &table, &mut list), Scanned::BadUtf8(2));
+    assert_eq!(scan(&vec![b'a'; SOURCE_MOST + 1], &table, WITH, &mut list), Scanned::TooLong);
+    assert_eq!(scan(b"a", &[], WITH, &mut list), Scanned::BadTable(0));
+    assert_eq!(scan(b"a", &[48, 48], WITH, &mut list), Scanned::BadTable(1));
+    assert_eq!(scan(b"ab\xFF", &table, WITH, &mut list), Scanned::BadUtf8(2));
+    assert_eq!(scan(b"ab\xE6\xBC", &table, WITH, &mut list), Scanned::CutUtf8(2));
+    assert_eq!(scan(b"ab\xE6\xBCc", &table, WITH, &mut list), Scanned::BadUtf8(2));
     assert_eq!(list, [7; 24]);
-    assert_eq!(scan(b"a b c", &table, &mut list), Scanned::ListFull { count: 3, byte: 3 });
+    assert_eq!(scan(b"a b c", &table, WITH, &mut list), Scanned::ListFull { count: 3, byte: 3 });
     let deep = b"'{".repeat(32);
     let mut list = vec![0; room_for(65)];
-    assert_eq!(scan(&deep, &table, &mut list), end(64, 64));
-    assert_eq!(scan(&[&deep[..], b"'"].concat(), &table, &mut list), Scanned::ModesFull { count: 64, byte: 64 });
+    assert_eq!(scan(&deep, &table, WITH, &mut list), end(64, 64));
+    assert_eq!(scan(&[&deep[..], b"'"].concat(), &table, WITH, &mut list), Scanned::ModesFull { count: 64, byte: 64 });
 }
 
 #[test]
@@ -87,7 +90,7 @@ fn a_scan_of_one_mebibyte() {
 #[test]
 fn next_to_the_end() {
     let mut list = [0; 64];
-    let mut cursor = scan(b"a b", &full_table(), &mut list).cursor().unwrap();
+    let mut cursor = scan(b"a b", &full_table(), WITH, &mut list).cursor().unwrap();
     for taken in 1..=3 {
         assert!(matches!(next(&list, &mut cursor), Given::Token(_)));
         assert_eq!(cursor.taken, taken);
@@ -99,7 +102,7 @@ fn next_to_the_end() {
 #[test]
 fn peek_as_koto_does() {
     let mut list = [0; 64];
-    let mut cursor = scan(b"a b", &full_table(), &mut list).cursor().unwrap();
+    let mut cursor = scan(b"a b", &full_table(), WITH, &mut list).cursor().unwrap();
     // On an empty queue `peek(1)` queues nothing (docs/DIFFERENCES.md).
     assert_eq!((peek(&list, &mut cursor, 1), cursor.queued), (Peeked::Nothing, 0));
     assert!(matches!(peek(&list, &mut cursor, 0), Peeked::Token(Record { kind: 6, start: 0, .. })));
@@ -112,7 +115,7 @@ fn peek_as_koto_does() {
 #[test]
 fn refusals_of_a_cursor() {
     let mut list = [0; 64];
-    let fit = scan(b"a b", &full_table(), &mut list).cursor().unwrap();
+    let fit = scan(b"a b", &full_table(), WITH, &mut list).cursor().unwrap();
     for unfit in [
         Cursor { count: 9, ..fit },
         Cursor { taken: 4, ..fit },
@@ -170,13 +173,45 @@ fn a_character_that_arrives_byte_by_byte() {
 #[test]
 fn clusters() {
     let table = full_table();
-    assert_eq!(first_cluster(b"", &table), Cluster::Length(0));
-    assert_eq!(first_cluster("e\u{301}x".as_bytes(), &table), Cluster::Length(3));
-    assert_eq!(first_cluster(b"\r\n", &table), Cluster::Length(2));
-    assert_eq!(first_cluster(&vec![b'a'; SOURCE_MOST + 1], &table), Cluster::TooLong);
-    assert_eq!(first_cluster(b"a", &[]), Cluster::BadTable(0));
-    assert_eq!(first_cluster(b"a\x80", &table), Cluster::BadUtf8(1));
-    assert_eq!(first_cluster(b"a\xC3", &table), Cluster::CutUtf8(1));
+    assert_eq!(first_cluster(b"", &table, WITH), Cluster::Length(0));
+    assert_eq!(first_cluster("e\u{301}x".as_bytes(), &table, WITH), Cluster::Length(3));
+    assert_eq!(first_cluster(b"\r\n", &table, WITH), Cluster::Length(2));
+    assert_eq!(first_cluster(&vec![b'a'; SOURCE_MOST + 1], &table, WITH), Cluster::TooLong);
+    assert_eq!(first_cluster(b"a", &[], WITH), Cluster::BadTable(0));
+    assert_eq!(first_cluster(b"a\x80", &table, WITH), Cluster::BadUtf8(1));
+    assert_eq!(first_cluster(b"a\xC3", &table, WITH), Cluster::CutUtf8(1));
+}
+
+#[test]
+fn editions() {
+    let table = full_table();
+    // KA, virama, SSA: a conjunct is one cluster from Unicode 15.1 on, and two before.
+    let conjunct = "\u{915}\u{94D}\u{937}";
+    assert_eq!(first_cluster(conjunct.as_bytes(), &table, WITH), Cluster::Length(9));
+    assert_eq!(first_cluster(conjunct.as_bytes(), &table, WITHOUT), Cluster::Length(6));
+    assert_eq!(Edition::default(), WITH);
+    // With a consonant that joins what follows it, which no Unicode data have, a fill may end in "}"; without GB9c that ends the options.
+    let at = table.partition_point(|run| run / 2048 <= 0xE000);
+    let before = table[at - 1] % 2048;
+    let joining = [[0xE000 * 2048 + 4 + 16 * 7 + 512, 0xE001 * 2048 + before].as_slice(), &table[at..]].concat();
+    let table = [&table[..at], &joining].concat();
+    let source = "'{x:\u{915}\u{94D}\u{E000}}<5}'".as_bytes();
+    let mut list = vec![0; room_for(source.len())];
+    let mut options_end = |edition| {
+        assert!(scan(source, &table, edition, &mut list).cursor().is_some());
+        list[4 * RECORD_WORDS + 2]
+    };
+    assert_eq!((options_end(WITH), options_end(WITHOUT)), (16, 13));
+    // 17 comes after 1 and before all else.
+    for number in [0, 3, u32::MAX] {
+        let mut list = [7; 8];
+        let long = vec![b'a'; SOURCE_MOST + 1];
+        assert_eq!(scan(b"a\xFF", &[], Edition(number), &mut list), Scanned::BadEdition);
+        assert_eq!(scan(&long, &[], Edition(number), &mut list), Scanned::TooLong);
+        assert_eq!(list, [7; 8]);
+        assert_eq!(first_cluster(b"a\xFF", &[], Edition(number)), Cluster::BadEdition);
+        assert_eq!(first_cluster(&long, &[], Edition(number)), Cluster::TooLong);
+    }
 }
 
 #[test]

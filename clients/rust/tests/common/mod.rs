@@ -1,6 +1,6 @@
 //! What the tests share: the full table, a scan as numbers.
 
-use koto_lexer::{next, read_table, room_for, scan, Given, Scanned, TableFile, TABLE_MOST};
+use koto_lexer::{next, read_table, room_for, scan, Edition, Given, Scanned, TableFile, TABLE_MOST};
 
 const FULL: &[u8] = include_bytes!("../../../../crates/replay_cluster/data/full.kpt");
 
@@ -18,7 +18,7 @@ pub fn full_table() -> Vec<u32> {
 #[allow(dead_code)]
 pub fn records(source: &[u8]) -> (Vec<[u32; 4]>, Scanned) {
     let mut list = vec![0; room_for(source.len())];
-    let scanned = scan(source, &full_table(), &mut list);
+    let scanned = scan(source, &full_table(), Edition::WITH_GB9C, &mut list);
     let mut cursor = match scanned.cursor() {
         Some(cursor) => cursor,
         None => return (vec![], scanned),
