@@ -1,6 +1,6 @@
 //! The library's calls, each with watched buffers and answer words.
 
-use crate::lent::{Answers, Arena};
+use crate::memory::{Answers, Arena};
 use koto_lexer::raw::{self, Counts, Entry, Options, Record};
 
 pub const SOURCE_MOST: usize = 1_048_576;
@@ -12,8 +12,9 @@ const LIST_ROOM: usize = 8 * (SOURCE_ROOM + SOURCE_ROOM / 3) + 64;
 
 pub struct Library {
     pub source: Arena<u8>,
-    /// The full table, which can only be read
+    /// The full table and the older crates' table, which can only be read
     full: Arena<u32>,
+    older: Arena<u32>,
     pub table: Arena<u32>,
     pub list: Arena<u32>,
     pub bytes: Arena<u8>,
@@ -27,6 +28,7 @@ pub struct Library {
 #[derive(Clone, Copy, PartialEq)]
 pub enum Table {
     Full,
+    Older,
     Lent,
 }
 
@@ -48,13 +50,11 @@ pub struct Said<T> {
 }
 
 impl Library {
-    pub fn new(table: &[u32]) -> Self {
-        let mut full = Arena::new(table.len());
-        full.fill(table);
-        full.only_read();
+    pub fn new(full: &[u32], older: &[u32]) -> Self {
         Self {
             source: Arena::new(SOURCE_ROOM),
-            full,
+            full: only_read(full),
+            older: only_read(older),
             table: Arena::new(70_000),
             list: Arena::new(LIST_ROOM),
             bytes: Arena::new(1 << 17),
@@ -66,11 +66,15 @@ impl Library {
     }
 
     fn table(&self, which: Table) -> &[u32] {
-        if which == Table::Full { self.full.get() } else { self.table.get() }
+        match which {
+            Table::Full => self.full.get(),
+            Table::Older => self.older.get(),
+            Table::Lent => self.table.get(),
+        }
     }
 
     fn texts_whole(&self) -> bool {
-        self.source.is_whole() && self.full.is_whole() && self.table.is_whole()
+        self.source.is_whole() && self.full.is_whole() && self.older.is_whole() && self.table.is_whole()
     }
 
     /// code, length
@@ -105,7 +109,7 @@ impl Library {
     }
 
     /// length, place
-    pub fn first_cluster(&self, which: Table) -> Said<(usize, usize)> {
+    pub fn first_cluster(&self, which: Table, edition: u32) -> Said<(usize, usize)> {
         let (source, table, mut said) = (self.source.get(), self.table(which), Answers::new());
         let number = unsafe {
             raw::koto_first_cluster(
@@ -113,6 +117,7 @@ impl Library {
                 source.len(),
                 table.as_ptr(),
                 table.len(),
+                edition,
                 said.size(0),
                 said.size(1),
             )
@@ -121,7 +126,7 @@ impl Library {
     }
 
     /// status, count, byte
-    pub fn scan(&mut self, which: Table) -> Said<(u32, usize, usize)> {
+    pub fn scan(&mut self, which: Table, edition: u32) -> Said<(u32, usize, usize)> {
         let mut said = Answers::new();
         let list = self.list.get_mut();
         let (list_at, list_len) = (list.as_mut_ptr(), list.len());
@@ -132,6 +137,7 @@ impl Library {
                 source.len(),
                 table.as_ptr(),
                 table.len(),
+                edition,
                 list_at,
                 list_len,
                 said.narrow(0),
@@ -217,7 +223,7 @@ impl Library {
     }
 
     /// options, value, and the counts after it. The format string is the source's buffer.
-    pub fn parse(&mut self, which: Table, counts: Counts) -> Said<(Options, u64, Counts)> {
+    pub fn parse(&mut self, which: Table, edition: u32, counts: Counts) -> Said<(Options, u64, Counts)> {
         let mut said = Answers::new();
         self.counts.fill(&[counts]);
         self.options.fill(&[Options::default()]);
@@ -232,6 +238,7 @@ impl Library {
                 format.len(),
                 table.as_ptr(),
                 table.len(),
+                edition,
                 bytes_at,
                 bytes_len,
                 entries_at,
@@ -244,4 +251,11 @@ impl Library {
         let answer = (self.options.get()[0], said.as_size(0) as u64, self.counts.get()[0]);
         Said { number, answer, whole: said.is_whole(&[]) && self.pool_whole() && self.options.is_whole() }
     }
+}
+
+fn only_read(table: &[u32]) -> Arena<u32> {
+    let mut arena = Arena::new(table.len());
+    arena.fill(table);
+    arena.only_read();
+    arena
 }

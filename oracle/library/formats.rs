@@ -1,10 +1,11 @@
 //! Format strings with their pools: empty, part full, full and unfit.
 
-use crate::calls::{FORMAT_MOST, Table};
+use crate::Run;
+use crate::calls::FORMAT_MOST;
 use crate::damage::damaged;
+use crate::hosts::{self, Host};
 use crate::pools::{Rows, some_pool};
 use crate::rich::Dice;
-use crate::{Run, scans};
 use answers::{Parse, Pool};
 use koto_lexer::raw::{NONE, Options};
 
@@ -89,7 +90,7 @@ fn number(dice: &mut Dice) -> String {
 }
 
 /// What stands after a fill
-fn shape(dice: &mut Dice) -> String {
+pub fn shape(dice: &mut Dice) -> String {
     let alignment = ["<", "^", ">", "<", ">", "", ">>"][dice.below(7)];
     let width = number(dice);
     let precision = if dice.below(2) == 0 { ".".to_string() + &number(dice) } else { String::new() };
@@ -128,34 +129,37 @@ pub fn one(run: &mut Run, dice: &mut Dice, format: &[u8]) -> usize {
         return 0;
     }
     let (pool, rows) = some_pool(dice, format);
+    for host in hosts::some(run, dice) {
+        by_host(run, format, pool.as_ref(), &rows, &host);
+    }
+    1
+}
+
+/// The parse of a format string with a pool, as one host has it; its number, options and value
+pub fn by_host(run: &mut Run, format: &[u8], pool: Option<&Pool>, rows: &Rows, host: &Host) -> (u32, Options, u64) {
     run.library.source.fill(format);
     rows.lend(&mut run.library);
-    let which = if dice.below(500) == 0 {
-        run.library.table.fill(&run.table[..10]);
-        Table::Lent
-    } else {
-        Table::Full
-    };
-    let said = run.library.parse(which, rows.counts);
-    let (number, options, value, after) = wanted(run, format, which, pool.as_ref(), &rows);
+    run.tally.count("format strings", host.name);
+    let said = run.library.parse(host.table, host.edition, rows.counts);
+    let (number, options, value, after) = wanted(run, format, host, pool, rows);
     let got = (said.number, said.answer);
     run.tally.note("parse", said.number, &got, &(number, (options, value, after.counts)), format);
     if !said.whole || run.library.source.get() != format || !after.stands_in(&run.library) {
         run.tally.spoiled("parse", format);
     }
-    1
+    (number, options, value)
 }
 
 /// The answer by koto's parser, and the rows after it
-fn wanted(run: &Run, format: &[u8], which: Table, pool: Option<&Pool>, rows: &Rows) -> (u32, Options, u64, Rows) {
-    let text = match scans::text(run, format, FORMAT_MOST, which) {
+fn wanted(run: &Run, format: &[u8], host: &Host, pool: Option<&Pool>, rows: &Rows) -> (u32, Options, u64, Rows) {
+    let text = match host.text(run, format, FORMAT_MOST) {
         Ok(text) => text,
         Err((number, place)) => return (number, DEFAULT, place as u64, rows.clone()),
     };
     let Some(pool) = pool else {
         return (8, DEFAULT, 0, rows.clone());
     };
-    let Parse { answer, strings } = (koto_real::JUDGE.parse)(text, pool);
+    let Parse { answer, strings } = (host.judge.parse)(text, pool);
     let after = rows.with(&strings);
     match answer {
         Err((number, value)) => (number, DEFAULT, value, after),

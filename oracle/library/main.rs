@@ -1,14 +1,17 @@
 //! The proved library against koto's Rust with its real Unicode crates, call by call, at scale. README.md of the oracle says what is tried.
 
 mod calls;
+mod conjuncts;
 mod cursors;
 mod cuts;
 mod damage;
 mod formats;
+mod hosts;
 #[allow(dead_code)]
 #[path = "../src/kpt.rs"]
 mod kpt;
-mod lent;
+mod memory;
+mod odd;
 mod pools;
 #[allow(dead_code)]
 #[path = "../src/rich.rs"]
@@ -36,10 +39,13 @@ fn main() {
     let number = |i: usize, else_: u64| words.get(i).map_or(else_, |word| word.parse().expect("a number"));
     let (seed, count) = (number(0, 50), number(1, 1_000_000) as usize);
     let table = kpt::full();
-    let mut run = Run { library: Library::new(&table), kinds: Kinds::of(&table), table, tally: Tally::default() };
+    let library = Library::new(&table, &kpt::older());
+    let mut run = Run { library, kinds: Kinds::of(&table), table, tally: Tally::default() };
     let mut dice = Dice::new(seed);
     scans::compare(&mut run, &mut dice, count);
     formats::compare(&mut run, &mut dice, count);
+    conjuncts::compare(&mut run, &mut dice, count / 8);
+    odd::compare(&mut run, &mut dice, count / 20_000);
     cuts::compare(&mut run, &mut dice);
     cursors::compare(&mut run, &mut dice, count / 5);
     tables::compare(&mut run, &mut dice, count / 50);

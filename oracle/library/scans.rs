@@ -1,9 +1,10 @@
 //! Sources: the scan, a walk over its list, the first cluster, and the UTF-8 of each.
 
-use crate::calls::{Cursor, SOURCE_MOST, Table};
+use crate::calls::{Cursor, SOURCE_MOST};
 use crate::damage::damaged;
+use crate::hosts::{self, Host};
 use crate::rich::Dice;
-use crate::{Run, kpt, scripts};
+use crate::{Run, scripts};
 use answers::{Call, Shown, Status, text_of};
 use koto_lexer::raw::Record;
 
@@ -50,6 +51,15 @@ pub fn one(run: &mut Run, dice: &mut Dice, source: &[u8]) -> usize {
     if !run.tally.is_new("source", source) {
         return 0;
     }
+    for host in hosts::some(run, dice) {
+        by_host(run, dice, source, &host);
+    }
+    texts(run, source, dice);
+    1
+}
+
+/// A source's scan and its first cluster, as one host has them; what they are
+pub fn by_host(run: &mut Run, dice: &mut Dice, source: &[u8], host: &Host) -> (Vec<u32>, usize) {
     run.library.source.fill(source);
     // Most lists have room for every source, and some a few words more; others are short.
     let room = match dice.below(8) {
@@ -57,34 +67,9 @@ pub fn one(run: &mut Run, dice: &mut Dice, source: &[u8]) -> usize {
         1 => 8 * (source.len() + source.len() / 3) + dice.below(8),
         _ => 8 * (source.len() + source.len() / 3),
     };
-    let which = if dice.below(200) == 0 { bad_table(run, dice) } else { Table::Full };
-    scan(run, source, room, which, dice);
-    texts(run, source, which, dice);
-    1
-}
-
-/// Lends a damaged copy of the full table.
-fn bad_table(run: &mut Run, dice: &mut Dice) -> Table {
-    let mut table = run.table.clone();
-    match dice.below(4) {
-        0 => table.clear(),
-        1 => table[0] += 1,
-        2 => table.swap(100, 200),
-        _ => table.resize(8001, 0),
-    }
-    run.library.table.fill(&table);
-    Table::Lent
-}
-
-/// Refusals 1, 2 and 3 or 15 in their order, or the text
-pub fn text<'a>(run: &Run, bytes: &'a [u8], most: usize, which: Table) -> Result<&'a str, (u32, usize)> {
-    if bytes.len() > most {
-        return Err((1, 0));
-    }
-    if let Some(place) = (which == Table::Lent).then(|| kpt::bad_table(run.library.table.get())).flatten() {
-        return Err((2, place));
-    }
-    text_of(bytes)
+    run.tally.count("sources", host.name);
+    let list = scan(run, source, room, host, dice);
+    (list, first_cluster(run, source, host))
 }
 
 fn put(list: &mut [u32], records: &[answers::Record]) {
@@ -94,14 +79,15 @@ fn put(list: &mut [u32], records: &[answers::Record]) {
     }
 }
 
-fn scan(run: &mut Run, source: &[u8], room: usize, which: Table, dice: &mut Dice) {
+/// The list that a host has
+fn scan(run: &mut Run, source: &[u8], room: usize, host: &Host, dice: &mut Dice) -> Vec<u32> {
     let mut list = vec![OLD; room];
     run.library.list.fill(&list);
-    let said = run.library.scan(which);
-    let wanted = match text(run, source, SOURCE_MOST, which) {
+    let said = run.library.scan(host.table, host.edition);
+    let wanted = match host.text(run, source, SOURCE_MOST) {
         Err((number, place)) => (number, (2, 0, place)),
         Ok(text) => {
-            let scan = (koto_real::JUDGE.scan)(text, room / 8);
+            let scan = (host.judge.scan)(text, room / 8);
             put(&mut list, &scan.records);
             match scan.status {
                 Status::End => (0, (0, scan.records.len(), scan.place)),
@@ -119,8 +105,9 @@ fn scan(run: &mut Run, source: &[u8], room: usize, which: Table, dice: &mut Dice
     }
     let (status, count, _) = said.answer;
     if said.number == 0 && (source.len() < 10_000 && dice.below(3) == 0) {
-        walk(run, source, Cursor { taken: 0, queued: 0, count, status }, dice);
+        walk(run, source, Cursor { taken: 0, queued: 0, count, status }, host, dice);
     }
+    list
 }
 
 fn record_of(record: answers::Record) -> Record {
@@ -138,11 +125,11 @@ fn some_call(dice: &mut Dice, peeks: &mut usize) -> Call {
 }
 
 /// Some calls of `next` and `peek` over the list of a scan, against koto's
-fn walk(run: &mut Run, source: &[u8], start: Cursor, dice: &mut Dice) {
+fn walk(run: &mut Run, source: &[u8], start: Cursor, host: &Host, dice: &mut Dice) {
     let mut peeks = 0;
     let calls: Vec<Call> = (0..dice.below(16)).map(|_| some_call(dice, &mut peeks)).collect();
     let text = std::str::from_utf8(source).expect("a source that was scanned");
-    let (shown, queued) = (koto_real::JUDGE.walk)(text, &calls);
+    let (shown, queued) = (host.judge.walk)(text, &calls);
     let list = run.library.list.get().to_vec();
     let mut cursor = start;
     for (call, shown) in calls.iter().zip(shown) {
@@ -167,21 +154,27 @@ fn walk(run: &mut Run, source: &[u8], start: Cursor, dice: &mut Dice) {
     }
 }
 
-/// The first cluster, the check of UTF-8, and one character
-fn texts(run: &mut Run, source: &[u8], which: Table, dice: &mut Dice) {
-    let said = run.library.first_cluster(which);
-    let wanted = match text(run, source, SOURCE_MOST, which) {
+/// The length of the first cluster that a host has
+fn first_cluster(run: &mut Run, source: &[u8], host: &Host) -> usize {
+    let said = run.library.first_cluster(host.table, host.edition);
+    let wanted = match host.text(run, source, SOURCE_MOST) {
         Err((number, place)) => (number, (0, place)),
-        Ok(text) => (0, ((koto_real::JUDGE.first_cluster)(text), 0)),
+        Ok(text) => (0, ((host.judge.first_cluster)(text), 0)),
     };
     run.tally.note("first_cluster", said.number, &(said.number, said.answer), &wanted, source);
-    let is_whole = said.whole;
+    if !said.whole || run.library.source.get() != source {
+        run.tally.spoiled("first_cluster", source);
+    }
+    wanted.1.0
+}
 
+/// The check of UTF-8, and one character
+fn texts(run: &mut Run, source: &[u8], dice: &mut Dice) {
     let said = run.library.check_utf8();
     let wanted = text_of(source).map_or_else(|refused| refused, |_| (0, 0));
     run.tally.note("check_utf8", said.number, &(said.number, said.answer), &wanted, source);
-    if !(is_whole && said.whole) || run.library.source.get() != source {
-        run.tally.spoiled("first_cluster or check_utf8", source);
+    if !said.whole || run.library.source.get() != source {
+        run.tally.spoiled("check_utf8", source);
     }
     let at = if dice.below(50) == 0 { usize::MAX - dice.below(3) } else { dice.below(source.len() + 2) };
     char_at(run, source, at);

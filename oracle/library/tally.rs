@@ -9,12 +9,12 @@ const WANTED: [(&str, &[u32]); 10] = [
     ("check_utf8", &[0, 3, 15]),
     ("check_table", &[0, 2]),
     ("read_table", &[0, 2, 4, 14]),
-    ("first_cluster", &[0, 1, 2, 3, 15]),
-    ("scan", &[0, 1, 2, 3, 4, 5, 15]),
+    ("first_cluster", &[0, 1, 2, 3, 15, 17]),
+    ("scan", &[0, 1, 2, 3, 4, 5, 15, 17]),
     ("next", &[0, 8, 9]),
     ("peek", &[0, 6, 7, 8, 9]),
     ("add_string", &[0, 3, 8, 13, 15]),
-    ("parse", &[0, 1, 2, 3, 8, 10, 11, 12, 13, 15]),
+    ("parse", &[0, 1, 2, 3, 8, 10, 11, 12, 13, 15, 17]),
 ];
 
 const SHOWN_MOST: usize = 10;
@@ -22,6 +22,8 @@ const SHOWN_MOST: usize = 10;
 #[derive(Default)]
 pub struct Tally {
     answers: BTreeMap<(&'static str, u32), u64>,
+    /// How many of what were judged by whom
+    judged: BTreeMap<(&'static str, &'static str), u64>,
     seen: HashSet<u64>,
     differences: usize,
 }
@@ -32,6 +34,10 @@ impl Tally {
         let mut hasher = DefaultHasher::new();
         (group, input).hash(&mut hasher);
         self.seen.insert(hasher.finish())
+    }
+
+    pub fn count(&mut self, what: &'static str, host: &'static str) {
+        *self.judged.entry((what, host)).or_default() += 1;
     }
 
     /// Notes a call's answer, and whether all of it is as wanted.
@@ -75,6 +81,9 @@ impl Tally {
                 format!("{number}: {count}")
             });
             println!("koto_{call}: {}", shown.collect::<Vec<_>>().join(", "));
+        }
+        for ((what, host), count) in &self.judged {
+            println!("{what}, {host}: {count}");
         }
         let calls: u64 = self.answers.values().sum();
         println!("{calls} calls, {}", if fine { "no difference" } else { "DIFFERENT" });

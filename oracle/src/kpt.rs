@@ -1,8 +1,5 @@
 //! Property tables and their files (document 01, "The property table").
 
-use unicode_width::UnicodeWidthChar;
-use unicode_xid::UnicodeXID;
-
 const CODE_POINTS: u32 = 0x11_0000;
 
 const SMALL: [(u32, u32); 22] = [
@@ -34,14 +31,32 @@ pub fn small() -> Vec<u32> {
     SMALL.iter().map(|&(start, properties)| start * 2048 + properties).collect()
 }
 
-/// The table of what the real crates say. A surrogate is no character and never looked up, so it goes on with the run before it.
+/// The table of what the real crates say
 pub fn full() -> Vec<u32> {
+    table_of(|c| {
+        use unicode_xid::UnicodeXID;
+        let xid = (c.is_xid_start(), c.is_xid_continue());
+        number_of(xid, unicode_width::UnicodeWidthChar::width(c), unicode_segmentation::oracle_properties(c))
+    })
+}
+
+/// The table of what the older crates say, which know no InCB
+pub fn older() -> Vec<u32> {
+    table_of(|c| {
+        use older_xid::UnicodeXID;
+        let xid = (c.is_xid_start(), c.is_xid_continue());
+        number_of(xid, older_width::UnicodeWidthChar::width(c), older_segmentation::oracle_properties(c))
+    })
+}
+
+/// The runs of what is said of each character. A surrogate is none and never looked up, so it goes on with the run before it.
+fn table_of(properties: impl Fn(char) -> u32) -> Vec<u32> {
     let mut row: Vec<u32> = vec![];
     for code_point in 0..CODE_POINTS {
         let Some(c) = char::from_u32(code_point) else {
             continue;
         };
-        let properties = properties_by_crates(c);
+        let properties = properties(c);
         if row.last().is_none_or(|last| last % 2048 != properties) {
             row.push(code_point * 2048 + properties);
         }
@@ -49,16 +64,12 @@ pub fn full() -> Vec<u32> {
     row
 }
 
-fn properties_by_crates(c: char) -> u32 {
-    let width = c.width().unwrap_or(0) as u32;
-    assert!(width < 4, "{c:?} is wider than a table can say");
-    let (class, is_pictograph, incb) = unicode_segmentation::oracle_properties(c);
-    u32::from(c.is_xid_start())
-        + 2 * u32::from(c.is_xid_continue())
-        + 4 * width
-        + 16 * class
-        + 256 * u32::from(is_pictograph)
-        + 512 * incb
+/// XID_Start and XID_Continue, the width, and the cluster class, Extended_Pictographic and InCB as a table has them
+fn number_of(xid: (bool, bool), width: Option<usize>, clusters: (u32, bool, u32)) -> u32 {
+    let width = width.unwrap_or(0) as u32;
+    assert!(width < 4, "a character is wider than a table can say");
+    let (class, is_pictograph, incb) = clusters;
+    u32::from(xid.0) + 2 * u32::from(xid.1) + 4 * width + 16 * class + 256 * u32::from(is_pictograph) + 512 * incb
 }
 
 /// The properties of a code point by a table whose starts rise from 0

@@ -1,22 +1,34 @@
 //! Stands in for unicode_xid, unicode_width and unicode_segmentation: every answer comes from a lent property table.
 
-use std::sync::OnceLock;
+use std::cell::Cell;
 
-// The properties of every code point, laid out flat
-static PROPERTIES: OnceLock<Vec<u16>> = OnceLock::new();
+/// The properties of every code point, laid out flat, and whether GB9c is among the rules
+struct Lent {
+    flat: Vec<u16>,
+    has_gb9c: bool,
+}
 
-/// Lends a fit table (document 01, "The property table"); once, before anything else is called.
-pub fn lend(row: &[u32]) {
+thread_local! {
+    static LENT: Cell<Option<&'static Lent>> = const { Cell::new(None) };
+}
+
+/// Lends a fit table (document 01, "The property table") and an edition of the cluster rules, 1 or 2, to all that this thread calls afterwards.
+/// What was lent before is not given back.
+pub fn lend(row: &[u32], edition: u32) {
     let mut flat = vec![0; 0x11_0000];
     for (i, number) in row.iter().enumerate() {
         let end = row.get(i + 1).map_or(0x11_0000, |next| next / 2048);
         flat[(number / 2048) as usize..end as usize].fill((number % 2048) as u16);
     }
-    assert!(PROPERTIES.set(flat).is_ok(), "a table was lent before");
+    LENT.set(Some(Box::leak(Box::new(Lent { flat, has_gb9c: edition == 2 }))));
+}
+
+fn lent() -> &'static Lent {
+    LENT.get().expect("no table was lent")
 }
 
 fn properties(c: char) -> u16 {
-    PROPERTIES.get().expect("no table was lent")[c as usize]
+    lent().flat[c as usize]
 }
 
 pub trait UnicodeXID {
@@ -121,7 +133,7 @@ fn is_break(text: &str, after: char) -> bool {
         _ => {}
     }
     // GB9c
-    if incb(after) == CONSONANT && ends_with_linked_consonant(back.clone()) {
+    if lent().has_gb9c && incb(after) == CONSONANT && ends_with_linked_consonant(back.clone()) {
         return false;
     }
     // GB11

@@ -16,11 +16,21 @@ const FORMAT_MOST: usize = 65_535;
 /// What came on the command line after the command
 struct Asked {
     judge: Judge,
+    host: Host,
+    /// The edition of the cluster rules: 1 without GB9c, 2 with it
+    edition: u32,
     /// Refusal 2's place, if a table was lent that is unfit
     bad_table: Option<usize>,
     room: usize,
     pool: Pool,
     words: Vec<String>,
+}
+
+/// Whose Unicode crates answer where no table is lent
+#[derive(Clone, Copy, PartialEq)]
+enum Host {
+    Newer,
+    Older,
 }
 
 fn main() {
@@ -46,9 +56,10 @@ fn main() {
             Ok(row) => format!("fine {}\n", row.len()),
             Err((number, place)) => format!("refused {number} {place}\n"),
         }),
-        "table" => write_file(&asked, &full_table()),
+        "table" => write_file(&asked, &checked(host_table(&asked))),
         "small" => write_file(&asked, &kpt::small()),
-        "rich" => rich_texts(&asked),
+        "rich" => some_texts(&asked, rich::Kinds::text),
+        "conjuncts" => some_texts(&asked, rich::Kinds::conjuncts),
         "published" => published_texts(&asked),
         "agree" => agree::agree(&asked),
         "batch" => batch::batch(&asked),
@@ -77,12 +88,14 @@ fn input() -> Vec<u8> {
 fn asked(words: impl Iterator<Item = String>) -> Asked {
     let mut asked = Asked {
         judge: koto_real::JUDGE,
+        host: Host::Newer,
+        edition: 2,
         bad_table: None,
         room: usize::MAX,
         pool: Pool { strings: vec![], entries: usize::MAX, bytes: usize::MAX },
         words: vec![],
     };
-    let mut words = words;
+    let (mut words, mut table, mut edition) = (words, None, None);
     while let Some(word) = words.next() {
         if !word.starts_with("--") {
             asked.words.push(word);
@@ -90,7 +103,9 @@ fn asked(words: impl Iterator<Item = String>) -> Asked {
         }
         let value = words.next().unwrap_or_else(|| fail("an option without a value"));
         match word.as_str() {
-            "--table" => lend(&mut asked, &value),
+            "--table" => table = Some(value),
+            "--edition" => edition = Some(number(&value) as u32),
+            "--host" if value == "older" => asked.host = Host::Older,
             "--room" => asked.room = number(&value),
             "--entries" => asked.pool.entries = number(&value),
             "--bytes" => asked.pool.bytes = number(&value),
@@ -98,16 +113,29 @@ fn asked(words: impl Iterator<Item = String>) -> Asked {
             _ => fail("an unknown option: README.md lists them"),
         }
     }
+    asked.edition = edition.unwrap_or(if asked.host == Host::Older { 1 } else { 2 });
+    match (&table, asked.host, asked.edition) {
+        (Some(path), ..) => lend(&mut asked, path),
+        (None, Host::Older, 2) => fail("the older crates have no GB9c"),
+        (None, Host::Older, _) => asked.judge = koto_older::JUDGE,
+        (None, Host::Newer, 1) => asked.judge = koto_left_out::JUDGE,
+        (None, Host::Newer, _) => {}
+    }
     asked
 }
 
 fn lend(asked: &mut Asked, path: &str) {
     match kpt::read(&read_file(path), usize::MAX) {
-        Ok(row) => lent::lend(&row),
+        Ok(row) => lent::lend(&row, asked.edition),
         Err((2, place)) => asked.bad_table = Some(place),
         Err(_) => fail("the table's file is unfit"),
     }
     asked.judge = koto_lent::JUDGE;
+}
+
+/// The table of what the host's crates say
+fn host_table(asked: &Asked) -> Vec<u32> {
+    if asked.host == Host::Older { kpt::older() } else { kpt::full() }
 }
 
 fn read_file(path: &str) -> Vec<u8> {
@@ -153,10 +181,13 @@ fn put_hex(out: &mut String, bytes: &[u8]) {
     }
 }
 
-/// Refusals 1, 2 and 3 or 15 in their order
+/// Refusals 1, 17, 2 and 3 or 15 in their order
 fn text<'a>(asked: &Asked, bytes: &'a [u8], most: usize) -> Result<&'a str, (u32, usize)> {
     if bytes.len() > most {
         return Err((1, 0));
+    }
+    if !(1..=2).contains(&asked.edition) {
+        return Err((17, 0));
     }
     if let Some(place) = asked.bad_table {
         return Err((2, place));
@@ -287,30 +318,31 @@ fn utf8(bytes: &[u8]) -> (u32, usize) {
     }
 }
 
-fn full_table() -> Vec<u32> {
-    let (full, small) = (kpt::full(), kpt::small());
+/// A table of what crates say, which must be fit
+fn checked(table: Vec<u32>) -> Vec<u32> {
+    let small = kpt::small();
     for c in 0..128 {
-        let (by_crates, by_paper) = (kpt::properties(&full, c), kpt::properties(&small, c));
+        let (by_crates, by_paper) = (kpt::properties(&table, c), kpt::properties(&small, c));
         if by_crates != by_paper {
             fail(&format!("code point {c} has {by_crates} by the crates and {by_paper} by document 01"));
         }
     }
-    if let Some(place) = kpt::bad_table(&full) {
-        fail(&format!("the full table is unfit at {place}"));
+    if let Some(place) = kpt::bad_table(&table) {
+        fail(&format!("the crates' table is unfit at {place}"));
     }
-    full
+    table
 }
 
-/// `rich SEED COUNT MOST`: so many random texts of at most so many bytes, in hex
-fn rich_texts(asked: &Asked) {
+/// `rich SEED COUNT MOST` and `conjuncts SEED COUNT MOST`: so many random texts of at most so many bytes, in hex
+fn some_texts(asked: &Asked, text: fn(&rich::Kinds, &mut rich::Dice, usize) -> String) {
     let [seed, count, most] = asked.words.iter().map(|word| number(word)).collect::<Vec<_>>()[..] else {
-        fail("rich takes a seed, a count and a number of bytes");
+        fail("a seed, a count and a number of bytes were expected");
     };
     let kinds = rich::Kinds::of(&kpt::full());
     let mut dice = rich::Dice::new(seed as u64);
     let mut out = String::new();
     for _ in 0..count {
-        put_hex(&mut out, kinds.text(&mut dice, most).as_bytes());
+        put_hex(&mut out, text(&kinds, &mut dice, most).as_bytes());
         out.push('\n');
     }
     put(&out);

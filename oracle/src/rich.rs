@@ -35,6 +35,10 @@ const EXTEND: u32 = 4 * 16 + 2 * 512;
 const LINKER: u32 = 4 * 16 + 3 * 512;
 const CONSONANT: u32 = 512;
 const PICTOGRAPH: u32 = 256;
+const PREPEND: u32 = 7 * 16;
+const MARK: u32 = 8 * 16;
+/// Extend by its class, and nothing by InCB, so that a conjunct ends before it
+const PLAIN_EXTEND: u32 = 4 * 16;
 
 // Beginnings and middles of what the longer rules join
 const PHRASES: [&[u32]; 11] = [
@@ -83,11 +87,30 @@ impl Kinds {
                 _ => text.push(self.one_of(self.0[dice.below(self.0.len())].0, dice)),
             }
         }
-        while text.len() > most {
-            text.pop();
-        }
-        text
+        shortened(text, most)
     }
+
+    /// A text of 1 to 5 consonants with linkers, extenders, joiners and marks behind each, and at most so many bytes: conjuncts, and what is just none
+    pub fn conjuncts(&self, dice: &mut Dice, most: usize) -> String {
+        let mut text = String::new();
+        for _ in 0..=dice.below(5) {
+            let kind =
+                [CONSONANT, CONSONANT, CONSONANT, CONSONANT, CONSONANT, CONSONANT, OTHER, PREPEND][dice.below(8)];
+            text.push(self.one_of(kind, dice));
+            for _ in 0..dice.below(4) {
+                text.push(self.one_of([LINKER, LINKER, LINKER, EXTEND, ZWJ, MARK, PLAIN_EXTEND][dice.below(7)], dice));
+            }
+        }
+        text.push_str(["", "", "<", "^5", ">08.2", "a", "}"][dice.below(7)]);
+        shortened(text, most)
+    }
+}
+
+fn shortened(mut text: String, most: usize) -> String {
+    while text.len() > most {
+        text.pop();
+    }
+    text
 }
 
 /// The texts of GraphemeBreakTest.txt, each with the lengths of its clusters as published
