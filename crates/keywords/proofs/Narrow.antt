@@ -1,7 +1,7 @@
 -- A search in the table needs to look only at the keyword that has the name's place.
 --     compared, eight    a name is compared with the first bytes of the eight that stand at its place
 --     by-length          a name that is too short or too long is no keyword
---     by-none            what stands at a place that no keyword has
+--     by-none            no keyword has a place that the code's `match` leaves over
 -- Assumes nothing.
 use mathlib.Core.Path.{_≡_, refl, sym, ap, _∙_}
 use mathlib.Core.Bool.{Bool, true, false, not, _&&_, _||_, false≢true, and-eq-true-iff}
@@ -22,8 +22,7 @@ use Rattle.words.specs.Words.{isWord, startsWith, Entry, firstIn, only}
 use Rattle.words.specs.WordsLaws.{word-same, word-itself, every, by-first, narrowed, Outside, among, outside-other}
 use Rattle.words.proofs.Compare.{by-start}
 use Rattle.keywords.specs.Keywords.{keywords, keywordOf}
-use Rattle.keywords.specs.Places.{placeBy, placeOf, keywordsAt, filled, firstWord, wordAt}
-use Rattle.keywords.specs.declared.Word.{Word}
+use Rattle.keywords.specs.Places.{placeBy, placeOf, keywordsAt, filled, firstText, firstKind, textAt, kindAt}
 
 same-when : (a b : Bool) → (a ≡ true → b ≡ true) → (b ≡ true → a ≡ true) → a ≡ b
 same-when true b f g = sym (f refl)
@@ -44,13 +43,13 @@ all-fair = refl
 
 -- at most one keyword has the place p, and what stands there is eight bytes long
 abbrev fit : ℕ → Bool
-fit p = leb (length (keywordsAt p)) 1 && eqb (length (wordAt p .text)) 8
+fit p = leb (length (keywordsAt p)) 1 && eqb (length (textAt p)) 8
 
-all-fit : (p : ℕ) → p < 64 → (length (keywordsAt p) ≤ 1) × (length (wordAt p .text) ≡ 8)
-unfolding allGood placeBy keywordsAt wordAt
+all-fit : (p : ℕ) → p < 64 → (length (keywordsAt p) ≤ 1) × (length (textAt p) ≡ 8)
+unfolding allGood placeBy keywordsAt textAt
 all-fit p h =
-    let both = and-eq-true-iff (leb (length (keywordsAt p)) 1) (eqb (length (wordAt p .text)) 8) .0 (good-at fit 64 p h refl) in
-    (leb-true (length (keywordsAt p)) 1 (both .0), eqb-true (length (wordAt p .text)) 8 (both .1))
+    let both = and-eq-true-iff (leb (length (keywordsAt p)) 1) (eqb (length (textAt p)) 8) .0 (good-at fit 64 p h refl) in
+    (leb-true (length (keywordsAt p)) 1 (both .0), eqb-true (length (textAt p)) 8 (both .1))
 
 module _ (l : List ℕ) (some : 2 ≤ length l) (few : length l ≤ 8) where
   -- what the code compares a name with, where a keyword has its place
@@ -77,14 +76,14 @@ module _ (l : List ℕ) (some : 2 ≤ length l) (few : length l ≤ 8) where
 
   -- of at most one keyword, a search asks what the code asks
   of-one : (es : List Entry) → length es ≤ 1
-      → firstIn (λ e. isWord (begun e) l) (λ e. e .kind) id es ≡ pick (isWord (take (length l) (firstWord es .text)) l) (firstWord es .kind) id
+      → firstIn (λ e. isWord (begun e) l) (λ e. e .kind) id es ≡ pick (isWord (take (length l) (firstText es)) l) (firstKind es) id
   unfolding firstIn
   of-one [] h = by-test (λ (kind : ℕ). id ≡ kind) (isWord (take (length l) (filled [])) l) (λ _. refl) (λ _. refl)
   of-one (e ∷ []) h = refl
   of-one (e ∷ d ∷ es) h = absurd (omega arith)
 
-  by-place : pick (isWord (take (length l) (wordAt (placeOf l) .text)) l) (wordAt (placeOf l) .kind) id ≡ keywordOf l
-  unfolding keywordOf keywordsAt wordAt placeBy
+  by-place : pick (isWord (take (length l) (textAt (placeOf l))) l) (kindAt (placeOf l)) id ≡ keywordOf l
+  unfolding keywordOf keywordsAt textAt kindAt placeBy
   by-place =
       sym (of-one (keywordsAt (placeOf l)) (all-fit (placeOf l) (mod-lt _ (omega arith)) .0))
       ∙ narrowed (λ e. e .kind) id fair (λ e. eqb (placeOf l) (placeOf (e .text))) (λ e. isWord (e .text) l) (λ e. isWord (begun e) l)
@@ -93,23 +92,23 @@ module _ (l : List ℕ) (some : 2 ≤ length l) (few : length l ≤ 8) where
       keywords
       all-fair
 
--- n is how many bytes the name has, p its place and w the word that stands there
-module _ (s : List ℕ) (at len : ℕ) {n p : ℕ} {w : Word} (long : n ≡ length (take len (drop at s))) (some : 2 ≤ n) (few : n ≤ 8)
-    (there : p ≡ placeBy n (getD s at 0) (getD s (at + 1) 0)) (is : w ≡ wordAt p) where
+-- n is how many bytes the name has, p its place and t the bytes that stand there
+module _ (s : List ℕ) (at len : ℕ) {n p : ℕ} {t : List ℕ} (long : n ≡ length (take len (drop at s))) (some : 2 ≤ n) (few : n ≤ 8)
+    (there : p ≡ placeBy n (getD s at 0) (getD s (at + 1) 0)) (is : t ≡ textAt p) where
   byte : (i : ℕ) → i < 2 → getD (take len (drop at s)) i 0 ≡ getD s (at + i) 0
   byte i h = getD-take len (drop at s) i 0 (omega (arith, length-take len (drop at s))) ∙ getD-drop at s i 0
 
-  its-word : w ≡ wordAt (placeOf (take len (drop at s)))
-  its-word = is ∙ ap wordAt (rw (byte 0 (omega arith), byte 1 (omega arith), add-zero at, ← long) there)
+  its-place : p ≡ placeOf (take len (drop at s))
+  its-place = rw (byte 0 (omega arith), byte 1 (omega arith), add-zero at, ← long) there
 
-  pub eight : length (w .text) ≡ 8
+  pub eight : length t ≡ 8
   unfolding placeBy
-  eight = rw its-word (all-fit _ (mod-lt _ (omega arith)) .1)
+  eight = rw (is, its-place) (all-fit _ (mod-lt _ (omega arith)) .1)
 
-  pub compared : {r : Bool} → r ≡ startsWith (take n (w .text)) (drop at s) → pick r (w .kind) id ≡ keywordOf (take len (drop at s))
+  pub compared : {r : Bool} → r ≡ startsWith (take n t) (drop at s) → pick r (kindAt p) id ≡ keywordOf (take len (drop at s))
   compared e =
-      let said = e ∙ by-start (take n (w .text)) (drop at s) len (sym long ∙ sym (length-take-le n (w .text) (omega (arith, eight)))) in
-      rw (said, its-word, long) (by-place (take len (drop at s)) (omega arith) (omega arith))
+      let said = e ∙ by-start (take n t) (drop at s) len (sym long ∙ sym (length-take-le n t (omega (arith, eight)))) in
+      rw (said, is, its-place, long) (by-place (take len (drop at s)) (omega arith) (omega arith))
 
 -- a keyword has two to eight bytes
 abbrev sized : Entry → Bool
@@ -138,6 +137,6 @@ module _ (p : ℕ) (o : Outside p places) where
       let both = and-eq-true-iff (among (placeOf (e .text)) places) _ .0 h in
       rw (outside-other p (placeOf (e .text)) places o (both .0)) (none-there es (both .1))
 
-  pub by-none : firstWord [] ≡ wordAt p
-  unfolding placeBy keywordsAt wordAt
-  by-none = ap firstWord (sym (none-there keywords refl))
+  pub by-none : keywordsAt p ≡ []
+  unfolding placeBy keywordsAt
+  by-none = none-there keywords refl

@@ -8,7 +8,6 @@ use lib.ListN.{length, getD, drop}
 use Rattle.token.specs.Kind.{id}
 use Rattle.words.specs.Words.{bytes, Entry, only}
 use Rattle.keywords.specs.Keywords.{keywords}
-use Rattle.keywords.specs.declared.Word.{Word}
 
 -- the place of a name of n bytes that begins with these two
 unfoldable pub placeBy : ℕ → ℕ → ℕ → ℕ
@@ -25,11 +24,17 @@ keywordsAt p = only (λ e. eqb p (placeOf (e .text))) keywords
 abbrev pub filled : List ℕ → List ℕ
 filled text = text ++ drop (length text) (bytes "........")
 
--- the first of some keywords as it stands in the code; only dots, and Id, where there is none
-abbrev pub firstWord : List Entry → Word
-firstWord [] = record { text = filled []; kind = id }
-firstWord (e ∷ es) = record { text = filled (e .text); kind = e .kind }
+-- what stands at the place p: the bytes and the kind of the keyword that has it; only dots, and Id, where none has
+abbrev pub firstText : List Entry → List ℕ
+firstText [] = filled []
+firstText (e ∷ es) = filled (e .text)
 
--- what stands at the place p
-unfoldable pub wordAt : ℕ → Word
-wordAt p = firstWord (keywordsAt p)
+abbrev pub firstKind : List Entry → ℕ
+firstKind [] = id
+firstKind (e ∷ es) = e .kind
+
+unfoldable pub textAt : ℕ → List ℕ
+textAt p = firstText (keywordsAt p)
+
+unfoldable pub kindAt : ℕ → ℕ
+kindAt p = firstKind (keywordsAt p)

@@ -6,7 +6,7 @@ ghost use mathlib.Core.Path.{_≡_};
 ghost use Prim.Native.Nat.{_≤_};
 ghost use lib.ListN.{take, drop};
 ghost use Rattle.keywords.specs.Keywords.{keywordOf};
-ghost use Rattle.keywords.specs.Places.{placeBy, wordAt};
+ghost use Rattle.keywords.specs.Places.{placeBy, textAt, kindAt};
 use token::kinds::AND;
 use token::kinds::AS;
 use token::kinds::AWAIT;
@@ -43,12 +43,6 @@ use token::kinds::YIELD;
 use words::starts_with;
 use words::within;
 
-// What stands at a place: a keyword's bytes, filled up to eight with dots, and its kind; or only dots, and Id.
-struct Word {
-    text: [u8; 8],
-    kind: u8,
-}
-
 // The place of a name of `len` bytes that begins with these two. By length and first byte alone, "if" and "in", "then" and "true", "catch" and
 // "const" would have the same.
 fn place(len: usize, first: u8, second: u8) -> usize
@@ -58,143 +52,86 @@ fn place(len: usize, first: u8, second: u8) -> usize
     (5 * (first as usize) + 2 * ((second as usize) / 2) + len) % 64
 }
 
-// What stands at a place. LLVM makes a table of constants of this; an array that is indexed would be built on the stack at each use.
-fn word_at(place: usize) -> Word
-    ensures { λ r. ⌜ r ≡ wordAt place ⌝ }
+// The bytes of the keyword that has a place, filled up to eight with dots; only dots where none has it. LLVM makes a table of constants of this
+// and of `kind_at`; an array that is indexed would be built on the stack at each use.
+fn text_at(place: usize) -> [u8; 8]
+    ensures { λ r. ⌜ r ≡ textAt place ⌝ }
 {
     match place {
-        0 => Word {
-            text: [b'w', b'h', b'i', b'l', b'e', b'.', b'.', b'.'],
-            kind: WHILE,
-        },
-        3 => Word {
-            text: [b'l', b'e', b't', b'.', b'.', b'.', b'.', b'.'],
-            kind: LET,
-        },
-        6 => Word {
-            text: [b'm', b'a', b't', b'c', b'h', b'.', b'.', b'.'],
-            kind: MATCH,
-        },
-        10 => Word {
-            text: [b'y', b'i', b'e', b'l', b'd', b'.', b'.', b'.'],
-            kind: YIELD,
-        },
-        14 => Word {
-            text: [b'l', b'o', b'o', b'p', b'.', b'.', b'.', b'.'],
-            kind: LOOP,
-        },
-        20 => Word {
-            text: [b'c', b'a', b't', b'c', b'h', b'.', b'.', b'.'],
-            kind: CATCH,
-        },
-        22 => Word {
-            text: [b'a', b'n', b'd', b'.', b'.', b'.', b'.', b'.'],
-            kind: AND,
-        },
-        23 => Word {
-            text: [b'n', b'o', b't', b'.', b'.', b'.', b'.', b'.'],
-            kind: NOT,
-        },
-        25 => Word {
-            text: [b'a', b's', b'.', b'.', b'.', b'.', b'.', b'.'],
-            kind: AS,
-        },
-        29 => Word {
-            text: [b'd', b'e', b'b', b'u', b'g', b'.', b'.', b'.'],
-            kind: DEBUG,
-        },
-        30 => Word {
-            text: [b'n', b'u', b'l', b'l', b'.', b'.', b'.', b'.'],
-            kind: NULL,
-        },
-        31 => Word {
-            text: [b'o', b'r', b'.', b'.', b'.', b'.', b'.', b'.'],
-            kind: OR,
-        },
-        32 => Word {
-            text: [b'a', b'w', b'a', b'i', b't', b'.', b'.', b'.'],
-            kind: AWAIT,
-        },
-        33 => Word {
-            text: [b'b', b'r', b'e', b'a', b'k', b'.', b'.', b'.'],
-            kind: BREAK,
-        },
-        34 => Word {
-            text: [b'c', b'o', b'n', b's', b't', b'.', b'.', b'.'],
-            kind: CONST,
-        },
-        35 => Word {
-            text: [b'f', b'a', b'l', b's', b'e', b'.', b'.', b'.'],
-            kind: FALSE,
-        },
-        36 => Word {
-            text: [b'r', b'e', b't', b'u', b'r', b'n', b'.', b'.'],
-            kind: RETURN,
-        },
-        37 => Word {
-            text: [b'c', b'o', b'n', b't', b'i', b'n', b'u', b'e'],
-            kind: CONTINUE,
-        },
-        39 => Word {
-            text: [b's', b'e', b'l', b'f', b'.', b'.', b'.', b'.'],
-            kind: SELF_,
-        },
-        45 => Word {
-            text: [b'f', b'i', b'n', b'a', b'l', b'l', b'y', b'.'],
-            kind: FINALLY,
-        },
-        47 => Word {
-            text: [b'f', b'o', b'r', b'.', b'.', b'.', b'.', b'.'],
-            kind: FOR,
-        },
-        48 => Word {
-            text: [b't', b'h', b'e', b'n', b'.', b'.', b'.', b'.'],
-            kind: THEN,
-        },
-        49 => Word {
-            text: [b't', b'h', b'r', b'o', b'w', b'.', b'.', b'.'],
-            kind: THROW,
-        },
-        52 => Word {
-            text: [b'f', b'r', b'o', b'm', b'.', b'.', b'.', b'.'],
-            kind: FROM,
-        },
-        53 => Word {
-            text: [b'i', b'f', b'.', b'.', b'.', b'.', b'.', b'.'],
-            kind: IF,
-        },
-        55 => Word {
-            text: [b'e', b'x', b'p', b'o', b'r', b't', b'.', b'.'],
-            kind: EXPORT,
-        },
-        57 => Word {
-            text: [b't', b'r', b'y', b'.', b'.', b'.', b'.', b'.'],
-            kind: TRY,
-        },
-        58 => Word {
-            text: [b't', b'r', b'u', b'e', b'.', b'.', b'.', b'.'],
-            kind: TRUE,
-        },
-        59 => Word {
-            text: [b's', b'w', b'i', b't', b'c', b'h', b'.', b'.'],
-            kind: SWITCH,
-        },
-        60 => Word {
-            text: [b'u', b'n', b't', b'i', b'l', b'.', b'.', b'.'],
-            kind: UNTIL,
-        },
-        61 => Word {
-            text: [b'i', b'n', b'.', b'.', b'.', b'.', b'.', b'.'],
-            kind: IN,
-        },
-        63 => Word {
-            text: [b'i', b'm', b'p', b'o', b'r', b't', b'.', b'.'],
-            kind: IMPORT,
-        },
-        _ => Word {
-            text: [b'.', b'.', b'.', b'.', b'.', b'.', b'.', b'.'],
-            kind: ID,
-        },
+        0 => [b'w', b'h', b'i', b'l', b'e', b'.', b'.', b'.'],
+        3 => [b'l', b'e', b't', b'.', b'.', b'.', b'.', b'.'],
+        6 => [b'm', b'a', b't', b'c', b'h', b'.', b'.', b'.'],
+        10 => [b'y', b'i', b'e', b'l', b'd', b'.', b'.', b'.'],
+        14 => [b'l', b'o', b'o', b'p', b'.', b'.', b'.', b'.'],
+        20 => [b'c', b'a', b't', b'c', b'h', b'.', b'.', b'.'],
+        22 => [b'a', b'n', b'd', b'.', b'.', b'.', b'.', b'.'],
+        23 => [b'n', b'o', b't', b'.', b'.', b'.', b'.', b'.'],
+        25 => [b'a', b's', b'.', b'.', b'.', b'.', b'.', b'.'],
+        29 => [b'd', b'e', b'b', b'u', b'g', b'.', b'.', b'.'],
+        30 => [b'n', b'u', b'l', b'l', b'.', b'.', b'.', b'.'],
+        31 => [b'o', b'r', b'.', b'.', b'.', b'.', b'.', b'.'],
+        32 => [b'a', b'w', b'a', b'i', b't', b'.', b'.', b'.'],
+        33 => [b'b', b'r', b'e', b'a', b'k', b'.', b'.', b'.'],
+        34 => [b'c', b'o', b'n', b's', b't', b'.', b'.', b'.'],
+        35 => [b'f', b'a', b'l', b's', b'e', b'.', b'.', b'.'],
+        36 => [b'r', b'e', b't', b'u', b'r', b'n', b'.', b'.'],
+        37 => [b'c', b'o', b'n', b't', b'i', b'n', b'u', b'e'],
+        39 => [b's', b'e', b'l', b'f', b'.', b'.', b'.', b'.'],
+        45 => [b'f', b'i', b'n', b'a', b'l', b'l', b'y', b'.'],
+        47 => [b'f', b'o', b'r', b'.', b'.', b'.', b'.', b'.'],
+        48 => [b't', b'h', b'e', b'n', b'.', b'.', b'.', b'.'],
+        49 => [b't', b'h', b'r', b'o', b'w', b'.', b'.', b'.'],
+        52 => [b'f', b'r', b'o', b'm', b'.', b'.', b'.', b'.'],
+        53 => [b'i', b'f', b'.', b'.', b'.', b'.', b'.', b'.'],
+        55 => [b'e', b'x', b'p', b'o', b'r', b't', b'.', b'.'],
+        57 => [b't', b'r', b'y', b'.', b'.', b'.', b'.', b'.'],
+        58 => [b't', b'r', b'u', b'e', b'.', b'.', b'.', b'.'],
+        59 => [b's', b'w', b'i', b't', b'c', b'h', b'.', b'.'],
+        60 => [b'u', b'n', b't', b'i', b'l', b'.', b'.', b'.'],
+        61 => [b'i', b'n', b'.', b'.', b'.', b'.', b'.', b'.'],
+        63 => [b'i', b'm', b'p', b'o', b'r', b't', b'.', b'.'],
+        _ => [b'.', b'.', b'.', b'.', b'.', b'.', b'.', b'.'],
+    }
+}
+
+// The kind of the keyword that has a place; Id where none has it.
+fn kind_at(place: usize) -> u8
+    ensures { λ r. ⌜ r ≡ kindAt place ⌝ }
+{
+    match place {
+        0 => WHILE,
+        3 => LET,
+        6 => MATCH,
+        10 => YIELD,
+        14 => LOOP,
+        20 => CATCH,
+        22 => AND,
+        23 => NOT,
+        25 => AS,
+        29 => DEBUG,
+        30 => NULL,
+        31 => OR,
+        32 => AWAIT,
+        33 => BREAK,
+        34 => CONST,
+        35 => FALSE,
+        36 => RETURN,
+        37 => CONTINUE,
+        39 => SELF_,
+        45 => FINALLY,
+        47 => FOR,
+        48 => THEN,
+        49 => THROW,
+        52 => FROM,
+        53 => IF,
+        55 => EXPORT,
+        57 => TRY,
+        58 => TRUE,
+        59 => SWITCH,
+        60 => UNTIL,
+        61 => IN,
+        63 => IMPORT,
+        _ => ID,
     }
 }
 
@@ -209,10 +146,10 @@ pub fn keyword(source: &[u8], at: usize, len: usize) -> u8
     if 8 < n {
         return ID;
     }
-    let word = word_at(place(n, source[at], source[at + 1]));
-    let text = word.text;
+    let place = place(n, source[at], source[at + 1]);
+    let text = text_at(place);
     if starts_with(source, at, &text[..n]) {
-        return word.kind;
+        return kind_at(place);
     }
     ID
 }

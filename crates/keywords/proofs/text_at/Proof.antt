@@ -1,12 +1,13 @@
--- `keywords::word_at` meets its contract: at a known place `wordAt` computes, one line for each. Assumes nothing.
-use Rattle.keywords.specs.Places.{placeBy, keywordsAt, wordAt}
+-- `keywords::text_at` meets its contract: at a known place `textAt` computes, one line for each. Assumes nothing.
+use mathlib.Core.Path.{sym, ap}
+use Rattle.keywords.specs.Places.{placeBy, keywordsAt, firstText, textAt}
 use Rattle.keywords.proofs.Narrow.{by-none}
-use Rattle.keywords.proofs.word_at.Statement.{statement}
-use Rattle.keywords.proofs.word_at.Tie as tie
+use Rattle.keywords.proofs.text_at.Statement.{statement}
+use Rattle.keywords.proofs.text_at.Tie as tie
 
-pub word-at-spec : {M : Type 1} → statement M
-unfolding placeBy keywordsAt wordAt
-word-at-spec =
+pub text-at-spec : {M : Type 1} → statement M
+unfolding placeBy keywordsAt textAt
+text-at-spec =
     tie.close
     (tie.spec
     (λ c. rw (c .match .keys1))
@@ -41,4 +42,4 @@ word-at-spec =
     (λ c. rw (c .match .keys30))
     (λ c. rw (c .match .keys31))
     (λ c. rw (c .match .keys32))
-    (λ c. by-none _ (c .match .rest)))
+    (λ c. ap firstText (sym (by-none _ (c .match .rest)))))
