@@ -25,9 +25,9 @@ koto-add-string-has-one-answer p q = (
 )
 
 pub koto-parse-has-one-answer : {format table bytes newBytes newBytes′ options options′ : List ℕ}
-    {entries newEntries newEntries′ : List Entry} {counts newCounts newCounts′ : Counts} {value r value′ r′ : ℕ}
-    → ParseIs format table bytes entries counts newBytes newEntries newCounts options value r
-    → ParseIs format table bytes entries counts newBytes′ newEntries′ newCounts′ options′ value′ r′
+    {entries newEntries newEntries′ : List Entry} {counts newCounts newCounts′ : Counts} {edition value r value′ r′ : ℕ}
+    → ParseIs format table edition bytes entries counts newBytes newEntries newCounts options value r
+    → ParseIs format table edition bytes entries counts newBytes′ newEntries′ newCounts′ options′ value′ r′
     → (r ≡ r′) × (options ≡ options′) × (value ≡ value′) × (newBytes ≡ newBytes′) × (newEntries ≡ newEntries′) × (newCounts ≡ newCounts′)
 koto-parse-has-one-answer p q = (
   p .told .number ∙ sym (q .told .number),

@@ -9,9 +9,10 @@ use Rattle.pool_lent.specs.declared.Entry.{Entry}
 use Rattle.parse_lent.specs.Lent.{ParsesEntries}
 use Rattle.koto_pool.specs.Formats.{ParsedTold, ParseIs}
 
-pub parsed-told : {format table bytes newBytes options : List ℕ} {entries newEntries : List Entry} {counts newCounts : Counts} {value r : ℕ}
-    {d : Parsed} → ParsesEntries format table bytes entries counts newBytes newEntries newCounts d → ParsedTold d options value r
-    → ParseIs format table bytes entries counts newBytes newEntries newCounts options value r
+pub parsed-told : {format table bytes newBytes options : List ℕ} {entries newEntries : List Entry} {counts newCounts : Counts}
+    {edition value r : ℕ} {d : Parsed} → ParsesEntries format table edition bytes entries counts newBytes newEntries newCounts d
+    → ParsedTold d options value r
+    → ParseIs format table edition bytes entries counts newBytes newEntries newCounts options value r
 parsed-told {options} {value} {r} e t =
     record {
       told = subst (λ (p : Parsed). ParsedTold p options value r) (e .flat .answer-is) t;
