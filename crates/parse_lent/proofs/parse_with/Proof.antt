@@ -273,7 +273,8 @@ module _ {M : Type 1} (𝓤 : URA M) (H : Heap 𝓤) (A : Atoms 𝓤) (W : Given
       (ReadOf 𝓤 H A at-mem run))
       (known-plan : Triple 𝓤 (C #parse·plan-of) (PlanOf 𝓤 H A at-mem run)) (known-add : Triple 𝓤 (C #parse-lent·add-both)
       (AddBoth 𝓤 H A at-mem run)) (known-end : Triple 𝓤 (C #parse·end-by) (EndBy 𝓤 H A at-mem run)) where
-    -- once there is a plan, both rows are given to the additions for good, and the answer is made. Of the locals that are only passed on, any type will do
+    -- once there is a plan, both rows are given to the additions for good, and the answer is made. A local that is only passed on may be of
+    -- any type: spelt out, the types would cost more steps than one declaration may take
     module _ (τ₁ τ₂ τ₃ τ₆ τ₇ τ₈ : Ty) (l₀ l₁ l₂ l₃ l₄ l₅ l₆ l₇ l₈ l₉ l₁₀ l₁₁ l₁₂ l₁₃ : ℕ) (q : FormatInput) (p : Plan) (w₂ w₃ : Val)
         (is₂ : Is FormatInput.the-row q (w₂ ∷ [])) (is₃ : Is Plan.the-row p (w₃ ∷ []))
         (e₂ : q ≡ inputOf (x₀ .now) (x₁ .now) (c .edition) t) (e₃ : p ≡ planOf q (c .counts)) where
