@@ -7,11 +7,14 @@ use crate::pools::some_pool;
 use crate::rich::Dice;
 use crate::{Run, formats, kpt, scans};
 
-/// So many code points from 128 on have properties of their own
+/// So many code points from 128 on have properties of their own: consonants, linkers, consonants that join what follows, and any others
 const CHARS: u32 = 48;
+const GROUP: u32 = 8;
+const CONSONANT: u32 = 512;
+const LINKER: u32 = 3 * 512 + 4 * 16;
+const JOINING: u32 = 512 + 7 * 16;
 /// So many sources and format strings with each table
 const TRIED: usize = 1000;
-const CLASSES: [u32; 14] = [0, 0, 0, 3, 4, 4, 5, 6, 7, 7, 8, 9, 10, 12];
 
 pub fn compare(run: &mut Run, dice: &mut Dice, tables: usize) {
     let mut differ = [0; 3];
@@ -19,7 +22,7 @@ pub fn compare(run: &mut Run, dice: &mut Dice, tables: usize) {
         let table = some_table(dice);
         run.library.table.fill(&table);
         let sources: Vec<String> = (0..TRIED).map(|_| some_source(dice)).collect();
-        let formats: Vec<String> = (0..TRIED).map(|_| text(dice, 4) + &formats::shape(dice)).collect();
+        let formats: Vec<String> = (0..TRIED).map(|_| text(dice) + &formats::shape(dice)).collect();
         let pools: Vec<_> = formats.iter().map(|format| some_pool(dice, format.as_bytes())).collect();
         let [without, with] = [1, 2].map(|edition| {
             lent::lend(&table, edition);
@@ -48,33 +51,36 @@ pub fn compare(run: &mut Run, dice: &mut Dice, tables: usize) {
     println!("            {lists} lists and {parses} parses differ between the two");
 }
 
-/// ASCII as it must be, and then any properties
+/// ASCII as it must be, and then characters that no Unicode data have
 fn some_table(dice: &mut Dice) -> Vec<u32> {
     let mut table: Vec<u32> = kpt::small().into_iter().filter(|run| run / 2048 < 128).collect();
-    for c in 128..128 + CHARS {
-        let incb = [0, 1, 1, 2, 3, 3][dice.below(6)];
-        let class = CLASSES[dice.below(CLASSES.len())];
-        let others = [0, 2, 3][dice.below(3)] + 4 * dice.below(4) as u32 + 256 * u32::from(dice.below(8) == 0);
-        table.push(c * 2048 + others + 16 * class + 512 * incb);
+    for i in 0..CHARS {
+        let any = 16 * dice.below(14) as u32 + 256 * dice.below(8) as u32;
+        let clusters = *[CONSONANT, LINKER, JOINING].get((i / GROUP) as usize).unwrap_or(&any);
+        let others = [0, 2, 3][dice.below(3)] + 4 * dice.below(4) as u32;
+        table.push((128 + i) * 2048 + others + clusters);
     }
     table.push((128 + CHARS) * 2048 + 4);
     table
 }
 
-/// Some of the table's own characters, and of what format options look at
-fn text(dice: &mut Dice, ascii: usize) -> String {
-    (0..dice.below(7))
-        .map(|_| match dice.below(8) {
-            0 => ['}', '<', '^', 'a'][dice.below(ascii)],
-            _ => char::from_u32(128 + dice.below(CHARS as usize + 2) as u32).expect("a character"),
-        })
-        .collect()
+/// Some of the table's own characters, conjuncts among them, and of what format options look at
+fn text(dice: &mut Dice) -> String {
+    let mut text = String::new();
+    for _ in 0..dice.below(6) {
+        let group = [0, 0, 1, 1, 1, 2, 3, 4, 5, 6][dice.below(10)];
+        match group {
+            6 => text.push(['}', '<', '^', 'a'][dice.below(4)]),
+            _ => text.extend(char::from_u32(128 + GROUP * group + dice.below(GROUP as usize) as u32)),
+        }
+    }
+    text
 }
 
 fn some_source(dice: &mut Dice) -> String {
     match dice.below(4) {
-        0 => text(dice, 4),
-        1 => format!("'{{x:{}}}<{}}}'", text(dice, 4), text(dice, 2)),
-        _ => format!("'{{x:{}}}{}}}'", text(dice, 1), ["<", "^5", ">"][dice.below(3)]),
+        0 => text(dice),
+        1 => format!("'{{x:{}}}<{}}}'", text(dice), text(dice)),
+        _ => format!("'{{x:{}}}{}}}'", text(dice), ["<", "^5", ">"][dice.below(3)]),
     }
 }

@@ -77,11 +77,11 @@ fn a_conjunct_as_the_fill() {
     let (mut bytes, mut entries) = ([0; 16], [Entry::default(); 2]);
     let mut pool = Pool { bytes: &mut bytes, entries: &mut entries, counts: Counts::default() };
     let format = "\u{915}\u{94D}\u{937}^7".as_bytes();
-    // Without GB9c the cluster ends before the second consonant, which is no alignment.
+    // Without GB9c the cluster ends before the second consonant, which is no alignment; it stays in the pool.
     assert_eq!(parse(format, &full_table(), Edition::WITHOUT_GB9C, &mut pool), Parsed::UnexpectedToken(0x937));
-    let wanted = Options { alignment: Alignment::Center, width: Some(7), fill: fill(0, 9), ..PLAIN };
-    let said = parse(format, &full_table(), Edition::WITH_GB9C, &mut pool);
-    assert_eq!(said, Parsed::Read(wanted));
+    let fill = Some(Fill { place: 0, len: 9, index: 1 });
+    let wanted = Options { alignment: Alignment::Center, width: Some(7), fill, ..PLAIN };
+    assert_eq!(parse(format, &full_table(), Edition::WITH_GB9C, &mut pool), Parsed::Read(wanted));
 }
 
 #[test]
