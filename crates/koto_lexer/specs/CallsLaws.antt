@@ -1,7 +1,7 @@
 -- That no second answer fits a call: two calls on the same input return the same number and leave the same words, every one of them.
 --     koto-read-char-has-one-answer, koto-check-utf8-has-one-answer, koto-check-table-has-one-answer
 --     koto-read-table-has-one-answer, koto-first-cluster-has-one-answer, koto-scan-has-one-answer
---     koto-next-has-one-answer, koto-peek-has-one-answer
+--     koto-next-has-one-answer, koto-peek-has-one-answer, koto-look-ahead-has-one-answer
 -- Assumes nothing.
 use Prim.Native.Nat.{ℕ}
 use mathlib.Core.Path.{_≡_, sym, _∙_}
@@ -10,7 +10,8 @@ use Rattle.koto_lexer.specs.Bytes.{ReadCharIs, CheckUtf8Is}
 use Rattle.koto_lexer.specs.Tables.{CheckTableIs, ReadTableIs}
 use Rattle.koto_lexer.specs.Clusters.{FirstClusterIs}
 use Rattle.koto_lexer.specs.Scans.{ScanIs}
-use Rattle.koto_lexer.specs.Cursors.{NextIs, PeekIs}
+use Rattle.koto_lexer.specs.Cursors.{NextIs, LookedIs, PeekIs, LookAheadIs}
+use Rattle.lookahead.specs.declared.Peeked.{Peeked}
 
 pub koto-read-char-has-one-answer : {bytes : List ℕ} {at code len r code′ len′ r′ : ℕ}
     → ReadCharIs bytes at code len r → ReadCharIs bytes at code′ len′ r′
@@ -81,15 +82,27 @@ koto-next-has-one-answer p q = (
   p .place-is ∙ sym (q .place-is),
 )
 
-pub koto-peek-has-one-answer : {list words words′ : List ℕ}
-    {taken queued count status n newQueued shown place r newQueued′ shown′ place′ r′ : ℕ}
-    → PeekIs list taken queued count status n newQueued shown words place r
-    → PeekIs list taken queued count status n newQueued′ shown′ words′ place′ r′
+looked-has-one-answer : {looked : Peeked} {words words′ : List ℕ} {taken queued newQueued shown place r newQueued′ shown′ place′ r′ : ℕ}
+    → LookedIs looked taken queued newQueued shown words place r → LookedIs looked taken queued newQueued′ shown′ words′ place′ r′
     → (r ≡ r′) × (newQueued ≡ newQueued′) × (shown ≡ shown′) × (words ≡ words′) × (place ≡ place′)
-koto-peek-has-one-answer p q = (
+looked-has-one-answer p q = (
   p .number ∙ sym (q .number),
   p .queued-is ∙ sym (q .queued-is),
   p .shown-is ∙ sym (q .shown-is),
   p .words-are ∙ sym (q .words-are),
   p .place-is ∙ sym (q .place-is),
 )
+
+pub koto-peek-has-one-answer : {list words words′ : List ℕ}
+    {taken queued count status n newQueued shown place r newQueued′ shown′ place′ r′ : ℕ}
+    → PeekIs list taken queued count status n newQueued shown words place r
+    → PeekIs list taken queued count status n newQueued′ shown′ words′ place′ r′
+    → (r ≡ r′) × (newQueued ≡ newQueued′) × (shown ≡ shown′) × (words ≡ words′) × (place ≡ place′)
+koto-peek-has-one-answer p q = looked-has-one-answer p q
+
+pub koto-look-ahead-has-one-answer : {list words words′ : List ℕ}
+    {taken queued count status n newQueued shown place r newQueued′ shown′ place′ r′ : ℕ}
+    → LookAheadIs list taken queued count status n newQueued shown words place r
+    → LookAheadIs list taken queued count status n newQueued′ shown′ words′ place′ r′
+    → (r ≡ r′) × (newQueued ≡ newQueued′) × (shown ≡ shown′) × (words ≡ words′) × (place ≡ place′)
+koto-look-ahead-has-one-answer p q = looked-has-one-answer p q

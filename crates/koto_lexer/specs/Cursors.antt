@@ -1,4 +1,4 @@
--- What `koto_next` and `koto_peek` return and write, from the inner calls' answers. A cursor goes in as its numbers, with the status as
+-- What `koto_next`, `koto_peek` and `koto_look_ahead` return and write, from the inner calls' answers. A cursor goes in as its numbers, with the status as
 -- `koto_scan` writes it; any other number there is refusal 8, before the list is looked at.
 -- Assumes nothing.
 use Prim.Native.Nat.{ℕ}
@@ -13,6 +13,7 @@ use Rattle.lookahead.specs.Next as next
 use Rattle.lookahead.specs.Next.{nextOf}
 use Rattle.lookahead.specs.Peek as peek
 use Rattle.lookahead.specs.Peek.{peekOf}
+use Rattle.lookahead.specs.LookAhead.{lookAheadOf}
 use Rattle.lookahead.specs.declared.answer.Told.{Told}
 use Rattle.cursor.specs.declared.Status.{Status}
 use Rattle.cursor.specs.declared.Status.the-variants.{End, Stuck}
@@ -51,21 +52,30 @@ pub record NextIs (list : List ℕ) (taken queued count status newTaken newQueue
   pub words-are : words ≡ recordNumbers (nextTold list taken queued count status .row)
   pub place-is : place ≡ next.placeOf (nextBy list taken queued count status)
 
--- ---- `peek`
+-- ---- `peek` and `look_ahead`
 
--- the answer for these numbers
+-- what a call over these numbers ensures that answers so
+pub record LookedIs (looked : Peeked) (taken queued newQueued shown : ℕ) (words : List ℕ) (place r : ℕ) : Type 0 where
+  pub number : r ≡ peek.numberOf looked
+  pub queued-is : newQueued ≡ peekedTold looked taken queued .queued
+  pub shown-is : shown ≡ peekedTold looked taken queued .shown
+  pub words-are : words ≡ recordNumbers (peekedTold looked taken queued .row)
+  pub place-is : place ≡ peek.placeOf looked
+
+-- the answer of `peek` for these numbers
 abbrev pub peekBy : List ℕ → ℕ → ℕ → ℕ → ℕ → ℕ → Peeked
 peekBy list taken queued count status n =
     byStatus (λ (x : Status). peekOf (room list) (shownAt list) (cursorOf taken queued count x) n) peeked.BadState status
 
--- what it tells
-abbrev pub peekTold : List ℕ → ℕ → ℕ → ℕ → ℕ → ℕ → Told
-peekTold list taken queued count status n = peekedTold (peekBy list taken queued count status n) taken queued
-
 -- what `koto_peek` ensures
-pub record PeekIs (list : List ℕ) (taken queued count status n newQueued shown : ℕ) (words : List ℕ) (place r : ℕ) : Type 0 where
-  pub number : r ≡ peek.numberOf (peekBy list taken queued count status n)
-  pub queued-is : newQueued ≡ peekTold list taken queued count status n .queued
-  pub shown-is : shown ≡ peekTold list taken queued count status n .shown
-  pub words-are : words ≡ recordNumbers (peekTold list taken queued count status n .row)
-  pub place-is : place ≡ peek.placeOf (peekBy list taken queued count status n)
+abbrev pub PeekIs : List ℕ → ℕ → ℕ → ℕ → ℕ → ℕ → ℕ → ℕ → List ℕ → ℕ → ℕ → Type 0
+PeekIs list taken queued count status n = LookedIs (peekBy list taken queued count status n) taken queued
+
+-- the answer of `look_ahead` for these numbers
+abbrev pub lookBy : List ℕ → ℕ → ℕ → ℕ → ℕ → ℕ → Peeked
+lookBy list taken queued count status n =
+    byStatus (λ (x : Status). lookAheadOf (room list) (shownAt list) (cursorOf taken queued count x) n) peeked.BadState status
+
+-- what `koto_look_ahead` ensures
+abbrev pub LookAheadIs : List ℕ → ℕ → ℕ → ℕ → ℕ → ℕ → ℕ → ℕ → List ℕ → ℕ → ℕ → Type 0
+LookAheadIs list taken queued count status n = LookedIs (lookBy list taken queued count status n) taken queued

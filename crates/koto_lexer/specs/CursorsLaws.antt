@@ -1,8 +1,8 @@
 -- What a cursor makes of the status that `koto_scan` writes: how the scan ended, and nothing where it was refused, so that no call over its
 -- list shows anything. And how the contracts come of what is told of an answer.
 --     by-end, by-stuck, by-refused    what each number of a scan names
---     next-refused, peek-refused      refusal 8, whatever the list and the other numbers are
---     next-told, peek-told            each number is that of an answer, and the answer is the inner call's
+--     next-refused, peek-refused, look-refused    refusal 8, whatever the list and the other numbers are
+--     next-told, looked-told          each number is that of an answer, and the answer is the inner call's
 -- Assumes nothing.
 use Prim.Native.Nat.{ℕ}
 use mathlib.Core.Path.{_≡_, refl, ap, _∙_}
@@ -18,7 +18,7 @@ use Rattle.lookahead.specs.declared.Given.the-variants as given
 use Rattle.lookahead.specs.declared.Peeked.{Peeked}
 use Rattle.lookahead.specs.declared.Peeked.the-variants as peeked
 use Rattle.reading.specs.Status.{endNumber, stuckNumber, refusedNumber}
-use Rattle.koto_lexer.specs.Cursors.{byStatus, nextBy, nextTold, NextIs, peekBy, peekTold, PeekIs}
+use Rattle.koto_lexer.specs.Cursors.{byStatus, nextBy, nextTold, NextIs, LookedIs, peekBy, lookBy}
 
 module _ {A : Type 0} (f : Status → A) (y : A) where
   pub by-end : byStatus f y endNumber ≡ f End
@@ -36,6 +36,9 @@ next-refused list taken queued count = refl
 pub peek-refused : (list : List ℕ) (taken queued count n : ℕ) → peekBy list taken queued count refusedNumber n ≡ peeked.BadState
 peek-refused list taken queued count n = refl
 
+pub look-refused : (list : List ℕ) (taken queued count n : ℕ) → lookBy list taken queued count refusedNumber n ≡ peeked.BadState
+look-refused list taken queued count n = refl
+
 pub next-told : {list words : List ℕ} {taken queued count status place r : ℕ} {given : Given} {told : Told}
     → given ≡ nextBy list taken queued count status → told ≡ givenTold given taken queued → words ≡ recordNumbers (told .row)
     → place ≡ next.placeOf given → r ≡ next.numberOf given
@@ -51,16 +54,15 @@ next-told {list} {taken} {queued} {count} {status} {told} e t w p r =
       place-is = p ∙ ap next.placeOf e;
     }
 
-pub peek-told : {list words : List ℕ} {taken queued count status n place r : ℕ} {peeked : Peeked} {told : Told}
-    → peeked ≡ peekBy list taken queued count status n → told ≡ peekedTold peeked taken queued → words ≡ recordNumbers (told .row)
-    → place ≡ peek.placeOf peeked → r ≡ peek.numberOf peeked
-    → PeekIs list taken queued count status n (told .queued) (told .shown) words place r
-peek-told {list} {taken} {queued} {count} {status} {n} {told} e t w p r =
-    let is : told ≡ peekTold list taken queued count status n = t ∙ ap (λ (x : Peeked). peekedTold x taken queued) e in
+pub looked-told : {looked x : Peeked} {words : List ℕ} {taken queued place r : ℕ} {told : Told} → x ≡ looked → told ≡ peekedTold x taken queued
+    → words ≡ recordNumbers (told .row) → place ≡ peek.placeOf x → r ≡ peek.numberOf x
+    → LookedIs looked taken queued (told .queued) (told .shown) words place r
+looked-told {looked} {taken} {queued} {told} e t w p r =
+    let is : told ≡ peekedTold looked taken queued = t ∙ ap (λ (y : Peeked). peekedTold y taken queued) e in
     record {
       number = r ∙ ap peek.numberOf e;
-      queued-is = ap (λ (x : Told). x .queued) is;
-      shown-is = ap (λ (x : Told). x .shown) is;
-      words-are = w ∙ ap (λ (x : Told). recordNumbers (x .row)) is;
+      queued-is = ap (λ (y : Told). y .queued) is;
+      shown-is = ap (λ (y : Told). y .shown) is;
+      words-are = w ∙ ap (λ (y : Told). recordNumbers (y .row)) is;
       place-is = p ∙ ap peek.placeOf e;
     }

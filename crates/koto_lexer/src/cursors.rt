@@ -1,6 +1,6 @@
-// `next` and `peek` for C. A cursor is its numbers: taken, queued, the count, and the status as a scan writes it.
+// `next`, `peek` and `look_ahead` for C. A cursor is its numbers: taken, queued, the count, and the status as a scan writes it.
 ghost use mathlib.Core.Path.{_≡_};
-ghost use Rattle.koto_lexer.specs.Cursors.{cursorOf, nextBy, NextIs, peekBy, PeekIs};
+ghost use Rattle.koto_lexer.specs.Cursors.{cursorOf, nextBy, NextIs, LookedIs, peekBy, PeekIs, lookBy, LookAheadIs};
 use cursor::Cursor;
 use cursor::Status;
 use lookahead::Given;
@@ -59,7 +59,26 @@ pub extern "C" fn koto_next(
     answer::given_number(given)
 }
 
-// ---- `peek`
+// ---- `peek` and `look_ahead`
+
+// Writes the numbers of an answer for a cursor that has taken so many, and hands its refusal on.
+fn tell_looked(
+    looked: Peeked,
+    taken: usize,
+    queued: &mut usize,
+    shown: &mut u32,
+    record: &mut [u32; 9],
+    place: &mut usize,
+) -> u32
+    ensures { λ r. ⌜ LookedIs looked taken (now (queued .entry)) (now (queued .exit)) (now (shown .exit)) (now («record» .exit)) (now (place .exit)) r ⌝ }
+{
+    let told = answer::peeked_told(looked, taken, *queued);
+    *queued = told.queued;
+    *shown = told.shown;
+    answer::put_record(record, told.row);
+    *place = answer::peeked_place(looked);
+    answer::peeked_number(looked)
+}
 
 // The inner call's answer for a cursor of these numbers.
 fn peek_by(list: &[u32], taken: usize, queued: usize, count: usize, status: u32, n: usize) -> Peeked
@@ -89,11 +108,38 @@ pub extern "C" fn koto_peek(
     ensures { λ r. ⌜ PeekIs (now (list .entry)) taken (now (queued .entry)) count status n
         (now (queued .exit)) (now (shown .exit)) (now («record» .exit)) (now (place .exit)) r ⌝ }
 {
-    let peeked = peek_by(list, taken, *queued, count, status, n);
-    let told = answer::peeked_told(peeked, taken, *queued);
-    *queued = told.queued;
-    *shown = told.shown;
-    answer::put_record(record, told.row);
-    *place = answer::peeked_place(peeked);
-    answer::peeked_number(peeked)
+    let looked = peek_by(list, taken, *queued, count, status, n);
+    tell_looked(looked, taken, queued, shown, record, place)
+}
+
+// The inner call's answer for a cursor of these numbers.
+fn look_by(list: &[u32], taken: usize, queued: usize, count: usize, status: u32, n: usize) -> Peeked
+    ensures { λ r. ⌜ r ≡ lookBy (now (list .entry)) taken queued count status n ⌝ }
+{
+    match status {
+        END => lookahead::look_ahead(list, cursor_of(taken, queued, count, Status::End), n),
+        STUCK => lookahead::look_ahead(list, cursor_of(taken, queued, count, Status::Stuck), n),
+        _ => Peeked::BadState,
+    }
+}
+
+// Shows the token that the (n+1)th following `koto_next` would hand out, and queues what is lacking for it. Refused are a cursor that is unfit
+// with 8, then more tokens than may be queued with 7, then a record whose kind or detail may not be shown with 9; all leave the cursor.
+#[no_mangle]
+pub extern "C" fn koto_look_ahead(
+    list: &[u32],
+    taken: usize,
+    queued: &mut usize,
+    count: usize,
+    status: u32,
+    n: usize,
+    shown: &mut u32,
+    record: &mut [u32; 9],
+    place: &mut usize,
+) -> u32
+    ensures { λ r. ⌜ LookAheadIs (now (list .entry)) taken (now (queued .entry)) count status n
+        (now (queued .exit)) (now (shown .exit)) (now («record» .exit)) (now (place .exit)) r ⌝ }
+{
+    let looked = look_by(list, taken, *queued, count, status, n);
+    tell_looked(looked, taken, queued, shown, record, place)
 }

@@ -12,6 +12,7 @@ mod tables;
 pub use bytes::koto_check_utf8;
 pub use bytes::koto_read_char;
 pub use clusters::koto_first_cluster;
+pub use cursors::koto_look_ahead;
 pub use cursors::koto_next;
 pub use cursors::koto_peek;
 pub use scans::koto_scan;

@@ -19,7 +19,7 @@ use rows::Row;
 use rows::RowAt;
 
 // A token that is looked at.
-enum Seen {
+pub enum Seen {
     Token(Row),
     Nothing,
     BadRecord(usize),

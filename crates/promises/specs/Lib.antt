@@ -20,5 +20,7 @@ pub mod StreamLaws
 pub mod WrongScansLaws
 pub mod PoolLaws
 pub mod LookaheadLaws
+pub mod LookAhead
+pub mod LookAheadLaws
 pub mod ParseLaws
 pub mod LentLaws

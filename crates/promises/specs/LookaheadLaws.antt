@@ -71,10 +71,10 @@ module _ (list : List ℕ) (c : Cursor) where
       let t : fitBy c Stuck ≡ true = rw e at (fits-of (room list) c f .by-status) in omega (arith, ltb-true (c .taken) (c .count) t)
   never-fit (queued-over h) f = omega (arith, fits-of (room list) c f .queued)
 
-  unfit-is : Unfit list c → isFit (room list) c ≡ false
+  pub unfit-is : Unfit list c → isFit (room list) c ≡ false
   unfit-is u = no-true (isFit (room list) c) (never-fit u)
 
-  fit-is : (Unfit list c → ⊥) → isFit (room list) c ≡ true
+  pub fit-is : (Unfit list c → ⊥) → isFit (room list) c ≡ true
   fit-is n =
       fit-of (room list) c (record {
         count = split-lt (room list) (c .count) (λ h. absurd (n (list-short h))) (λ h. h);

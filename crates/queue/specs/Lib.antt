@@ -3,3 +3,4 @@ pub mod Calls
 pub mod StreamLaws
 pub mod QueueLaws
 pub mod CallsLaws
+pub mod LookLaws
