@@ -9,6 +9,7 @@ pub mod Stream
 pub mod WrongScans
 pub mod Pool
 pub mod Lookahead
+pub mod Look
 pub mod Parse
 pub mod Utf8Laws
 pub mod PropertyLaws
@@ -20,7 +21,6 @@ pub mod StreamLaws
 pub mod WrongScansLaws
 pub mod PoolLaws
 pub mod LookaheadLaws
-pub mod LookAhead
-pub mod LookAheadLaws
+pub mod LookLaws
 pub mod ParseLaws
 pub mod LentLaws

@@ -1,4 +1,4 @@
--- The promise of `LookAhead`, proved, and that no second answer fits.
+-- The promise of `Look`, proved, and that no second answer fits.
 --     look-ahead-promise, look-ahead-has-one-answer
 -- Assumes nothing.
 use Prim.Native.Nat.{ℕ, _+_, _-_, _<_, _≤_}
@@ -29,7 +29,7 @@ use Rattle.queue.specs.Calls.{peekedToken, peekedCursor, next, call, afterCalls
 use Rattle.queue.specs.LookLaws.{same-nexts, look-fits, look-token}
 use Rattle.promises.specs.Lookahead.{Unfit, peekedSays}
 use Rattle.promises.specs.LookaheadLaws.{unfit-is, fit-is}
-use Rattle.promises.specs.LookAhead.{LookAheadEnsures, Lacks, nothing, at-stuck, at-end, past-end, LookAheadPromise}
+use Rattle.promises.specs.Look.{LookAheadEnsures, Lacks, nothing, at-stuck, at-end, past-end, LookAheadPromise}
 
 -- how many are queued, as the document says it and as the definition computes it
 lacks-is : (c : Cursor) (n m : ℕ) → Lacks c n m → queuedFor c n ≡ m
