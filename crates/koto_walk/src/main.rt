@@ -1,4 +1,4 @@
-// Walks over the tokens of a script. Standard input has a line of calls, `n` for `next` and `p3` for `peek(3)`, and then the script, of at
+// Walks over the tokens of a script. Standard input has a line of calls, `n` for `next`, `p3` for `peek(3)` and `l3` for `look_ahead(3)`, and then the script, of at
 // most 1,024 bytes. What each call says is printed on a line: a token as the list program prints it, `none`, or a refusal; last how many
 // tokens are queued.
 use libc::STDIN_FILENO;

@@ -1,4 +1,5 @@
-// A line of calls: `n` for `next` and `p3` for `peek(3)`, with one space between two of them. Decision 27 says which lines are malformed.
+// A line of calls: `n` for `next`, `p3` for `peek(3)` and `l3` for `look_ahead(3)`, with one space between two of them. Decision 27 says which
+// lines are malformed.
 //
 // The line is tested whole, byte by byte, before anything is called; a number tells where in a call the test stands.
 ghost use mathlib.Core.Path.{_≡_};
@@ -15,15 +16,16 @@ const BAD: u8 = 0;
 const BEGIN: u8 = 1;
 // After `n`.
 const NEXT: u8 = 2;
-// After `p`. With each digit the number rises by one.
-const PEEK: u8 = 3;
-// After `p` and 19 digits, so many as always fit 64 bits.
+// After `p` or `l`. With each digit the number rises by one.
+const LOOK: u8 = 3;
+// After `p` or `l` and 19 digits, so many as always fit 64 bits.
 const LONGEST: u8 = 22;
 
-// One of the two calls.
+// One of the calls.
 pub enum Call {
     Next,
     Peek(usize),
+    LookAhead(usize),
 }
 
 // Where the test stands after the first byte of a call.
@@ -32,14 +34,17 @@ fn begun(b: u8) -> u8 {
         return NEXT;
     }
     if b == b'p' {
-        return PEEK;
+        return LOOK;
+    }
+    if b == b'l' {
+        return LOOK;
     }
     BAD
 }
 
 // Where it stands after a digit.
 fn gone_on(place: u8) -> u8 {
-    if place < PEEK {
+    if place < LOOK {
         return BAD;
     }
     if LONGEST <= place {
@@ -50,7 +55,7 @@ fn gone_on(place: u8) -> u8 {
 
 // May a call end where the test stands?
 fn is_whole(place: u8) -> bool {
-    if place == PEEK {
+    if place == LOOK {
         return false;
     }
     NEXT <= place
@@ -104,6 +109,9 @@ pub fn call_at(line: &[u8], at: usize) -> Call
     }
     if line[at] == b'p' {
         return Call::Peek(lines::number(line, at + 1));
+    }
+    if line[at] == b'l' {
+        return Call::LookAhead(lines::number(line, at + 1));
     }
     Call::Next
 }

@@ -1,4 +1,4 @@
-// What the walk program does with a line of calls and what a scan left: it calls `next` and `peek` over the records, one call after the other. It is
+// What the walk program does with a line of calls and what a scan left: it calls `next`, `peek` and `look_ahead` over the records, one call after the other. It is
 // a library, so that the program which walks over many sources walks over each as the walk program does. It knows no standard input, no source
 // and no scan.
 mod calls;
@@ -76,7 +76,7 @@ fn told_given(before: Cursor, given: Given) -> Told
     }
 }
 
-// The same of `peek`.
+// The same of `peek` and `look_ahead`.
 fn told_peeked(before: Cursor, peeked: Peeked) -> Told
     ensures { λ r. ⌜ r ≡ toldPeeked before peeked ⌝ }
 {
@@ -104,6 +104,7 @@ pub fn ask(list: &[u32], cursor: Cursor, call: Call) -> Told
     match call {
         Call::Next => told_given(cursor, lookahead::next(list, cursor)),
         Call::Peek(n) => told_peeked(cursor, lookahead::peek(list, cursor, n)),
+        Call::LookAhead(n) => told_peeked(cursor, lookahead::look_ahead(list, cursor, n)),
     }
 }
 
