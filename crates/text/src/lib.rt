@@ -210,9 +210,9 @@ pub fn char_len(source: &[u8], at: usize) -> usize
 }
 
 // A character, and the run to try first for the next one.
-struct Near {
-    char: Char,
-    run: usize,
+pub struct Near {
+    pub char: Char,
+    pub run: usize,
 }
 
 // The character at `at`, with its properties looked up.
@@ -235,7 +235,7 @@ fn wide_near(source: &[u8], table: &[u32], at: usize, near: usize) -> Near
 
 // The character at `at`. The run `near` is tried first, which may be any number. It has two callers, so that LLVM inlines it in neither,
 // but inlines `run_utf8`.
-fn char_near(source: &[u8], table: &[u32], at: usize, near: usize) -> Near
+pub fn char_near(source: &[u8], table: &[u32], at: usize, near: usize) -> Near
     requires { ⌜ WellFormed (drop at (now source)) × (at < length (now source)) ⌝ }
     requires { ⌜ FitTable (now table) ⌝ }
     ensures { λ r. ⌜ CharIs (now (source .entry)) (now (table .entry)) at (r .char) ⌝ }

@@ -1,0 +1,63 @@
+-- Laws of the call's answer.
+--     refused, told    what `pad` ensures, by what the checks answered
+--     one-answer       no second answer and no second buffer fit
+--     kept             a refusal leaves the buffer
+-- Assumes nothing.
+use Prim.Native.Nat.{ℕ}
+use native.Mathlib.Omega.{arith}
+use mathlib.Core.Path.{_≡_, refl, sym, ap, _∙_}
+use mathlib.Core.List.{List}
+use mathlib.Core.Bool.{Bool}
+use lib.ListN.{length}
+use Rattle.base.specs.Refusal.{none}
+use Rattle.property.specs.Table.{propertiesAt}
+use Rattle.pad.specs.Check.{padCheck}
+use Rattle.pad.specs.Call.{paddedBy, inRoom, bufferAfter, PadsText, fillOf, onCheck, paddedText, padAnswer, Pads, numberOf}
+use Rattle.pad.specs.declared.Refusal.{Refusal}
+use Rattle.pad.specs.declared.Check.{Check}
+use Rattle.pad.specs.declared.Check.the-variants as check
+use Rattle.pad.specs.declared.Padded.{Padded}
+use Rattle.pad.specs.declared.Padded.the-variants.{Length, Refused}
+
+module _ (text : List ℕ) (alignment width : ℕ) (given : Bool) (fill table : List ℕ) (edition : ℕ) (old : List ℕ) where
+  abbrev checked : Check
+  checked = padCheck text alignment width given fill table edition
+
+  abbrev answer : Padded
+  answer = padAnswer text alignment width given fill table edition (length old)
+
+  is-refused : (x : Refusal) → checked ≡ check.Refused x → answer ≡ Refused x
+  is-refused x e = rw e
+
+  pub refused : (x : Refusal) → checked ≡ check.Refused x → Pads text alignment width given fill table edition old old (Refused x)
+  refused x e =
+      let p = paddedText text alignment width given fill table edition in
+      let a = is-refused x e in
+      record { answer = sym a; contents = ap (λ (r : Padded). bufferAfter r p old) (sym a) }
+
+  -- the padded text with the fill that is used
+  by-fill : (used : List ℕ) → used ≡ fillOf given fill
+      → paddedBy (propertiesAt table) edition text alignment width used ≡ paddedText text alignment width given fill table edition
+  by-fill used u = ap (paddedBy (propertiesAt table) edition text alignment width) u
+
+  pub told : checked ≡ check.Fine → (used : List ℕ) → used ≡ fillOf given fill → {new : List ℕ} {r : Padded}
+      → PadsText (propertiesAt table) edition text alignment width used old new r → Pads text alignment width given fill table edition old new r
+  told e used u {new} {r} w =
+      let p = paddedText text alignment width given fill table edition in
+      let q = by-fill used u in
+      let a : r ≡ answer = w .answer ∙ ap (λ (l : List ℕ). inRoom (length old) (length l)) q ∙ sym (ap (λ (c : Check). onCheck c (inRoom (length old) (length p))) e) in
+      record {
+        answer = a;
+        contents = w .contents ∙ ap (λ (l : List ℕ). bufferAfter r l old) q ∙ ap (λ (s : Padded). bufferAfter s p old) a;
+      }
+
+  pub one-answer : {new new′ : List ℕ} {r r′ : Padded} → Pads text alignment width given fill table edition old new r
+      → Pads text alignment width given fill table edition old new′ r′ → (r ≡ r′) × (new ≡ new′)
+  one-answer v w = (v .answer ∙ sym (w .answer), v .contents ∙ sym (w .contents))
+
+  pub kept : {new : List ℕ} {r : Padded} → Pads text alignment width given fill table edition old new r → (numberOf r ≡ none → ⊥) → new ≡ old
+  kept {new} {r} v n = v .contents ∙ go answer (λ e. n (ap numberOf (v .answer) ∙ e))
+    where
+      go : (a : Padded) → (numberOf a ≡ none → ⊥) → bufferAfter a (paddedText text alignment width given fill table edition) old ≡ old
+      go (Length k) n = absurd (n refl)
+      go (Refused x) n = refl
