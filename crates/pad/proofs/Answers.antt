@@ -11,11 +11,10 @@ use borrow.Author.Tests.{lt-ltb, le-ltb}
 use Rattle.utf8.specs.Chars.{chars}
 use Rattle.pool.specs.Pool.{written}
 use Rattle.cluster_count.specs.Count.{clusterCount}
-use Rattle.pad.specs.Pad.{fills, filled}
-use Rattle.pad.specs.PadLaws.{length-padded}
+use Rattle.fills.specs.Pad.{fills, filled}
+use Rattle.fills.specs.PadLaws.{length-padded}
 use Rattle.pad.specs.Call.{paddedBy, PadsText}
-use Rattle.pad.specs.declared.Refusal.the-variants.{NoRoom}
-use Rattle.pad.specs.declared.Padded.the-variants.{Length, Refused}
+use Rattle.pad.specs.declared.Padded.the-variants.{Length, NoRoom}
 
 module _ (look : ℕ → ℕ) (edition : ℕ) (text : List ℕ) (alignment width : ℕ) (fill buffer : List ℕ) (k n : ℕ)
     (e : k ≡ clusterCount look edition (chars text)) (f : n ≡ fills width k) where
@@ -31,7 +30,7 @@ module _ (look : ℕ → ℕ) (edition : ℕ) (text : List ℕ) (alignment width
       ∙ ap (λ (j : ℕ). length text + j * length fill) (sym same-fills)
 
   pub too-short : length buffer < length text + n * length fill
-      → PadsText look edition text alignment width fill buffer buffer (Refused NoRoom)
+      → PadsText look edition text alignment width fill buffer buffer NoRoom
   too-short h =
       let t = lt-ltb (length buffer) (length p) (omega (arith, long)) in
       record { answer = rw t refl; contents = refl }

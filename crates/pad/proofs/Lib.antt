@@ -1,4 +1,1 @@
-pub mod Tests
-pub mod Filling
 pub mod Answers
-pub mod Vectors

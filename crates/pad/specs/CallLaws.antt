@@ -2,22 +2,26 @@
 --     refused, told    what `pad` ensures, by what the checks answered
 --     one-answer       no second answer and no second buffer fit
 --     kept             a refusal leaves the buffer
+--     few-bytes, fits  how many bytes are needed stays below 2^64
 -- Assumes nothing.
-use Prim.Native.Nat.{ℕ}
+use Prim.Native.Nat.{ℕ, _*_, _<_, _≤_}
 use native.Mathlib.Omega.{arith}
+use native.Mathlib.Nat.{mul-le-mul}
 use mathlib.Core.Path.{_≡_, refl, sym, ap, _∙_}
 use mathlib.Core.List.{List}
-use mathlib.Core.Bool.{Bool}
+use mathlib.Core.Bool.{Bool, true}
 use lib.ListN.{length}
 use Rattle.base.specs.Refusal.{none}
+use Rattle.fills.specs.Pad.{widthMost, isWidth, fills, paddedLength}
+use Rattle.fills.specs.PadLaws.{fills-within}
 use Rattle.property.specs.Table.{propertiesAt}
-use Rattle.pad.specs.Check.{padCheck}
+use Rattle.pad_input.specs.Check.{textMost, padCheck}
 use Rattle.pad.specs.Call.{paddedBy, inRoom, bufferAfter, PadsText, fillOf, onCheck, paddedText, padAnswer, Pads, numberOf}
-use Rattle.pad.specs.declared.Refusal.{Refusal}
-use Rattle.pad.specs.declared.Check.{Check}
-use Rattle.pad.specs.declared.Check.the-variants as check
+use Rattle.pad_input.specs.declared.Refusal.{Refusal}
+use Rattle.pad_input.specs.declared.Check.{Check}
+use Rattle.pad_input.specs.declared.Check.the-variants as check
 use Rattle.pad.specs.declared.Padded.{Padded}
-use Rattle.pad.specs.declared.Padded.the-variants.{Length, Refused}
+use Rattle.pad.specs.declared.Padded.the-variants.{Length, Refused, NoRoom}
 
 module _ (text : List ℕ) (alignment width : ℕ) (given : Bool) (fill table : List ℕ) (edition : ℕ) (old : List ℕ) where
   abbrev checked : Check
@@ -61,3 +65,14 @@ module _ (text : List ℕ) (alignment width : ℕ) (given : Bool) (fill table : 
       go : (a : Padded) → (numberOf a ≡ none → ⊥) → bufferAfter a (paddedText text alignment width given fill table edition) old ≡ old
       go (Length k) n = absurd (n refl)
       go (Refused x) n = refl
+      go NoRoom n = refl
+
+-- ---- how many bytes are needed
+
+pub few-bytes : (n f : ℕ) → n ≤ widthMost → f ≤ textMost → n * f ≤ 281470681677825
+few-bytes n f h k = let m : n * f ≤ widthMost * textMost = mul-le-mul h k in omega arith
+
+pub fits : (width clusters : ℕ) (fill text : List ℕ) → isWidth width ≡ true → length fill ≤ textMost → length text ≤ textMost
+    → paddedLength width fill text clusters < 18446744073709551616
+fits width clusters fill text w f t =
+    omega (arith, few-bytes (fills width clusters) (length fill) (fills-within width clusters w) f)

@@ -2,8 +2,6 @@
 // koto's. Clusters are counted in the text and in the fill, each by itself and never across a joint.
 // An alignment and a width come as the numbers that the parse of a format string tells. It knows no format strings.
 pub mod answer;
-mod checks;
-mod fills;
 
 ghost use mathlib.Core.Path.{_≡_};
 ghost use mathlib.Core.Bool.{true};
@@ -12,44 +10,23 @@ ghost use lib.ListN.{length};
 ghost use Rattle.utf8.specs.Encode.{WellFormed};
 ghost use Rattle.property.specs.Table.{propertiesAt};
 ghost use Rattle.fitness.specs.Fit.{FitTable};
-ghost use Rattle.pad.specs.Check.{textMost, isWidth};
+ghost use Rattle.pad_input.specs.Check.{textMost};
+ghost use Rattle.fills.specs.Pad.{isWidth};
 ghost use Rattle.pad.specs.Call.{PadsText, Pads};
-use checks::check_pad;
 use cluster_count::count_clusters;
 use fills::fills_of;
 use fills::put_padded;
-
-// A refusal, under document 02's name.
-pub enum Refusal {
-    // 1: the text, or a fill that is given, has over 65,535 bytes. Its place is 0.
-    TooLong,
-    // 17: the edition is neither 1 nor 2. Its place is 0.
-    BadEdition,
-    // 2: the table is unfit, with its place.
-    BadTable(usize),
-    // 3: the text is wrong from this offset on.
-    BadUtf8(usize),
-    // 15: the text is cut at this offset.
-    CutUtf8(usize),
-    // 3 and 15 of the fill, with the offset in its own bytes.
-    FillBadUtf8(usize),
-    FillCutUtf8(usize),
-    // 18: the number of the alignment or the width is none, or a fill that is given is not exactly one cluster. Its place is 0.
-    NoSuchFormat,
-    // 19: the buffer is shorter than the padded text. Its place is 0.
-    NoRoom,
-}
-
-// What the checks before any work answer.
-pub enum Check {
-    Fine,
-    Refused(Refusal),
-}
+use pad_input::Check;
+use pad_input::Refusal;
+use pad_input::check_pad;
 
 // What `pad` answers: how many bytes the padded text has, or a refusal.
 pub enum Padded {
     Length(usize),
+    // A refusal that came before any work.
     Refused(Refusal),
+    // 19: the buffer is shorter than the padded text. Its place is 0.
+    NoRoom,
 }
 
 // Pads a text that no check refuses. How many bytes are needed is known before one is written.
@@ -71,7 +48,7 @@ fn pad_text(
     let n = fills_of(width, clusters);
     let needed = text.len() + n * fill.len();
     if buffer.len() < needed {
-        return Padded::Refused(Refusal::NoRoom);
+        return Padded::NoRoom;
     }
     Padded::Length(put_padded(buffer, text, fill, alignment, n))
 }

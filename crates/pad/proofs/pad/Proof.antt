@@ -6,11 +6,11 @@ use denote.Ref.{now}
 use Rattle.base.specs.Pick.{pick}
 use Rattle.utf8.specs.CharsLaws.{well-of-fine}
 use Rattle.fitness.specs.FitLaws.{fit-of}
-use Rattle.pad.specs.Pad.{space}
-use Rattle.pad.specs.Check.{padCheck, Paddable}
-use Rattle.pad.specs.CheckLaws.{fine-parts, width-of}
+use Rattle.fills.specs.Pad.{space}
+use Rattle.pad_input.specs.Check.{padCheck, Paddable}
+use Rattle.pad_input.specs.CheckLaws.{fine-parts, width-of}
 use Rattle.pad.specs.CallLaws.{refused, told}
-use Rattle.pad.specs.declared.Check.the-variants.{Fine}
+use Rattle.pad_input.specs.declared.Check.the-variants.{Fine}
 use borrow.Author.Needs.{needs}
 use Rattle.pad.proofs.pad.Statement.{statement}
 use Rattle.pad.proofs.pad.Tie as tie

@@ -3,7 +3,7 @@ use native.Mathlib.Omega.{arith}
 use lib.ListN.{length}
 use denote.Ref.{now}
 use Rattle.property.specs.Table.{propertiesAt}
-use Rattle.pad.specs.PadLaws.{few-bytes}
+use Rattle.pad.specs.CallLaws.{few-bytes}
 use Rattle.pad.proofs.Answers.{too-short, enough}
 use borrow.Author.Needs.{needs}
 use Rattle.pad.proofs.pad_text.Statement.{statement}
