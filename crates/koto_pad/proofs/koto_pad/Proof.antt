@@ -1,0 +1,44 @@
+-- `koto_pad::koto_pad` meets its contract: each number is that of the answer. Assumes nothing.
+use mathlib.Core.Path.{ap, _∙_}
+use Rattle.pad.specs.Call.{numberOf, placeOf, lenOf}
+use borrow.Author.Needs.{needs}
+use Rattle.koto_pad.proofs.koto_pad.Statement.{statement}
+use Rattle.koto_pad.proofs.koto_pad.Tie as tie
+
+pad-requires : tie.Need-pad-requires
+pad-requires c κs = search needs
+
+len-of-requires : tie.Need-len-of-requires
+len-of-requires c κs = search needs
+
+place-of-requires : tie.Need-place-of-requires
+place-of-requires c κs = search needs
+
+number-of-requires : tie.Need-number-of-requires
+number-of-requires c κs = search needs
+
+same-length : tie.Need-same-length
+same-length c = search needs
+
+returns : tie.Need-returns
+returns c =
+    let at-place = c .before in
+    let at-len = at-place .before in
+    let p = at-len .before .before .before .pad .ensures in
+    record {
+      number = c .number-of .ensures ∙ ap numberOf (p .answer);
+      len-is = at-len .len-of .ensures ∙ ap lenOf (p .answer);
+      place-is = at-place .place-of .ensures ∙ ap placeOf (p .answer);
+      contents = p .contents;
+    }
+
+pub koto-pad-spec : {M : Type 1} → statement M
+koto-pad-spec =
+    tie.close
+    (tie.spec
+    pad-requires
+    len-of-requires
+    place-of-requires
+    number-of-requires
+    same-length
+    returns)
