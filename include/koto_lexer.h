@@ -36,7 +36,8 @@ extern "C" {
  *
  * Each has a place, or a value, which the calls below write under that name; where none is said it is 0.
  *
- *    1 TOO_LONG                    a source over KOTO_SOURCE_MOST bytes, or a format string over KOTO_FORMAT_MOST
+ *    1 TOO_LONG                    a source over KOTO_SOURCE_MOST bytes, a format string over KOTO_FORMAT_MOST, or a text or a fill over
+ *                                  KOTO_TEXT_MOST
  *    2 BAD_TABLE                   a table that is unfit. Place: 0 for a bad count, else the first bad run, from 0, else, where only code
  *                                  points 0 to 127 have other properties than every table must give them, the count
  *    3 BAD_UTF8                    bytes of which the first ill-formed sequence is wrong, whatever may follow. Place: its offset
@@ -56,6 +57,8 @@ extern "C" {
  *   15 CUT_UTF8                    bytes of which the first ill-formed sequence is a proper beginning of a character that the end stops: what
  *                                  lacks may still arrive. Given where 3 would be, and never with it. Place: its offset
  *   17 BAD_EDITION                 a number that is no edition of the cluster rules
+ *   18 NO_SUCH_FORMAT              options that no format string has
+ *   19 NO_ROOM                     a buffer that is shorter than the result
  */
 
 #define KOTO_NO_REFUSAL 0u
@@ -75,6 +78,8 @@ extern "C" {
 #define KOTO_BAD_FILE 14u
 #define KOTO_CUT_UTF8 15u
 #define KOTO_BAD_EDITION 17u
+#define KOTO_NO_SUCH_FORMAT 18u
+#define KOTO_NO_ROOM 19u
 
 /* ---- How a scan ends: the status, which a cursor over its list carries ----
  *
@@ -86,10 +91,12 @@ extern "C" {
 #define KOTO_STUCK 1u
 #define KOTO_REFUSED 2u
 
-/* ---- Limits: bytes of a source and of a format string, numbers of a table, tokens queued, words of a record in a list ---- */
+/* ---- Limits: bytes of a source, of a format string, and of a text and a fill; numbers of a table, tokens queued, words of a record in a
+ * list ---- */
 
 #define KOTO_SOURCE_MOST 1048576u
 #define KOTO_FORMAT_MOST 65535u
+#define KOTO_TEXT_MOST 65535u
 #define KOTO_TABLE_MOST 8000u
 #define KOTO_QUEUE_MOST 65535u
 #define KOTO_RECORD_WORDS 8u
@@ -382,6 +389,30 @@ uint32_t koto_add_string(const uint8_t *string, size_t string_len, uint8_t *byte
 uint32_t koto_parse(const uint8_t *format, size_t format_len, const uint32_t *table, size_t table_len, uint32_t edition,
                     uint8_t *bytes, size_t bytes_len, koto_entry *entries, size_t entries_len, koto_counts *counts,
                     koto_options *options, uint64_t *value);
+
+/* Pads a text to a width: as many fills before and behind it as its clusters are too few. This is our rule, and not koto's.
+ *
+ * Clusters are counted in the text by itself, by all that stands left of each place (see koto_first_cluster for the rules). What a fill and the
+ * text become where they meet is not looked at: a fill that is a combining mark stands there as it is. The alignment and the width may be
+ * those of koto_options. A text that has the width or more, and one without a width, is copied.
+ *
+ * in       the text; alignment: a KOTO_ALIGNMENT, where DEFAULT is as LEFT, and CENTER puts the odd fill behind the text; width: 0 to
+ *            4,294,967,295, or KOTO_NONE; filled: not 0 where a fill is given; the fill, which is not looked at where none is given: then it
+ *            is one space; a table; edition: 1, without GB9c, or 2, with it; a buffer, of which nothing is read
+ * out      buffer: the padded text from its start on, and behind it what was there. len: how many bytes it has. place: 0
+ * refused  in this order, each with len 0, and the whole buffer stays
+ *          1 TOO_LONG: the text, or a fill that is given. place: 0
+ *          17 BAD_EDITION. place: 0
+ *          2 BAD_TABLE, with its place
+ *          3 BAD_UTF8, 15 CUT_UTF8 of the text, with their place
+ *          3 BAD_UTF8, 15 CUT_UTF8 of a fill that is given. place: the offset in the fill
+ *          18 NO_SUCH_FORMAT: the alignment or the width is another number, or a fill that is given is not exactly one cluster by itself; no
+ *            bytes are none. It is told also where no fill is needed. place: 0
+ *          19 NO_ROOM: the buffer is shorter than the padded text. place: 0
+ */
+uint32_t koto_pad(const uint8_t *text, size_t text_len, uint64_t alignment, uint64_t width, uint32_t filled, const uint8_t *fill,
+                  size_t fill_len, const uint32_t *table, size_t table_len, uint32_t edition, uint8_t *buffer, size_t buffer_len,
+                  size_t *len, size_t *place);
 
 #ifdef __cplusplus
 }
