@@ -217,8 +217,8 @@ extern "C" {
 
 /* ---- Structs ---- */
 
-/* A token of a scan, as koto_next and koto_peek show it: its kind and detail, its bytes from start to before end, its span (lines and columns
- * from 0), and the indent of its line. */
+/* A token of a scan, as koto_next, koto_peek and koto_look_ahead show it: its kind and detail, its bytes from start to before end, its span (lines
+ * and columns from 0), and the indent of its line. */
 typedef struct koto_record {
     uint32_t kind;
     uint32_t detail;
@@ -359,6 +359,20 @@ uint32_t koto_next(const uint32_t *list, size_t list_len, size_t *taken, size_t 
  */
 uint32_t koto_peek(const uint32_t *list, size_t list_len, size_t taken, size_t *queued, size_t count, uint32_t status, size_t n,
                    uint32_t *shown, koto_record *record, size_t *place);
+
+/* Looks ahead, and shows the token that the (n+1)th following koto_next would hand out. It queues only what lacks for that, as far as there are
+ * tokens, so that a look at any n may come first. Whatever is looked at, koto_next hands out the same tokens.
+ *
+ * in       the list that the scan wrote; the cursor (see koto_next); n, from 0
+ * out      shown: 1, and record: the token; or 0, where there is none, and record: zeros. queued: how many are queued after it, the larger of
+ *            what was and of n + 1, but at KOTO_END no more than is left. place: 0
+ * refused  in this order, each with shown 0 and record zeros; queued stays
+ *          8 BAD_STATE. place: 0
+ *          7 QUEUE_FULL: over KOTO_QUEUE_MOST would be queued. place: 0
+ *          9 BAD_RECORD. place: the record's index
+ */
+uint32_t koto_look_ahead(const uint32_t *list, size_t list_len, size_t taken, size_t *queued, size_t count, uint32_t status, size_t n,
+                         uint32_t *shown, koto_record *record, size_t *place);
 
 /* Adds a string to a pool, or finds it there. Equal strings have equal indices, counted from 0 in the order of their first addition.
  *
