@@ -18,7 +18,7 @@ use Rattle.utf8.specs.declared.Utf8Check.{Utf8Check}
 use Rattle.utf8.specs.declared.Utf8Check.the-variants as utf8
 use Rattle.pool_rows.specs.Rows.{indexOf, stringsOf, roomOf, byteRoom, entryRoom, runsTo, fitIn, fitPool}
 use Rattle.pool.specs.Pool.{onUtf8, placed, addedToFit, added}
-use Rattle.pool.specs.Pool.{isNew, entered, bytesAfter, AddsString}
+use Rattle.pool.specs.Pool.{isNew, entered, bytesAfter, AddsToFit, AddsString}
 use Rattle.pool_rows.specs.FitLaws.{room-within, fit-of}
 use Rattle.pool.specs.PoolLaws.{settled, placed-same, old-entries, new-entries}
 use Rattle.pool_rows.specs.declared.Counts.{Counts}
@@ -109,3 +109,44 @@ module _ (bytes : List ℕ) (es : List Entry) (counts : Counts) (n : ℕ) (n-is 
             ∙ numbers-set es n (counts .bytes) (length string)
             ∙ ap (λ (m : ℕ). entered (numbersOf es) m (counts .bytes) (length string)) (within-row (parts (new-fit e .0) .0))
             ∙ sym (new-entries string counts r e (numbersOf es)))
+
+-- ---- for a string that is well formed, in a pool that is fit
+
+module _ (bytes : List ℕ) (es : List Entry) (counts : Counts) (fit : fitPool bytes (numbersOf es) counts ≡ true) where
+  within : (counts .entries ≤ roomOf (length es)) × (counts .bytes ≤ byteRoom bytes)
+  within =
+      let f = fit-of (numbersOf es) counts (entryRoom (numbersOf es)) (byteRoom bytes) fit in
+      (omega (arith, f .entries-fit, room-is es), f .bytes-fit)
+
+  pub in-bytes : counts .bytes ≤ byteRoom bytes
+  in-bytes = within .1
+
+  pub in-row : counts .entries ≤ length es
+  in-row = omega (arith, within .0, room-within (length es) .0)
+
+  module _ (string : List ℕ) (found : ℕ) (found-as : found ≡ indexOf string (stringsOf bytes (numbersOf es) (counts .entries)))
+      (r : Added) (r-as : r ≡ placed (length string) found counts (roomOf (length es)) (byteRoom bytes)) where
+    fit-answer : r ≡ addedToFit string bytes (numbersOf es) counts
+    fit-answer = r-as ∙ placed-same _ _ _ _ _ _ _ _ found-as (sym (room-is es)) refl
+
+    pub is-free : isNew counts r ≡ true → (counts .entries < length es) × (length string < 2 ^ 32)
+    is-free e =
+        let p = new-room (length string) found counts (roomOf (length es)) (byteRoom bytes) (ap (isNew counts) (sym r-as) ∙ e) in
+        (omega (arith, p .0, room-within (length es) .0), omega (arith, p .1, room-within (length bytes) .1))
+
+    module _ (newBytes : List ℕ) (bytes-as : newBytes ≡ bytesAfter string counts r bytes) where
+      pub fit-old : isNew counts r ≡ false → AddsToFit string counts bytes (numbersOf es) newBytes (numbersOf es) r
+      fit-old e =
+          record { answer = fit-answer; bytes-left = bytes-as; entries-left = sym (old-entries string counts r e (numbersOf es)) }
+
+      pub fit-new : (ds : List Entry) → ds ≡ set es (counts .entries) (entryOf (counts .bytes) (length string)) → isNew counts r ≡ true
+          → AddsToFit string counts bytes (numbersOf es) newBytes (numbersOf ds) r
+      fit-new ds ds-as e =
+          record {
+            answer = fit-answer;
+            bytes-left = bytes-as;
+            entries-left =
+            ap numbersOf ds-as
+            ∙ numbers-set es (counts .entries) (counts .bytes) (length string)
+            ∙ sym (new-entries string counts r e (numbersOf es));
+          }

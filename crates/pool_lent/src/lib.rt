@@ -6,7 +6,7 @@ ghost use mathlib.Core.Bool.{true};
 ghost use Prim.Native.Nat.{_≤_, _<_};
 ghost use lib.ListN.{length, set, take, drop};
 ghost use Rattle.pool_rows.specs.Rows.{same, indexOf, stringsOf, roomOf, byteRoom, fitPool};
-ghost use Rattle.pool.specs.Pool.{placed, bytesAfter, countsAfter, AddsString};
+ghost use Rattle.pool.specs.Pool.{placed, bytesAfter, countsAfter, AddsToFit, AddsString};
 ghost use Rattle.pool_lent.specs.Entries.{numbersOf, entryOf, AddsEntry};
 ghost use Rattle.pool_lent.specs.Decided.{least, endOf, EndsAt, fitAt, answerAt};
 use pool::Added;
@@ -181,6 +181,26 @@ pub fn is_pool_fit(bytes: &[u8], entries: &[Entry], counts: Counts) -> bool
     let n = least(counts.entries as usize, entries.len());
     let end = ends(entries, n);
     is_fit_at(bytes.len(), entries.len(), counts, end)
+}
+
+// Adds a well-formed string to a fit pool, and asks neither: whoever knows both calls this. It answers and writes as `pool::add_to_fit` does.
+pub fn add_to_fit_row(
+    string: &[u8],
+    bytes: &mut [u8],
+    entries: &mut [Entry],
+    counts: Counts,
+) -> Added
+    requires { ⌜ fitPool (now bytes) (numbersOf (now entries)) counts ≡ true ⌝ }
+    ensures { λ r. ⌜ AddsToFit (now (string .entry)) counts (now (bytes .entry)) (numbersOf (now (entries .entry)))
+        (now (bytes .exit)) (numbersOf (now (entries .exit))) r ⌝ }
+{
+    let n = counts.entries as usize;
+    let found = find_string(string, bytes, entries, n);
+    let answer = add_to_fit(string, bytes, entries.len(), counts, found);
+    if pool::is_new(counts, answer) {
+        put_entry(entries, n, counts.bytes, string.len() as u32);
+    }
+    answer
 }
 
 // Adds a string to a pool: its index, and the counts after it. It refuses and writes as `pool::add_string` does.
