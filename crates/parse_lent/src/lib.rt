@@ -31,7 +31,7 @@ fn add_fill(
 {
     if parse::is_adding(fill, adding) {
         let string = parse::string_of(format, fill);
-        let added = pool_lent::add_row(string, bytes, entries, adding.counts);
+        let added = pool_lent::add_to_fit_row(string, bytes, entries, adding.counts);
         return parse::after_added(adding, added);
     }
     adding

@@ -146,7 +146,7 @@ module _ (bytes : List ℕ) (es : List Entry) (counts : Counts) (fit : fitPool b
             answer = fit-answer;
             bytes-left = bytes-as;
             entries-left =
-            ap numbersOf ds-as
-            ∙ numbers-set es (counts .entries) (counts .bytes) (length string)
-            ∙ sym (new-entries string counts r e (numbersOf es));
+                ap numbersOf ds-as
+                ∙ numbers-set es (counts .entries) (counts .bytes) (length string)
+                ∙ sym (new-entries string counts r e (numbersOf es));
           }

@@ -1,7 +1,7 @@
 -- `parse_lent::add_fill` meets its contract: a walk of its MIR, by hand, with four calls and a branch. The string that `string_of` takes out of the
--- format string is passed to `add_row` with both rows, which are given to it for good. All that the proof knows of the four is that they meet
+-- format string is passed to `add_to_fit_row` with both rows, which are given to it for good. All that the proof knows of the four is that they meet
 -- their contracts. Assumes nothing.
-use Rattle.pool_lent.proofs.Walk.{_≡_, refl, sym, ap, subst, _∙_, ℕ, List, [], _∷_, length, URA, fullShare, named, tyBool, Val, SProp, ent}
+use Rattle.pool_lent.proofs.Walk.{_≡_, refl, sym, ap, _∙_, ℕ, List, [], _∷_, length, URA, fullShare, named, tyBool, Val, SProp, ent}
 use Rattle.pool_lent.proofs.Walk.{snd∗, exE, id⊢, Lft, Share, ftrue, fat, flft, Fml, Memory, Routine, Heap, Calls, Loops, WpFn, Tables}
 use Rattle.pool_lent.proofs.Walk.{Atoms, sem, Fun, fact, givenOf, tables, tablesOf, Given, ‵, _⊛_, ⋆, _$_, _∵_, !, qed, by, move, keep}
 use Rattle.pool_lent.proofs.Walk.{split, join, rewrite, fsplit, fjoin, suffices, frame, done, drop, use1, raw, some, later, pick, await}
@@ -19,7 +19,7 @@ use mir.Syntax.{erased}
 use denote.Slice.{shr-slice-lawful}
 use Rattle.pool_lent.proofs.Places.{local, member, sets}
 use denote.Struct.Laws as S
-use Rattle.pool.specs.Pool.{AddsString}
+use Rattle.pool.specs.Pool.{AddsToFit}
 use Rattle.pool_rows.specs.declared.Counts.{Counts}
 use Rattle.pool.specs.declared.Added.{Added}
 use Rattle.pool_rows.proofs.Counts as Counts
@@ -38,8 +38,7 @@ use Rattle.parse.specs.declared.Adding.{Adding}
 use Rattle.parse.proofs.Adding as Adding
 use Rattle.parse.proofs.Adding.Laws as Adding′
 use Rattle.parse.specs.Plan.{CanAdd, isAdding, fillString}
-use Rattle.parse.specs.PlanLaws.{can-in, adds-nothing}
-use Rattle.parse_lent.specs.LentLaws.{adds-string}
+use Rattle.parse.specs.PlanLaws.{can-in, can-fit, adds-nothing, adds-string}
 use Rattle.parse_lent.proofs.Plain.{counts, added, fill, adding, no-ask, asks}
 use Rattle.parse.proofs.is_adding as is-adding
 use Rattle.parse.proofs.is_adding.Symbol as is-adding-def
@@ -49,10 +48,10 @@ use Rattle.parse.proofs.string_of as string-of
 use Rattle.parse.proofs.string_of.Symbol as string-of-def
 use Rattle.parse.proofs.string_of.Symbol.{name as #parse·string-of}
 use Rattle.parse.proofs.string_of.Met as string-of-thm
-use Rattle.pool_lent.proofs.add_row as add-row
-use Rattle.pool_lent.proofs.add_row.Symbol as add-row-def
-use Rattle.pool_lent.proofs.add_row.Symbol.{name as #pool-lent·add-row}
-use Rattle.pool_lent.proofs.add_row.Met as add-row-thm
+use Rattle.pool_lent.proofs.add_to_fit_row as add-to-fit-row
+use Rattle.pool_lent.proofs.add_to_fit_row.Symbol as add-to-fit-row-def
+use Rattle.pool_lent.proofs.add_to_fit_row.Symbol.{name as #pool-lent·add-to-fit-row}
+use Rattle.pool_lent.proofs.add_to_fit_row.Met as add-to-fit-row-thm
 use Rattle.parse.proofs.after_added as after-added
 use Rattle.parse.proofs.after_added.Symbol as after-added-def
 use Rattle.parse.proofs.after_added.Symbol.{name as #parse·after-added}
@@ -84,8 +83,8 @@ module _ {M : Type 1} (𝓤 : URA M) (H : Heap 𝓤) (A : Atoms 𝓤) (mem : Mem
   abbrev StringOf : Contract 𝓤
   StringOf = tripleOf 𝓤 H A string-of.signature (string-of.spec 𝓤 H A mem run)
 
-  abbrev AddRow : Contract 𝓤
-  AddRow = tripleOf 𝓤 H A add-row.signature (add-row.spec 𝓤 H A mem run)
+  abbrev AddToFit : Contract 𝓤
+  AddToFit = tripleOf 𝓤 H A add-to-fit-row.signature (add-to-fit-row.spec 𝓤 H A mem run)
 
   abbrev AfterAdded : Contract 𝓤
   AfterAdded = tripleOf 𝓤 H A after-added.signature (after-added.spec 𝓤 H A mem run)
@@ -145,10 +144,8 @@ module _ {M : Type 1} (𝓤 : URA M) (H : Heap 𝓤) (A : Atoms 𝓤) (W : Given
 
   said-yes : (s : RefT (List ℕ)) (d : Added) (r : Adding) (zs : List ℕ) (ds : List Entry) (t : Bool) → Holds t → t ≡ isAdding f a
       → s .now ≡ fillString (x₀ .now) f
-      → AddsString (s .now) (a .counts) bs (numbersOf es) zs (numbersOf ds) d → r ≡ addingAfter a d → Said r zs ds
-  said-yes s d r zs ds t adds e₁ e₂ e₃ e₄ =
-      adds-string (x₀ .now) f a (sym e₁ ∙ is-true t adds) (subst (λ (l : List ℕ). AddsString l (a .counts) bs (numbersOf es) zs
-      (numbersOf ds) d) e₂ e₃) e₄
+      → AddsToFit (s .now) (a .counts) bs (numbersOf es) zs (numbersOf ds) d → r ≡ addingAfter a d → Said r zs ds
+  said-yes s d r zs ds t adds e₁ e₂ e₃ e₄ = adds-string (x₀ .now) a bs (numbersOf es) f pre (sym e₁ ∙ is-true t adds) e₂ e₃ e₄
 
   said-no : (t : Bool) → Holds (not t) → t ≡ isAdding f a → Said a bs es
   said-no t skip e₁ = adds-nothing (x₀ .now) a bs (numbersOf es) f (sym e₁ ∙ is-false t skip)
@@ -191,10 +188,10 @@ module _ {M : Type 1} (𝓤 : URA M) (H : Heap 𝓤) (A : Atoms 𝓤) (W : Given
   abbrev add-args : RefT (List ℕ) → RefT (List ℕ) × (RefT (List ℕ) × (RefT (List Entry) × (Counts × Unit {0})))
   add-args s = (s, (x₁, (x₂, (a .counts, tt))))
 
-  abbrev add-at : Val → Vals add-row.signature κs
+  abbrev add-at : Val → Vals add-to-fit-row.signature κs
   add-at w = (w ∷ [], (v₁ ∷ [], (v₂ ∷ [], (counts .val (a .counts) ∷ [], tt))))
 
-  abbrev to-add : RefT (List ℕ) → Val → AddRow 𝓤 H A at-mem run .Ghost
+  abbrev to-add : RefT (List ℕ) → Val → AddToFit 𝓤 H A at-mem run .Ghost
   to-add s w = ((κs, qs, tt, add-args s, add-at w), tt)
 
   abbrev after-args : Added → Adding × (Added × Unit {0})
@@ -208,7 +205,7 @@ module _ {M : Type 1} (𝓤 : URA M) (H : Heap 𝓤) (A : Atoms 𝓤) (W : Given
 
   module _ (C : Calls 𝓤 H) (Λ : Loops 𝓤 H) (fm : FmC 𝓤 H (W .laws) C) (known-test : Triple 𝓤 (C #parse·is-adding)
       (IsAdding 𝓤 H A at-mem run)) (known-string : Triple 𝓤 (C #parse·string-of) (StringOf 𝓤 H A at-mem run))
-      (known-add : Triple 𝓤 (C #pool-lent·add-row) (AddRow 𝓤 H A at-mem run)) (known-after : Triple 𝓤 (C #parse·after-added)
+      (known-add : Triple 𝓤 (C #pool-lent·add-to-fit-row) (AddToFit 𝓤 H A at-mem run)) (known-after : Triple 𝓤 (C #parse·after-added)
       (AfterAdded 𝓤 H A at-mem run)) where
     walk : ent 𝓤 (onEntry 𝓤 H A add-fill.signature κs qs x at) (WpFn 𝓤 H C Λ code.function
         (v₀ ∷ fill .val f ∷ v₁ ∷ v₂ ∷ adding .val a ∷ []) Post)
@@ -268,16 +265,16 @@ module _ {M : Type 1} (𝓤 : URA M) (H : Heap 𝓤) (A : Atoms 𝓤) (W : Given
         owned ! Counts.the-row (Is Counts.the-row) (counts .makes 𝓤 H A) (a .counts) _ (count a ga) $ fjoin ! $ move ! (6 ∷ 0 ∷ []) $
         fjoin ! $ move ! (6 ∷ 0 ∷ []) $ fjoin ! $ move ! (2 ∷ 0 ∷ []) $ fjoin ! $ nothing ! $
         move ! (4 ∷ 0 ∷ []) $ join ! $ move ! (4 ∷ 0 ∷ []) $ join ! $ move ! (2 ∷ 0 ∷ []) $ join ! $
-        use2 W (raw (AddRow 𝓤 H A at-mem run .pre (to-add s w₂))) (no-ask 𝓤 H A W (onEntry 𝓤 H A add-row.signature κs qs (add-args s)
-        (add-at w₂))) $
-        calls-at ! fm (AddRow 𝓤 H A at-mem run) known-add (to-add s w₂) (and-then ! (local ! 14 refl) (and-then ! (local ! 6 refl)
+        use2 W (raw (AddToFit 𝓤 H A at-mem run .pre (to-add s w₂))) (asks 𝓤 H A W (onEntry 𝓤 H A add-to-fit-row.signature κs qs (add-args s)
+        (add-at w₂)) (can-fit (x₀ .now) a bs (numbersOf es) f pre (sym e₁ ∙ is-true t adds))) $
+        calls-at ! fm (AddToFit 𝓤 H A at-mem run) known-add (to-add s w₂) (and-then ! (local ! 14 refl) (and-then ! (local ! 6 refl)
         (and-then ! (local ! 2 refl) (and-then ! (member ! 16 refl (sub ! 0 refl (whole !))) (no-more !))))) (λ w₃.
-        use1 W (later (some (λ (d : Added). (Toks ⊛ ‵ (Added.the-row .own d (w₃ ∷ []))) ⊛ raw (ensured 𝓤 H A add-row.ended
-        (add-row.clauses 𝓤 H A at-mem run) κs (add-args s) tt d)))) (id⊢ 𝓤 _) $ await ! tt $ pick ! (λ d. split ! $
+        use1 W (later (some (λ (d : Added). (Toks ⊛ ‵ (Added.the-row .own d (w₃ ∷ []))) ⊛ raw (ensured 𝓤 H A add-to-fit-row.ended
+        (add-to-fit-row.clauses 𝓤 H A at-mem run) κs (add-args s) tt d)))) (id⊢ 𝓤 _) $ await ! tt $ pick ! (λ d. split ! $
         move ! (1 ∷ []) $
-        use1 W (some (λ (zs : Unit {0} × (List ℕ × (List Entry × (Unit {0} × Unit {0})))). ‵ (lasts add-row.ended κs (add-args s) zs) ⊛ raw
-        (fact 𝓤 (AddsString (s .now) (a .counts) bs (numbersOf es) (zs .1 .0) (numbersOf (zs .1 .1 .0)) d)))) (id⊢ 𝓤 _) $ pick ! (λ zs.
-        split ! $ move ! (1 ∷ []) $ heard ! (AddsString (s .now) (a .counts) bs (numbersOf es) (zs .1 .0) (numbersOf (zs .1 .1 .0)) d)
+        use1 W (some (λ (zs : Unit {0} × (List ℕ × (List Entry × (Unit {0} × Unit {0})))). ‵ (lasts add-to-fit-row.ended κs (add-args s) zs) ⊛ raw
+        (fact 𝓤 (AddsToFit (s .now) (a .counts) bs (numbersOf es) (zs .1 .0) (numbersOf (zs .1 .1 .0)) d)))) (id⊢ 𝓤 _) $ pick ! (λ zs.
+        split ! $ move ! (1 ∷ []) $ heard ! (AddsToFit (s .now) (a .counts) bs (numbersOf es) (zs .1 .0) (numbersOf (zs .1 .1 .0)) d)
         (λ e₃. fsplit ! $ drop ! $ fsplit ! $ fsplit ! $ move ! (1 ∷ []) $ feqL ! (λ k₁. move ! (1 ∷ []) $
         fsplit ! $ fsplit ! $ move ! (1 ∷ []) $ feqL ! (λ k₂. move ! (1 ∷ []) $ fsplit ! $ drop ! $ drop ! $ move ! (2 ∷ []) $ split ! $
         move ! (1 ∷ []) $
@@ -322,7 +319,7 @@ module _ {M : Type 1} (𝓤 : URA M) (H : Heap 𝓤) (A : Atoms 𝓤) (W : Given
     → Fun 𝓤) (𝓣 : Tables 𝓤 H)
     (known-test : Triple 𝓤 (𝓣 .C #parse·is-adding) (IsAdding 𝓤 H A mem run)) (known-string : Triple 𝓤 (𝓣 .C #parse·string-of)
     (StringOf 𝓤 H A mem run))
-    (known-add : Triple 𝓤 (𝓣 .C #pool-lent·add-row) (AddRow 𝓤 H A mem run)) (known-after : Triple 𝓤 (𝓣 .C #parse·after-added)
+    (known-add : Triple 𝓤 (𝓣 .C #pool-lent·add-to-fit-row) (AddToFit 𝓤 H A mem run)) (known-after : Triple 𝓤 (𝓣 .C #parse·after-added)
     (AfterAdded 𝓤 H A mem run)) where
   add-fill-walks : Walks 𝓤 H A add-fill.ended stayed (WpFn 𝓤 H (𝓣 .C) (𝓣 .Λ) code.function) (add-fill.clauses 𝓤 H A mem run)
   add-fill-walks = walked 𝓤 H A add-fill.ended stayed (add-fill.clauses 𝓤 H A mem run) (WpFn 𝓤 H (𝓣 .C) (𝓣 .Λ) code.function)
@@ -376,7 +373,7 @@ add-fill-spec 𝓤 H 𝓜 𝓖 𝓡 =
     code.calls-parse·is-adding (is-adding-thm.met 𝓤 H 𝓜 𝓖 𝓡))
     (cited 𝓤 H (StringOf 𝓤 H (𝓖 .A) (𝓜 .mem) (𝓡 .run)) 𝓜 𝓡 code.env #parse·string-of string-of-def.routine
     code.calls-parse·string-of (string-of-thm.met 𝓤 H 𝓜 𝓖 𝓡))
-    (cited 𝓤 H (AddRow 𝓤 H (𝓖 .A) (𝓜 .mem) (𝓡 .run)) 𝓜 𝓡 code.env #pool-lent·add-row add-row-def.routine code.calls-pool-lent·add-row
-    (add-row-thm.met 𝓤 H 𝓜 𝓖 𝓡))
+    (cited 𝓤 H (AddToFit 𝓤 H (𝓖 .A) (𝓜 .mem) (𝓡 .run)) 𝓜 𝓡 code.env #pool-lent·add-to-fit-row add-to-fit-row-def.routine code.calls-pool-lent·add-to-fit-row
+    (add-to-fit-row-thm.met 𝓤 H 𝓜 𝓖 𝓡))
     (cited 𝓤 H (AfterAdded 𝓤 H (𝓖 .A) (𝓜 .mem) (𝓡 .run)) 𝓜 𝓡 code.env #parse·after-added after-added-def.routine
     code.calls-parse·after-added (after-added-thm.met 𝓤 H 𝓜 𝓖 𝓡)))
