@@ -2,8 +2,8 @@
 -- gives the properties of a code point.
 -- The pool is whatever `add` adds to, one part of the format string after the other: a list of parts, in `parse`; what the code keeps, in
 -- `Read`. An addition cannot fail here: for a pool that can be full, P also says whether it was, and `add` then leaves it as it is.
--- `match (next, chars.peek(), position)` is told in two halves: `armOf` of `format_arms` has the patterns, in their order, and `bodyOf` what
--- stands behind each, under its pattern.
+-- `match (next, chars.peek(), position)` is told in two halves: `armOf` of `format_arms` has the patterns, in their order, and `bodyOf`
+-- what stands behind each, under its pattern.
 -- Assumes nothing.
 use Prim.Native.Nat.{ℕ, zero, suc, _+_, _-_, _≤_}
 use mathlib.Core.List.{List, [], _∷_, _++_}

@@ -1,5 +1,5 @@
--- The state of a reading, and what an arm of string_format_options.rs's `StringFormatOptions::parse` makes of it. In the place of a pool stand
--- two places, for the first string and the last one after it.
+-- The state of a reading, and what an arm of string_format_options.rs's `StringFormatOptions::parse` makes of it. In the place of a pool
+-- stand two places, for the first string and the last one after it.
 -- Assumes nothing.
 use Prim.Native.Nat.{ℕ, _+_, _-_}
 use mathlib.Core.Bool.{Bool}
