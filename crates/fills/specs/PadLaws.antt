@@ -4,6 +4,7 @@
 --     all-fills        the fills before the text and those behind it are all
 --     default-left, left-behind, right-before    Default, Left and Right put all of them on one side
 --     odd-right        Center puts as many behind the text as before it, or one more
+--     no-fills         with no fill it is the text
 --     copied, at-width    without a width, and at or above it, the text is copied
 --     length-repeated, length-padded    how many bytes there are
 --     fills-within     no more fills than the greatest width
@@ -67,6 +68,9 @@ none-filled alignment n fill text e =
     ap (λ (k : ℕ). repeated k fill ++ (text ++ repeated (trailing alignment n) fill)) a
     ∙ ap (λ (k : ℕ). text ++ repeated k fill) b
     ∙ append-nil text
+
+pub no-fills : (alignment : ℕ) (fill text : List ℕ) → filled alignment 0 fill text ≡ text
+no-fills alignment fill text = none-filled alignment 0 fill text refl
 
 pub copied : (alignment : ℕ) (fill text : List ℕ) (clusters : ℕ) → padded alignment noWidth fill text clusters ≡ text
 copied alignment fill text clusters = none-filled alignment (fills noWidth clusters) fill text refl

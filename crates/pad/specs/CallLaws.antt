@@ -1,5 +1,6 @@
 -- Laws of the call's answer.
 --     refused, told    what `pad` ensures, by what the checks answered
+--     is-refused, is-short, is-padded    the answer, where a check refuses, where there is no room, and else
 --     one-answer       no second answer and no second buffer fit
 --     kept             a refusal leaves the buffer
 --     few-bytes, fits  how many bytes are needed stays below 2^64
@@ -11,7 +12,9 @@ use mathlib.Core.Path.{_≡_, refl, sym, ap, _∙_}
 use mathlib.Core.List.{List}
 use mathlib.Core.Bool.{Bool, true}
 use lib.ListN.{length}
+use borrow.Author.Tests.{lt-ltb, le-ltb}
 use Rattle.base.specs.Refusal.{none}
+use Rattle.pool.specs.Pool.{written}
 use Rattle.fills.specs.Pad.{widthMost, isWidth, fills, paddedLength}
 use Rattle.fills.specs.PadLaws.{fills-within}
 use Rattle.property.specs.Table.{propertiesAt}
@@ -30,7 +33,7 @@ module _ (text : List ℕ) (alignment width : ℕ) (given : Bool) (fill table : 
   abbrev answer : Padded
   answer = padAnswer text alignment width given fill table edition (length old)
 
-  is-refused : (x : Refusal) → checked ≡ check.Refused x → answer ≡ Refused x
+  pub is-refused : (x : Refusal) → checked ≡ check.Refused x → answer ≡ Refused x
   is-refused x e = rw e
 
   pub refused : (x : Refusal) → checked ≡ check.Refused x → Pads text alignment width given fill table edition old old (Refused x)
@@ -54,6 +57,19 @@ module _ (text : List ℕ) (alignment width : ℕ) (given : Bool) (fill table : 
         answer = a;
         contents = w .contents ∙ ap (λ (l : List ℕ). bufferAfter r l old) q ∙ ap (λ (s : Padded). bufferAfter s p old) a;
       }
+
+  abbrev needed : ℕ
+  needed = length (paddedText text alignment width given fill table edition)
+
+  pub is-short : checked ≡ check.Fine → length old < needed → answer ≡ NoRoom
+  is-short e h = rw (e, lt-ltb (length old) needed h)
+
+  pub is-padded : {new : List ℕ} {r : Padded} → Pads text alignment width given fill table edition old new r → checked ≡ check.Fine
+      → needed ≤ length old → (r ≡ Length needed) × (new ≡ written old 0 (paddedText text alignment width given fill table edition))
+  is-padded v e h =
+      let p = paddedText text alignment width given fill table edition in
+      let a : answer ≡ Length needed = rw (e, le-ltb (length old) needed h) in
+      (v .answer ∙ a, v .contents ∙ ap (λ (s : Padded). bufferAfter s p old) a)
 
   pub one-answer : {new new′ : List ℕ} {r r′ : Padded} → Pads text alignment width given fill table edition old new r
       → Pads text alignment width given fill table edition old new′ r′ → (r ≡ r′) × (new ≡ new′)

@@ -11,6 +11,7 @@ pub mod Pool
 pub mod Lookahead
 pub mod Look
 pub mod Parse
+pub mod Pad
 pub mod Utf8Laws
 pub mod PropertyLaws
 pub mod ClusterLaws
@@ -23,4 +24,5 @@ pub mod PoolLaws
 pub mod LookaheadLaws
 pub mod LookLaws
 pub mod ParseLaws
+pub mod PadLaws
 pub mod LentLaws
