@@ -167,6 +167,17 @@ fn options_of(options: &raw::Options) -> Options {
     }
 }
 
+impl Alignment {
+    pub(crate) fn number(self) -> u64 {
+        match self {
+            Alignment::Default => 0,
+            Alignment::Left => 1,
+            Alignment::Center => 2,
+            Alignment::Right => 3,
+        }
+    }
+}
+
 fn alignment_of(number: u64) -> Alignment {
     match number {
         1 => Alignment::Left,

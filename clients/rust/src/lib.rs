@@ -1,14 +1,16 @@
-//! Koto's lexer, proved in Rattle: safe functions over the static library. Slices go in, enums come out, under document 01's names.
+//! Koto's lexer, proved in Rattle: safe functions over the static library. Slices go in, enums come out, under the documents' names.
 //!
 //! Every function takes every input. What is lent is written as docs/PROMISES.md says; a refusal before the work writes nothing.
 
 mod formats;
 mod lists;
+mod padding;
 pub mod raw;
 mod texts;
 
 pub use formats::{add_string, parse, Added, Alignment, Fill, Options, Parsed, Pool, Representation};
 pub use lists::{next, peek, room_for, scan, Cursor, Given, Peeked, Scanned, Status, RECORD_WORDS};
+pub use padding::{pad, Padded, Padding};
 pub use raw::{Counts, Entry, Record};
 pub use texts::{
     check_table, check_utf8, first_cluster, read_char, read_table, Cluster, Edition, Read, TableCheck, TableFile,
@@ -19,6 +21,8 @@ pub use texts::{
 pub const SOURCE_MOST: usize = 1_048_576;
 /// Format strings over this many bytes are refused.
 pub const FORMAT_MOST: usize = 65_535;
+/// Texts to be padded, and fills, over this many bytes are refused.
+pub const TEXT_MOST: usize = 65_535;
 /// A property table has at most this many numbers.
 pub const TABLE_MOST: usize = 8_000;
 /// At most this many tokens are queued.
