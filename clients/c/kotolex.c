@@ -1,7 +1,7 @@
-/* kotolex: lists the tokens of a Koto script, by libkoto_lexer.a.
+/* kotolex: lists the tokens of a Koto script, or pads its lines, by libkoto_lexer.a.
  *
  * It prints what the list program koto_list prints, for scripts of up to 1 MiB and with the full property table, and has an exit status of
- * its own for each kind of failure.
+ * its own for each kind of failure. With --pad it prints the lines of a file, each padded to a width.
  */
 #include <stdbool.h>
 #include <stdint.h>
@@ -16,6 +16,7 @@
 enum {
     FINE = 0,
     SCAN_REFUSED = 1,
+    PAD_REFUSED = 1,
     BAD_USAGE = 2,
     NO_SCRIPT = 3,
     NO_TABLE = 4,
@@ -37,22 +38,33 @@ enum {
 
 static const char HELP[] =
     "usage: kotolex FILE [--table FILE] [--edition N]\n"
+    "       kotolex FILE --pad WIDTH [--align default|left|center|right] [--fill CLUSTER] [--table FILE] [--edition N]\n"
     "\n"
     "Lists the tokens of a Koto script of at most 1,048,576 bytes, one on a line, by nine numbers: kind, detail, the bytes where it starts\n"
     "and ends, the line and column where it starts, those where it ends, the indent of its line. Last comes how the scan ended: end or\n"
     "stuck with the count of tokens and the current byte, or refused with the refusal's number and place.\n"
     "\n"
+    "With --pad it prints each line of the file padded to so many clusters, the line's own and the fills, and stops with refused at the first\n"
+    "line that is refused; the place is one of that line, or of the fill.\n"
+    "\n"
     "  --table FILE   the property table; without it, " TABLE_FILE " beside the program\n"
     "  --edition N    the edition of Unicode's cluster rules: 1 as before Unicode 15.1, without GB9c; 2, with it, if none is given\n"
+    "  --pad WIDTH    0 to 4294967295; a longer line is printed as it is\n"
+    "  --align SIDE   where the line stands: left, which is the default, center, with the odd fill behind it, or right\n"
+    "  --fill CLUSTER what it is padded with; without it, spaces\n"
     "  --help         this text\n"
     "\n"
-    "exit status: 0 end or stuck, 1 the scan was refused, 2 bad usage, 3 the script can't be read, 4 the table can't be read,\n"
-    "             5 the table's file was refused, 6 no memory, 7 the output can't be written, 8 the script's end cuts a character:\n"
-    "             it may still be arriving (refused 15)\n";
+    "exit status: 0 end or stuck, or all lines padded, 1 refused, 2 bad usage, 3 the file can't be read, 4 the table can't be\n"
+    "             read, 5 the table's file was refused, 6 no memory, 7 the output can't be written, 8 the script's end cuts a\n"
+    "             character: it may still be arriving (refused 15)\n";
 
 typedef struct {
     const char *script;
     const char *table;
+    /* Of --pad, each a word of the command line; NULL for none. */
+    const char *width;
+    const char *align;
+    const char *fill;
     const char *edition;
     bool help;
 } options;
@@ -72,46 +84,58 @@ static int fail(int status, const char *what, const char *name) {
     return status;
 }
 
-/* Reads the word after an option that is not given twice. False where there is none. */
-static bool read_value(int argc, char **argv, int *i, const char **to) {
-    ++*i;
-    if (*i == argc || *to != NULL) {
+/* Where the word behind an option goes. NULL for a word that is no such option. */
+static const char **option_of(const char *word, options *to) {
+    static const char *const names[] = {"--table", "--pad", "--align", "--fill", "--edition"};
+    const char **const places[] = {&to->table, &to->width, &to->align, &to->fill, &to->edition};
+    for (size_t i = 0; i < sizeof names / sizeof names[0]; i++) {
+        if (strcmp(word, names[i]) == 0) {
+            return places[i];
+        }
+    }
+    return NULL;
+}
+
+/* Reads a number of at most 19 digits. False for another word. */
+static bool read_number(const char *word, uint64_t *to) {
+    size_t len = strlen(word);
+    if (len == 0 || 19 < len || strspn(word, "0123456789") != len) {
         return false;
     }
-    *to = argv[*i];
+    *to = strtoull(word, NULL, 10);
     return true;
 }
 
-/* Reads a number of at most nine digits. False for another word. */
-static bool read_number(const char *word, uint32_t *to) {
-    size_t len = strlen(word);
-    if (len == 0 || 9 < len || strspn(word, "0123456789") != len) {
+/* Reads an edition: whether there is such a one the library says. False for a word that is no number of 32 bits. */
+static bool read_edition(const char *word, uint32_t *to) {
+    uint64_t number;
+    if (!read_number(word, &number) || UINT32_MAX < number) {
         return false;
     }
-    *to = (uint32_t)strtoul(word, NULL, 10);
+    *to = (uint32_t)number;
     return true;
 }
 
 /* Reads the words of the command line. False for a line that is not as the help says. */
 static bool read_options(int argc, char **argv, options *to) {
     for (int i = 1; i < argc; i++) {
+        const char **place = option_of(argv[i], to);
         if (strcmp(argv[i], "--help") == 0) {
             to->help = true;
-        } else if (strcmp(argv[i], "--table") == 0) {
-            if (!read_value(argc, argv, &i, &to->table)) {
+        } else if (place != NULL) {
+            i++;
+            if (i == argc || *place != NULL) {
                 return false;
             }
-        } else if (strcmp(argv[i], "--edition") == 0) {
-            if (!read_value(argc, argv, &i, &to->edition)) {
-                return false;
-            }
+            *place = argv[i];
         } else if (argv[i][0] == '-' || to->script != NULL) {
             return false;
         } else {
             to->script = argv[i];
         }
     }
-    return to->help || to->script != NULL;
+    bool pads = to->width != NULL || (to->align == NULL && to->fill == NULL);
+    return to->help || (to->script != NULL && pads);
 }
 
 /* The path of the table's file beside the program. False if it can't be told. */
@@ -209,8 +233,76 @@ static int list_tokens(bytes script, words table, uint32_t edition) {
     return FINE;
 }
 
+/* ---- padding ---- */
+
+typedef struct {
+    uint64_t alignment;
+    uint64_t width;
+    bool filled;
+    const uint8_t *fill;
+    size_t fill_len;
+} padding;
+
+/* Reads the words of --pad. False where one is not as the help says; whether a number is a width the library says. */
+static bool read_padding(const options *asked, padding *to) {
+    static const char *const sides[] = {"default", "left", "center", "right"};
+    for (to->alignment = 0; asked->align != NULL && strcmp(asked->align, sides[to->alignment]) != 0;) {
+        to->alignment++;
+        if (to->alignment == sizeof sides / sizeof sides[0]) {
+            return false;
+        }
+    }
+    if (!read_number(asked->width, &to->width)) {
+        return false;
+    }
+    to->filled = asked->fill != NULL;
+    const char *fill = to->filled ? asked->fill : " ";
+    to->fill = (const uint8_t *)fill;
+    to->fill_len = strlen(fill);
+    return true;
+}
+
+/* Pads one line and prints it. */
+static int pad_line(const uint8_t *line, size_t len, const padding *by, words table, uint32_t edition) {
+    /* Room for the line and as many fills as the width asks for; what is refused needs none. */
+    size_t room = len + (by->width <= UINT32_MAX && by->fill_len <= KOTO_TEXT_MOST ? (size_t)by->width * by->fill_len : 0);
+    uint8_t *buffer = malloc(room + 1);
+    if (buffer == NULL) {
+        return fail(NO_MEMORY, "no memory for a padded line", "");
+    }
+    size_t padded, place;
+    uint32_t refused = koto_pad(line, len, by->alignment, by->width, by->filled, by->fill, by->fill_len, table.at, table.len,
+                                edition, buffer, room, &padded, &place);
+    if (refused == 0) {
+        fwrite(buffer, 1, padded, stdout);
+        putchar('\n');
+    }
+    free(buffer);
+    return refused == 0 ? FINE : print_refused(refused, place, PAD_REFUSED);
+}
+
+/* Pads each line of a file. What stands behind the last newline is a line, if it is something. */
+static int pad_lines(bytes text, words table, uint32_t edition, const padding *by) {
+    if (text.len > KOTO_SOURCE_MOST) {
+        return print_refused(KOTO_TOO_LONG, 0, PAD_REFUSED);
+    }
+    int status = FINE;
+    for (size_t start = 0; status == FINE && start < text.len;) {
+        const uint8_t *newline = memchr(text.at + start, '\n', text.len - start);
+        size_t end = newline == NULL ? text.len : (size_t)(newline - text.at);
+        status = pad_line(text.at + start, end - start, by, table, edition);
+        start = end + 1;
+    }
+    return status;
+}
+
 static int run(const options *asked, uint32_t edition, const char *program) {
     char beside[PATH_ROOM];
+    padding by;
+    if (asked->width != NULL && !read_padding(asked, &by)) {
+        fputs(HELP, stderr);
+        return BAD_USAGE;
+    }
     if (asked->table == NULL && !path_beside(program, beside, sizeof beside)) {
         return fail(NO_TABLE, "where is the table? --table FILE says it", "");
     }
@@ -221,7 +313,7 @@ static int run(const options *asked, uint32_t edition, const char *program) {
         status = read_table(asked->table != NULL ? asked->table : beside, &table);
     }
     if (status == FINE) {
-        status = list_tokens(script, table, edition);
+        status = asked->width != NULL ? pad_lines(script, table, edition, &by) : list_tokens(script, table, edition);
     }
     free(script.at);
     free(table.at);
@@ -229,10 +321,10 @@ static int run(const options *asked, uint32_t edition, const char *program) {
 }
 
 int main(int argc, char **argv) {
-    options asked = {NULL, NULL, NULL, false};
+    options asked = {NULL, NULL, NULL, NULL, NULL, NULL, false};
     uint32_t edition = KOTO_WITH_GB9C;
     int status = FINE;
-    if (!read_options(argc, argv, &asked) || (asked.edition != NULL && !read_number(asked.edition, &edition))) {
+    if (!read_options(argc, argv, &asked) || (asked.edition != NULL && !read_edition(asked.edition, &edition))) {
         fputs(HELP, stderr);
         return BAD_USAGE;
     }
