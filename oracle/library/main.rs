@@ -45,7 +45,7 @@ fn main() {
     scans::compare(&mut run, &mut dice, count);
     formats::compare(&mut run, &mut dice, count);
     conjuncts::compare(&mut run, &mut dice, count / 8);
-    odd::compare(&mut run, &mut dice, count / 20_000);
+    odd::compare(&mut run, &mut dice, count / 10_000);
     cuts::compare(&mut run, &mut dice);
     cursors::compare(&mut run, &mut dice, count / 5);
     tables::compare(&mut run, &mut dice, count / 50);
