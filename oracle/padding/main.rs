@@ -7,8 +7,8 @@ mod judge;
 #[path = "../src/kpt.rs"]
 mod kpt;
 #[allow(dead_code)]
-#[path = "../library/lent.rs"]
-mod lent;
+#[path = "../library/memory.rs"]
+mod memory;
 #[allow(dead_code)]
 #[path = "../src/rich.rs"]
 mod rich;
@@ -16,7 +16,7 @@ mod rich;
 use damage::damaged;
 use judge::{Asked, NONE, TEXT_MOST};
 use koto_lexer::raw;
-use lent::{Answers, Arena};
+use memory::{Answers, Arena};
 use rich::{Dice, Kinds};
 use std::collections::BTreeMap;
 use std::process::exit;
