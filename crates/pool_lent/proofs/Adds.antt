@@ -1,8 +1,10 @@
--- What the calls of `is_pool_fit` and of `add_row` come to, over lists and numbers.
---     fit-is                        the test on numbers is that of the flat pool
---     bytes-fit                     what `add_bytes` asks of a fit pool
---     free                          where a new index is handed out, an entry is free and the string's length is a number of 32 bits
---     settled-old, settled-new      a return: nothing is written to the entries, or the new one
+-- What the calls of `is_pool_fit`, of `add_to_fit_row` and of `add_row` come to, over lists and numbers.
+--     fit-is                             the test on numbers is that of the flat pool
+--     in-bytes, in-row                   what `add_to_fit` and `find_string` ask of a fit pool
+--     is-free                            where a new index is handed out, an entry is free and the string's length is a number of 32 bits
+--     fit-old, fit-new                   a return: nothing is written to the entries, or the new one
+--     fine-fit                           where nothing is refused, the pool is fit
+--     settled-fine, settled-refused      a return: after the addition, or with a refusal
 -- Assumes nothing.
 use Prim.Native.Nat.{ℕ, _+_, _<_, _≤_, _^_}
 use native.Mathlib.Omega.{arith}
@@ -20,12 +22,12 @@ use Rattle.pool_rows.specs.Rows.{indexOf, stringsOf, roomOf, byteRoom, entryRoo
 use Rattle.pool.specs.Pool.{onUtf8, placed, addedToFit, added}
 use Rattle.pool.specs.Pool.{isNew, entered, bytesAfter, AddsToFit, AddsString}
 use Rattle.pool_rows.specs.FitLaws.{room-within, fit-of}
-use Rattle.pool.specs.PoolLaws.{settled, placed-same, old-entries, new-entries}
+use Rattle.pool.specs.PoolLaws.{settled, adds-fine, placed-same, old-bytes, old-entries, new-entries}
 use Rattle.pool_rows.specs.declared.Counts.{Counts}
 use Rattle.pool.specs.declared.Added.{Added}
 use Rattle.pool.specs.declared.Added.the-variants.{BadState}
 use Rattle.pool_lent.specs.Entries.{numbersOf, entryOf}
-use Rattle.pool_lent.specs.Decided.{least, EndsAt, fitAt, answerAt}
+use Rattle.pool_lent.specs.Decided.{least, EndsAt, fitAt, fineBy, fineAt, refusalAt}
 use Rattle.pool_lent.specs.EntriesLaws.{numbers-long, numbers-set}
 use Rattle.pool_lent.specs.declared.Entry.{Entry}
 use Rattle.pool_lent.proofs.Numbers.{least-is, new-room}
@@ -50,65 +52,6 @@ module _ (bytes : List ℕ) (es : List Entry) (counts : Counts) (n : ℕ) (n-is 
       (λ k. rw (le-ltb (byteRoom bytes) (counts .bytes) k)
       (ends (counts .bytes) (omega (arith, room-within (length bytes) .1))
       ∙ ap (λ (m : ℕ). runsTo (numbersOf es) 0 m 0 (counts .bytes)) (within-row h))))))
-
-  module _ (string : List ℕ) (fit : Bool) (fit-as : fit ≡ fitPool bytes (numbersOf es) counts) where
-    -- a fit pool, part by part
-    parts : fit ≡ true → (counts .entries ≤ roomOf (length es)) × (counts .bytes ≤ byteRoom bytes)
-    parts e =
-        let f = fit-of (numbersOf es) counts (entryRoom (numbersOf es)) (byteRoom bytes) (sym fit-as ∙ e) in
-        (omega (arith, f .entries-fit, room-is es), f .bytes-fit)
-
-    pub bytes-fit : fit ≡ true → counts .bytes ≤ byteRoom bytes
-    bytes-fit e = parts e .1
-
-    module _ (found : ℕ) (found-as : found ≡ indexOf string (stringsOf bytes (numbersOf es) n))
-        (r : Added) (r-as : r ≡ answerAt string bytes (length es) counts fit found) where
-      -- the answer is that for the flat rows
-      answer-is : r ≡ added string bytes (numbersOf es) counts
-      unfolding answerAt added
-      answer-is = r-as ∙ ap (onUtf8 (checkFrom 0 string)) (rw (sym fit-as) (go fit refl))
-        where
-          go : (t : Bool) → fit ≡ t
-              → pick t (placed (length string) found counts (roomOf (length es)) (byteRoom bytes)) BadState
-              ≡ pick t (addedToFit string bytes (numbersOf es) counts) BadState
-          go true e =
-              placed-same _ _ _ _ _ _ _ _
-              (found-as ∙ ap (λ (m : ℕ). indexOf string (stringsOf bytes (numbersOf es) m)) (within-row (parts e .0)))
-              (sym (room-is es)) refl
-          go false e = refl
-
-      -- a new index is handed out in a fit pool with room alone
-      new-fit : isNew counts r ≡ true
-          → (fit ≡ true) × ((counts .entries < roomOf (length es)) × (counts .bytes + length string ≤ byteRoom bytes))
-      unfolding answerAt
-      new-fit e = go (checkFrom 0 string) fit refl (ap (isNew counts) (sym r-as) ∙ e)
-        where
-          go : (u : Utf8Check) (t : Bool) → fit ≡ t
-              → isNew counts (onUtf8 u (pick t (placed (length string) found counts (roomOf (length es)) (byteRoom bytes)) BadState)) ≡ true
-              → (fit ≡ true) × ((counts .entries < roomOf (length es)) × (counts .bytes + length string ≤ byteRoom bytes))
-          go utf8.Fine true f e = (f, new-room (length string) found counts (roomOf (length es)) (byteRoom bytes) e)
-          go utf8.Fine false f e = absurd (let z : _≡_ {A = ℕ} 0 1 = cc in omega arith)
-          go (utf8.BadAt i) t f e = absurd (let z : _≡_ {A = ℕ} 0 1 = cc in omega arith)
-          go (utf8.CutAt i) t f e = absurd (let z : _≡_ {A = ℕ} 0 1 = cc in omega arith)
-
-      pub free : isNew counts r ≡ true → (n < length es) × (length string < 2 ^ 32)
-      free e =
-          let p = new-fit e in
-          let q = within-row (parts (p .0) .0) in
-          (omega (arith, p .1 .0, room-within (length es) .0), omega (arith, p .1 .1, room-within (length bytes) .1))
-
-      module _ (newBytes : List ℕ) (bytes-as : newBytes ≡ bytesAfter string counts r bytes) where
-        pub settled-old : isNew counts r ≡ false → AddsString string counts bytes (numbersOf es) newBytes (numbersOf es) r
-        settled-old e = settled _ _ _ _ answer-is bytes-as (sym (old-entries string counts r e (numbersOf es)))
-
-        pub settled-new : (ds : List Entry) → ds ≡ set es n (entryOf (counts .bytes) (length string)) → isNew counts r ≡ true
-            → AddsString string counts bytes (numbersOf es) newBytes (numbersOf ds) r
-        settled-new ds ds-as e =
-            settled _ _ _ _ answer-is bytes-as
-            (ap numbersOf ds-as
-            ∙ numbers-set es n (counts .bytes) (length string)
-            ∙ ap (λ (m : ℕ). entered (numbersOf es) m (counts .bytes) (length string)) (within-row (parts (new-fit e .0) .0))
-            ∙ sym (new-entries string counts r e (numbersOf es)))
 
 -- ---- for a string that is well formed, in a pool that is fit
 
@@ -150,3 +93,34 @@ module _ (bytes : List ℕ) (es : List Entry) (counts : Counts) (fit : fitPool b
                 ∙ numbers-set es (counts .entries) (counts .bytes) (length string)
                 ∙ sym (new-entries string counts r e (numbersOf es));
           }
+
+-- ---- for any string and pool
+
+module _ (string bytes : List ℕ) (es : List Entry) (counts : Counts) (fit : Bool) (fit-as : fit ≡ fitPool bytes (numbersOf es) counts) where
+  all-fine : (u : Utf8Check) → fineBy u fit ≡ true → (u ≡ utf8.Fine) × (fit ≡ true)
+  all-fine utf8.Fine e = (refl, e)
+  all-fine (utf8.BadAt i) e = absurd (let z : _≡_ {A = ℕ} 0 1 = cc in omega arith)
+  all-fine (utf8.CutAt i) e = absurd (let z : _≡_ {A = ℕ} 0 1 = cc in omega arith)
+
+  pub fine-fit : fineAt string fit ≡ true → fitPool bytes (numbersOf es) counts ≡ true
+  fine-fit e = sym fit-as ∙ all-fine (checkFrom 0 string) e .1
+
+  pub settled-fine : fineAt string fit ≡ true → {newBytes newEntries : List ℕ} {r : Added}
+      → AddsToFit string counts bytes (numbersOf es) newBytes newEntries r → AddsString string counts bytes (numbersOf es) newBytes newEntries r
+  settled-fine e a = adds-fine _ _ _ _ (all-fine (checkFrom 0 string) e .0) (fine-fit e) a
+
+  -- a refusal is the answer, and hands out no index
+  refuses : (u : Utf8Check) → fineBy u fit ≡ false
+      → (onUtf8 u BadState ≡ onUtf8 u (pick (fitPool bytes (numbersOf es) counts) (addedToFit string bytes (numbersOf es) counts) BadState))
+      × (isNew counts (onUtf8 u BadState) ≡ false)
+  refuses utf8.Fine e = (rw (sym fit-as ∙ e), refl)
+  refuses (utf8.BadAt i) e = (refl, refl)
+  refuses (utf8.CutAt i) e = (refl, refl)
+
+  pub settled-refused : fineAt string fit ≡ false → (r : Added) → r ≡ refusalAt string
+      → AddsString string counts bytes (numbersOf es) bytes (numbersOf es) r
+  unfolding added
+  settled-refused e r q =
+      let p = refuses (checkFrom 0 string) e in
+      let old = ap (isNew counts) q ∙ p .1 in
+      settled _ _ _ _ (q ∙ p .0) (sym (old-bytes string counts r old bytes)) (sym (old-entries string counts r old (numbersOf es)))

@@ -2,7 +2,6 @@
 --     least-within, least-is    the smaller of two numbers
 --     clipped                   the part of a row that `is_string` lends is what the row has of the entry's string
 --     new-room                  where a new index is handed out, there is room
---     answer-fit                the answer for a well-formed string in a fit pool
 -- Assumes nothing.
 use Prim.Native.Nat.{ℕ, _+_, _-_, _<_, _≤_}
 use native.Mathlib.Omega.{arith}
@@ -13,13 +12,11 @@ use lib.ListN.{length, take, drop, length-drop}
 use lib.Seq.{take-all, take-nil}
 use borrow.Author.Tests.{eqb-true, lt-ltb, le-ltb}
 use Rattle.base.specs.PickLaws.{by-lt, split-lt}
-use Rattle.utf8.specs.Chars.{checkFrom}
-use Rattle.utf8.specs.declared.Utf8Check.the-variants as utf8
 use Rattle.pool_rows.specs.Rows.{roomOf, byteRoom}
 use Rattle.pool.specs.Pool.{placed, isNew}
 use Rattle.pool_rows.specs.declared.Counts.{Counts}
 use Rattle.pool.specs.declared.Added.{Added}
-use Rattle.pool_lent.specs.Decided.{least, answerAt}
+use Rattle.pool_lent.specs.Decided.{least}
 
 pub least-within : (a b : ℕ) → (least a b ≤ a) × (least a b ≤ b)
 least-within a b = by-lt (λ (r : ℕ). (r ≤ a) × (r ≤ b)) b a (λ h. (omega arith, omega arith)) (λ h. (omega arith, omega arith))
@@ -72,9 +69,3 @@ module _ (long found : ℕ) (counts : Counts) (forEntries forBytes : ℕ) where
       (λ l. by-lt Claim forBytes (counts .bytes + long)
       (λ m e. let z : _≡_ {A = ℕ} 0 1 = cc in absurd (omega arith))
       (λ m e. (omega arith, omega arith))))
-
-pub answer-fit : (string bytes : List ℕ) (entries : ℕ) (counts : Counts) (fit : Bool) (found : ℕ) → checkFrom 0 string ≡ utf8.Fine
-    → fit ≡ true
-    → answerAt string bytes entries counts fit found ≡ placed (length string) found counts (roomOf entries) (byteRoom bytes)
-unfolding answerAt
-answer-fit string bytes entries counts fit found e f = rw (e, f)

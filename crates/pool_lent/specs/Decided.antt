@@ -5,11 +5,12 @@ use mathlib.Core.Path.{_≡_}
 use mathlib.Core.List.{List}
 use mathlib.Core.Bool.{Bool, false}
 use lib.Dec.{eqb, ltb}
-use lib.ListN.{length}
 use Rattle.base.specs.Pick.{pick}
 use Rattle.utf8.specs.Chars.{checkFrom}
-use Rattle.pool_rows.specs.Rows.{roomMost, roomOf, byteRoom, runsTo}
-use Rattle.pool.specs.Pool.{onUtf8, placed}
+use Rattle.utf8.specs.declared.Utf8Check.{Utf8Check}
+use Rattle.utf8.specs.declared.Utf8Check.the-variants as utf8
+use Rattle.pool_rows.specs.Rows.{roomMost, roomOf, runsTo}
+use Rattle.pool.specs.Pool.{onUtf8}
 use Rattle.pool_rows.specs.declared.Counts.{Counts}
 use Rattle.pool.specs.declared.Added.{Added}
 use Rattle.pool.specs.declared.Added.the-variants.{BadState}
@@ -39,7 +40,15 @@ fitAt bytes entries counts end =
     (pick (ltb (roomOf bytes) (counts .bytes)) false
     (eqb end (counts .bytes)))
 
--- `added` for a row of so many entries, where the pool is fit or not and the search found the string at an index
-unfoldable pub answerAt : List ℕ → List ℕ → ℕ → Counts → Bool → ℕ → Added
-answerAt string bytes entries counts fit found =
-    onUtf8 (checkFrom 0 string) (pick fit (placed (length string) found counts (roomOf entries) (byteRoom bytes)) BadState)
+-- nothing is refused before an addition, by what is said of the string's bytes and of the pool
+abbrev pub fineBy : Utf8Check → Bool → Bool
+fineBy utf8.Fine fit = fit
+fineBy (utf8.BadAt i) fit = false
+fineBy (utf8.CutAt i) fit = false
+
+abbrev pub fineAt : List ℕ → Bool → Bool
+fineAt string fit = fineBy (checkFrom 0 string) fit
+
+-- what is refused, where something is
+abbrev pub refusalAt : List ℕ → Added
+refusalAt string = onUtf8 (checkFrom 0 string) BadState

@@ -8,7 +8,7 @@ ghost use lib.ListN.{length, set, take, drop};
 ghost use Rattle.pool_rows.specs.Rows.{same, indexOf, stringsOf, roomOf, byteRoom, fitPool};
 ghost use Rattle.pool.specs.Pool.{placed, bytesAfter, countsAfter, AddsToFit, AddsString};
 ghost use Rattle.pool_lent.specs.Entries.{numbersOf, entryOf, AddsEntry};
-ghost use Rattle.pool_lent.specs.Decided.{least, endOf, EndsAt, fitAt, answerAt};
+ghost use Rattle.pool_lent.specs.Decided.{least, endOf, EndsAt, fitAt, fineAt, refusalAt};
 use pool::Added;
 use pool_rows::Counts;
 
@@ -89,28 +89,25 @@ fn add_to_fit(
     answer
 }
 
-// The answer for any string, in a pool that is fit or not: refusals 3 or 15, 8, 13 in this order.
-fn add_bytes(
-    string: &[u8],
-    bytes: &mut [u8],
-    entries: usize,
-    counts: Counts,
-    fit: bool,
-    found: usize,
-) -> Added
-    requires { ⌜ (fit ≡ true → counts .bytes ≤ byteRoom (now bytes)) ⌝ }
-    ensures { λ r. ⌜ (r ≡ answerAt (now (string .entry)) (now (bytes .entry)) entries counts fit found)
-        × (now (bytes .exit) ≡ bytesAfter (now (string .entry)) counts r (now (bytes .entry))) ⌝ }
+// Whether nothing is refused before an addition, for a pool that is fit or not.
+fn is_fine(string: &[u8], fit: bool) -> bool
+    ensures { λ r. ⌜ r ≡ fineAt (now (string .entry)) fit ⌝ }
+{
+    match utf8::check_utf8(string) {
+        utf8::Utf8Check::BadAt(_) => false,
+        utf8::Utf8Check::CutAt(_) => false,
+        utf8::Utf8Check::Fine => fit,
+    }
+}
+
+// What is refused before an addition, where something is: the string's bytes with 3 or 15, or else the pool with 8.
+fn refusal_of(string: &[u8]) -> Added
+    ensures { λ r. ⌜ r ≡ refusalAt (now (string .entry)) ⌝ }
 {
     match utf8::check_utf8(string) {
         utf8::Utf8Check::BadAt(i) => Added::BadUtf8(i),
         utf8::Utf8Check::CutAt(i) => Added::CutUtf8(i),
-        utf8::Utf8Check::Fine => {
-            if !fit {
-                return Added::BadState;
-            }
-            add_to_fit(string, bytes, entries, counts, found)
-        }
+        utf8::Utf8Check::Fine => Added::BadState,
     }
 }
 
@@ -209,13 +206,10 @@ pub fn add_row(string: &[u8], bytes: &mut [u8], entries: &mut [Entry], counts: C
         (now (bytes .exit)) (numbersOf (now (entries .exit))) r ⌝ }
 {
     let fit = is_pool_fit(bytes, entries, counts);
-    let n = least(counts.entries as usize, entries.len());
-    let found = find_string(string, bytes, entries, n);
-    let answer = add_bytes(string, bytes, entries.len(), counts, fit, found);
-    if pool::is_new(counts, answer) {
-        put_entry(entries, n, counts.bytes, string.len() as u32);
+    if is_fine(string, fit) {
+        return add_to_fit_row(string, bytes, entries, counts);
     }
-    answer
+    refusal_of(string)
 }
 
 // Adds a string to a pool whose counts are lent: they are those after the addition.

@@ -1,7 +1,7 @@
--- `pool_lent::add_row` meets its contract: a walk of its MIR, by hand, with six calls and a branch. Both slices are lent as `&` to
--- `is_pool_fit` and `find_string`, for lifetimes that are made for them, and come back (`Shared.antt`); the bytes are given to
--- `add_bytes`, and where the string is new the entries to `put_entry`.
--- All that the proof knows of the six is that they meet their contracts; `Adds.antt` has what that comes to. Assumes nothing.
+-- `pool_lent::add_row` meets its contract: a walk of its MIR, by hand, with four calls and a branch. Both slices are lent as `&` to
+-- `is_pool_fit`, for lifetimes that are made for it, and come back (`Shared.antt`); where nothing is refused they are given to
+-- `add_to_fit_row` for good.
+-- All that the proof knows of the four is that they meet their contracts; `Adds.antt` has what that comes to. Assumes nothing.
 use Rattle.pool_lent.proofs.Walk.{_≡_, refl, sym, ap, _∙_, ℕ, _<_, _^_, _≤_, List, [], _∷_, arith, length, set, URA, fullShare}
 use Rattle.pool_lent.proofs.Walk.{named, w32, w64, tyInt, tyBool, Val, vint, vbool, SProp, ent, emp, via, fst∗, snd∗, exE, id⊢}
 use Rattle.pool_lent.proofs.Walk.{sep, Lft, GName, Share, ftrue, fat, flft, Fml, Memory, Routine, Heap, Calls, Loops, WpFn, Tables}
@@ -9,7 +9,7 @@ use Rattle.pool_lent.proofs.Walk.{Atoms, sem, Fun, fact, givenOf, table
 use Rattle.pool_lent.proofs.Walk.{keep, split, join, rewrite, fsplit, fjoin, suffices, frame, done, drop, use1, raw, some, later}
 use Rattle.pool_lent.proofs.Walk.{use0, pick, await, use2, Item, atRet, mean, cut, feqL, whole, sub, look-in, agg, look, init}
 use Rattle.pool_lent.proofs.Walk.{forget, stop, hop, fld, from, load, of-opd, assigns, returns, enter, alloc1, alloc0, params1}
-use Rattle.pool_lent.proofs.Walk.{pass1, pass0, free1, free0, store, and-then, no-more, land, addr, first, skips, branches, exec}
+use Rattle.pool_lent.proofs.Walk.{pass1, pass0, free1, free0, store, and-then, no-more, land, addr, first, skips, branches, exec, returns-within}
 use Rattle.pool_lent.proofs.Walk.{un, land-last, WpFn-mono, FmC, fmOf, owns, Is, shows, uint-makes, nothing-lawful, bool-lawful}
 use Rattle.pool_lent.proofs.Walk.{bool-makes, uint-lawful, u32, usize, unit, u8, bool, RefT, sliceVal, ShrSlice, Room, slice-vals}
 use Rattle.pool_lent.proofs.Walk.{shr-slice-tells, MutSlice, mut-slice-tells, shr-slice-copy, finally, plain, nothing, owned}
@@ -20,46 +20,37 @@ use Rattle.pool_lent.proofs.Walk.{lft-end, Bool, true}
 use Rattle.pool_lent.proofs.Places.{local, member, sets}
 use denote.Struct.Laws as LL
 use denote.Enum.Laws as EL
-use Rattle.pool_rows.specs.Rows.{indexOf, stringsOf, byteRoom, fitPool}
-use Rattle.pool.specs.Pool.{isNew, bytesAfter, AddsString}
+use Rattle.pool_rows.specs.Rows.{fitPool}
+use Rattle.pool.specs.Pool.{AddsToFit, AddsString}
 use Rattle.pool_rows.specs.declared.Counts.{Counts}
 use Rattle.pool.specs.declared.Added.{Added}
 use Rattle.pool_rows.proofs.Counts as C
 use Rattle.pool_rows.proofs.Counts.Laws as C′
 use Rattle.pool.proofs.Added as Ad
 use Rattle.pool.proofs.Added.Laws as Ad′
-use Rattle.pool_lent.specs.Entries.{numbersOf, entryOf}
-use Rattle.pool_lent.specs.Decided.{least as smaller, answerAt}
+use Rattle.pool_lent.specs.Entries.{numbersOf}
+use Rattle.pool_lent.specs.Decided.{fineAt, refusalAt}
 use Rattle.pool_lent.specs.declared.Entry.{Entry}
-use Rattle.pool_lent.proofs.Numbers.{least-within}
-use Rattle.pool_lent.proofs.Adds.{bytes-fit, free, settled-old, settled-new}
-use Rattle.pool_lent.proofs.Turns.{is-true, is-false, wide}
+use Rattle.pool_lent.proofs.Adds.{fine-fit, settled-fine, settled-refused}
+use Rattle.pool_lent.proofs.Turns.{is-true, is-false}
 use Rattle.pool_lent.proofs.Shared.{LentShared, lends-shared, shared-back, at-end}
-use Rattle.pool_lent.proofs.LeastCall.{Least, to-least, asked-least, least-ensured, said-least}
 use Rattle.pool_lent.proofs.Entry as T
 use Rattle.pool_lent.proofs.is_pool_fit as is-pool-fit
 use Rattle.pool_lent.proofs.is_pool_fit.Symbol as is-pool-fit-def
 use Rattle.pool_lent.proofs.is_pool_fit.Symbol.{name as #is-pool-fit}
 use Rattle.pool_lent.proofs.is_pool_fit.Met as is-pool-fit-thm
-use Rattle.pool_lent.proofs.least.Symbol as least-def
-use Rattle.pool_lent.proofs.least.Symbol.{name as #least}
-use Rattle.pool_lent.proofs.least.Met as least-thm
-use Rattle.pool_lent.proofs.find_string as find-string
-use Rattle.pool_lent.proofs.find_string.Symbol as find-string-def
-use Rattle.pool_lent.proofs.find_string.Symbol.{name as #find-string}
-use Rattle.pool_lent.proofs.find_string.Met as find-string-thm
-use Rattle.pool_lent.proofs.add_bytes as add-bytes
-use Rattle.pool_lent.proofs.add_bytes.Symbol as add-bytes-def
-use Rattle.pool_lent.proofs.add_bytes.Symbol.{name as #add-bytes}
-use Rattle.pool_lent.proofs.add_bytes.Met as add-bytes-thm
-use Rattle.pool.proofs.is_new as is-new
-use Rattle.pool.proofs.is_new.Symbol as is-new-def
-use Rattle.pool.proofs.is_new.Symbol.{name as #is-new}
-use Rattle.pool.proofs.is_new.Met as is-new-thm
-use Rattle.pool_lent.proofs.put_entry as put-entry
-use Rattle.pool_lent.proofs.put_entry.Symbol as put-entry-def
-use Rattle.pool_lent.proofs.put_entry.Symbol.{name as #put-entry}
-use Rattle.pool_lent.proofs.put_entry.Met as put-entry-thm
+use Rattle.pool_lent.proofs.is_fine as is-fine
+use Rattle.pool_lent.proofs.is_fine.Symbol as is-fine-def
+use Rattle.pool_lent.proofs.is_fine.Symbol.{name as #is-fine}
+use Rattle.pool_lent.proofs.is_fine.Met as is-fine-thm
+use Rattle.pool_lent.proofs.add_to_fit_row as add-to-fit-row
+use Rattle.pool_lent.proofs.add_to_fit_row.Symbol as add-to-fit-row-def
+use Rattle.pool_lent.proofs.add_to_fit_row.Symbol.{name as #add-to-fit-row}
+use Rattle.pool_lent.proofs.add_to_fit_row.Met as add-to-fit-row-thm
+use Rattle.pool_lent.proofs.refusal_of as refusal-of
+use Rattle.pool_lent.proofs.refusal_of.Symbol as refusal-of-def
+use Rattle.pool_lent.proofs.refusal_of.Symbol.{name as #refusal-of}
+use Rattle.pool_lent.proofs.refusal_of.Met as refusal-of-thm
 use Rattle.pool_lent.proofs.add_row.Key.{name as #add-row}
 use Rattle.pool_lent.proofs.add_row as add-row
 use Rattle.pool_lent.proofs.add_row.Statement as stated
@@ -78,17 +69,14 @@ module _ {M : Type 1} (𝓤 : URA M) (H : Heap 𝓤) (A : Atoms 𝓤) (mem : Mem
   abbrev IsPoolFit : Contract 𝓤
   IsPoolFit = tripleOf 𝓤 H A is-pool-fit.signature (is-pool-fit.spec 𝓤 H A mem run)
 
-  abbrev FindString : Contract 𝓤
-  FindString = tripleOf 𝓤 H A find-string.signature (find-string.spec 𝓤 H A mem run)
+  abbrev IsFine : Contract 𝓤
+  IsFine = tripleOf 𝓤 H A is-fine.signature (is-fine.spec 𝓤 H A mem run)
 
-  abbrev AddBytes : Contract 𝓤
-  AddBytes = tripleOf 𝓤 H A add-bytes.signature (add-bytes.spec 𝓤 H A mem run)
+  abbrev AddToFit : Contract 𝓤
+  AddToFit = tripleOf 𝓤 H A add-to-fit-row.signature (add-to-fit-row.spec 𝓤 H A mem run)
 
-  abbrev IsNew : Contract 𝓤
-  IsNew = tripleOf 𝓤 H A is-new.signature (is-new.spec 𝓤 H A mem run)
-
-  abbrev PutEntry : Contract 𝓤
-  PutEntry = tripleOf 𝓤 H A put-entry.signature (put-entry.spec 𝓤 H A mem run)
+  abbrev RefusalOf : Contract 𝓤
+  RefusalOf = tripleOf 𝓤 H A refusal-of.signature (refusal-of.spec 𝓤 H A mem run)
 
 module _ {M : Type 1} (𝓤 : URA M) (H : Heap 𝓤) (A : Atoms 𝓤) (W : Given 𝓤 H A) (mem : Memory → SProp 𝓤) (run : Routine → Fun 𝓤)
     (κ₀ κ₁ κ₂ : Lft) (q₀ q₁ q₂ : Share) (x₀ x₁ : RefT (List ℕ)) (x₂ : RefT (List Entry)) (c : Counts)
@@ -103,28 +91,9 @@ module _ {M : Type 1} (𝓤 : URA M) (H : Heap 𝓤) (A : Atoms 𝓤) (W : Given
   abbrev es : List Entry
   es = x₂ .now
 
-  -- what the calls answer
+  -- what `is_pool_fit` answers
   abbrev Fit : Bool
   Fit = fitPool bs (numbersOf es) c
-
-  abbrev most : ℕ
-  most = smaller (c .entries) (length es)
-
-  abbrev found : ℕ → ℕ
-  found n = indexOf ws (stringsOf bs (numbersOf es) n)
-
-  abbrev put : ℕ → List Entry
-  put n = set es n (entryOf (c .bytes) (length ws))
-
-  abbrev Put-in : Bool → ℕ → Added → List ℕ → Type 0
-  Put-in fit f r zs = (r ≡ answerAt ws bs (length es) c fit f) × (zs ≡ bytesAfter ws c r bs)
-
-  -- what whoever holds the counts knows of them
-  ce : c .entries < 2 ^ 32
-  ce = LL.owed C.the-type C′.the-laws c _ gc .0 .1
-
-  cb : c .bytes < 2 ^ 32
-  cb = LL.owed C.the-type C′.the-laws c _ gc .1 .0 .1
 
   abbrev v₀ : Val
   v₀ = sliceVal (x₀ .ptr) (length ws)
@@ -159,11 +128,13 @@ module _ {M : Type 1} (𝓤 : URA M) (H : Heap 𝓤) (A : Atoms 𝓤) (W : Given
   abbrev OwnC : Fml
   OwnC = C.the-row .own c (C′.lowered c ∷ [])
 
+  -- the tokens
+  abbrev Toks : Item 𝓤
+  Toks = ‵ (flft κ₀ q₀) ⊛ ‵ (flft κ₁ q₁) ⊛ ‵ (flft κ₂ q₂) ⊛ ‵ ftrue
+
   -- what is had at exit
   abbrev Left : List ℕ → List Entry → List (Item 𝓤)
-  Left zs ds =
-      (‵ (flft κ₀ q₀) ⊛ ‵ (flft κ₁ q₁) ⊛ ‵ ftrue) ∷ ‵ (flft κ₂ q₂) ∷ ‵ (finally u8 (x₁ .name) zs) ∷ ‵ (finally T.the-row (x₂ .name) ds)
-      ∷ ‵ Own₀ ∷ ‵ OwnC ∷ []
+  Left zs ds = Toks ∷ ‵ (finally u8 (x₁ .name) zs) ∷ ‵ (finally T.the-row (x₂ .name) ds) ∷ ‵ Own₀ ∷ ‵ OwnC ∷ []
 
   exits : (r : Added) (u : Val) (zs : List ℕ) (ds : List Entry) → length zs ≡ length bs → length ds ≡ length es → Is Ad.the-row r (u ∷ [])
       → AddsString ws c bs (numbersOf es) zs (numbersOf ds) r → ent 𝓤 (⋆ 𝓤 H A (Left zs ds)) (Post u)
@@ -171,8 +142,7 @@ module _ {M : Type 1} (𝓤 : URA M) (H : Heap 𝓤) (A : Atoms 𝓤) (W : Given
       qed W (Left zs ds) ∵
       suffices ! _ (ends-at 𝓤 H A add-row.ended stayed (add-row.clauses 𝓤 H A mem run) W
       (((κ₀, (κ₁, (κ₂, tt))), (q₀, (q₁, (q₂, tt))), tt, x, at), tt) u r (tt, (zs, (ds, (tt, tt)))) (tt, (k₁, (k₂, (tt, tt))))) $
-      says ! e $ split ! $ move ! (1 ∷ []) $ split ! $ move ! (3 ∷ 1 ∷ []) $ join ! $ move ! (1 ∷ 0 ∷ []) $ join ! $
-      move ! (1 ∷ 0 ∷ []) $ join ! $ frame ! $ nothing ! $ move ! (4 ∷ 0 ∷ []) $ fjoin ! $ move ! (2 ∷ 0 ∷ []) $ fjoin ! $
+      says ! e $ frame ! $ nothing ! $ move ! (4 ∷ 0 ∷ []) $ fjoin ! $ move ! (2 ∷ 0 ∷ []) $ fjoin ! $
       move ! (1 ∷ 0 ∷ []) $ fjoin ! $ move ! (1 ∷ 0 ∷ []) $ fjoin ! $ frame ! $
       owned ! Ad.the-row (Is Ad.the-row) ((EL.makes Ad.the-type Ad′.the-plain) 𝓤 H A) r _ is $ done !
 
@@ -207,145 +177,74 @@ module _ {M : Type 1} (𝓤 : URA M) (H : Heap 𝓤) (A : Atoms 𝓤) (W : Given
     abbrev to-fit : IsPoolFit 𝓤 H A mem run .Ghost
     to-fit = (((ν ∷ [], (ν′ ∷ [], tt)), (fullShare, (fullShare, tt)), tt, fit-args, (v₁ ∷ [], (v₂ ∷ [], (C′.lowered c ∷ [], tt)))), tt)
 
-    -- both slices can be had twice
-    asked-fit : ent 𝓤 (⋆ 𝓤 H A (Lends ν ν′ δ δ′))
-        (⋆ 𝓤 H A (raw (IsPoolFit 𝓤 H A mem run .pre to-fit) ∷ ‵ (SharedB ν δ) ∷ ‵ (SharedE ν′ δ′) ∷ []))
+    asked-fit : ent 𝓤 (⋆ 𝓤 H A (Lends ν ν′ δ δ′)) (⋆ 𝓤 H A (raw (IsPoolFit 𝓤 H A mem run .pre to-fit) ∷ []))
     asked-fit =
-        qed W (Lends ν ν′ δ δ′) ∵ move ! (2 ∷ []) $
-        use1 W (‵ (SharedB ν δ) ⊛ ‵ (SharedB ν δ)) (shr-slice-copy 𝓤 H A W (named 0) (ν ∷ []) u8 .twice (bs′ δ) (v₁ ∷ [])) $ split ! $
-        move ! (4 ∷ []) $
-        use1 W (‵ (SharedE ν′ δ′) ⊛ ‵ (SharedE ν′ δ′))
-        (shr-slice-copy 𝓤 H A W (named 0) (ν′ ∷ []) T.the-row .twice (es′ δ′) (v₂ ∷ [])) $ split ! $
-        -- [the entries', twice; the bytes', twice; the tokens]
-        nothing ! $ owned ! C.the-row (Is C.the-row) ((LL.makes C.the-type C′.the-plain) 𝓤 H A) c _ gc $ fjoin ! $ move ! (1 ∷ 0 ∷ []) $
-        fjoin ! $ move ! (2 ∷ 0 ∷ []) $ fjoin ! $ nothing ! $ move ! (5 ∷ 0 ∷ []) $ join ! $ move ! (4 ∷ 0 ∷ []) $ join ! $ join ! $
-        nothing ! $ move ! (1 ∷ 0 ∷ []) $ join ! $ frame ! $ move ! (1 ∷ 0 ∷ []) $ frame ! $ done !
+        qed W (Lends ν ν′ δ δ′) ∵ nothing ! $ owned ! C.the-row (Is C.the-row) ((LL.makes C.the-type C′.the-plain) 𝓤 H A) c _ gc $
+        fjoin ! $ move ! (4 ∷ 0 ∷ []) $ fjoin ! $ move ! (3 ∷ 0 ∷ []) $ fjoin ! $ nothing ! $ move ! (3 ∷ 0 ∷ []) $ join ! $
+        move ! (2 ∷ 0 ∷ []) $ join ! $ join ! $ nothing ! $ move ! (1 ∷ 0 ∷ []) $ join ! $ done !
 
     said-fit : (fit : Bool) → ent 𝓤 (ensured 𝓤 H A is-pool-fit.ended (is-pool-fit.clauses 𝓤 H A mem run) (ν ∷ [], (ν′ ∷ [], tt))
         fit-args tt fit)
         (fact 𝓤 (fit ≡ Fit))
     said-fit fit = exE 𝓤 _ (λ l. snd∗ 𝓤 (sem 𝓤 H A (lasts is-pool-fit.ended (ν ∷ [], (ν′ ∷ [], tt)) fit-args l)) (fact 𝓤 (fit ≡ Fit)))
 
-    abbrev find-args : ℕ → RefT (List ℕ) × (RefT (List ℕ) × (RefT (List Entry) × (ℕ × Unit {0})))
-    find-args n = (x₀, (bs′ δ, (es′ δ′, (n, tt))))
+  module _ (fit : Bool) where
+    abbrev fine-args : RefT (List ℕ) × (Bool × Unit {0})
+    fine-args = (x₀, (fit, tt))
 
-    abbrev find-at : ℕ → List Val × (List Val × (List Val × (List Val × Unit {0})))
-    find-at n = (v₀ ∷ [], (v₁ ∷ [], (v₂ ∷ [], (vint w64 n ∷ [], tt))))
+    abbrev to-fine : IsFine 𝓤 H A mem run .Ghost
+    to-fine = (((κ₀, tt), (q₀, tt), tt, fine-args, (v₀ ∷ [], (vbool fit ∷ [], tt))), tt)
 
-    abbrev to-find : ℕ → FindString 𝓤 H A mem run .Ghost
-    to-find n = (((κ₀, (ν ∷ [], (ν′ ∷ [], tt))), (q₀, (fullShare, (fullShare, tt))), tt, find-args n, find-at n), tt)
+    asked-fine : ent 𝓤 (⋆ 𝓤 H A (‵ (flft κ₀ q₀) ∷ ‵ Own₀ ∷ [])) (⋆ 𝓤 H A (raw (IsFine 𝓤 H A mem run .pre to-fine) ∷ ‵ Own₀ ∷ []))
+    asked-fine =
+        qed W (‵ (flft κ₀ q₀) ∷ ‵ Own₀ ∷ []) ∵ move ! (1 ∷ []) $
+        use1 W (‵ Own₀ ⊛ ‵ Own₀) (shr-slice-copy 𝓤 H A W (named 0) κ₀ u8 .twice x₀ (v₀ ∷ [])) $ split ! $ nothing ! $
+        owned ! bool (Is bool) (bool-makes 𝓤 H A W) fit _ refl $ fjoin ! $ move ! (1 ∷ 0 ∷ []) $ fjoin ! $ nothing ! $
+        move ! (3 ∷ 0 ∷ []) $ join ! $ join ! $ nothing ! $ move ! (1 ∷ 0 ∷ []) $ join ! $ frame ! $ done !
 
-    abbrev find-toks : Item 𝓤
-    find-toks = ‵ (flft κ₀ q₀) ⊛ ‵ (flft (ν ∷ []) fullShare) ⊛ ‵ (flft (ν′ ∷ []) fullShare) ⊛ ‵ ftrue
+    said-fine : (t : Bool) → ent 𝓤 (ensured 𝓤 H A is-fine.ended (is-fine.clauses 𝓤 H A mem run) (κ₀, tt) fine-args tt t)
+        (fact 𝓤 (t ≡ fineAt ws fit))
+    said-fine t = exE 𝓤 _ (λ l. snd∗ 𝓤 (sem 𝓤 H A (lasts is-fine.ended (κ₀, tt) fine-args l)) (fact 𝓤 (t ≡ fineAt ws fit)))
 
-    abbrev find-owns : ℕ → Fml
-    find-owns n =
-        owns (ShrSlice (named 0) κ₀ u8 ∷ ShrSlice (named 1) (ν ∷ []) u8 ∷ ShrSlice (named 2) (ν′ ∷ []) T.the-row ∷ usize ∷ [])
-        (find-args n) (find-at n)
+  abbrev to-add : AddToFit 𝓤 H A mem run .Ghost
+  to-add = (((κ₀, (κ₁, (κ₂, tt))), (q₀, (q₁, (q₂, tt))), tt, x, at), tt)
 
-    asked-find : (n : ℕ) → n < 2 ^ 64 → n ≡ most → ent 𝓤 (⋆ 𝓤 H A (‵ (flft κ₀ q₀) ∷ ‵ Own₀ ∷ Lends ν ν′ δ δ′))
-        (⋆ 𝓤 H A (raw (FindString 𝓤 H A mem run .pre (to-find n)) ∷ ‵ Own₀ ∷ []))
-    asked-find n gn e =
-        qed W (‵ (flft κ₀ q₀) ∷ ‵ Own₀ ∷ Lends ν ν′ δ δ′) ∵ move ! (1 ∷ []) $
-        use1 W (‵ Own₀ ⊛ ‵ Own₀) (shr-slice-copy 𝓤 H A W (named 0) κ₀ u8 .twice x₀ (v₀ ∷ [])) $ split ! $
-        -- [the string's, twice; the three tokens; the bytes'; the entries']
-        nothing ! $ owned ! usize (Is usize) (uint-makes 𝓤 H A W w64) n _ (refl, gn) $ fjoin ! $ move ! (7 ∷ 0 ∷ []) $ fjoin ! $
-        move ! (6 ∷ 0 ∷ []) $ fjoin ! $ move ! (1 ∷ 0 ∷ []) $ fjoin ! $ nothing ! $ move ! (5 ∷ 0 ∷ []) $ join ! $ move ! (4 ∷ 0 ∷ []) $
-        join ! $ move ! (3 ∷ 0 ∷ []) $ join ! $ use2 W (raw (FindString 𝓤 H A mem run .pre (to-find n))) asks $ frame ! $ done !
-      where
-        asks : ent 𝓤 (sep 𝓤 (mean 𝓤 H A find-toks) (sem 𝓤 H A (find-owns n))) (FindString 𝓤 H A mem run .pre (to-find n))
-        asks = qed W (find-toks ∷ ‵ (find-owns n) ∷ []) ∵ says ! (omega (arith, e, least-within (c .entries) (length es) .1)) $
-            frame ! $ done !
+  abbrev Adds-from : List (Item 𝓤)
+  Adds-from = ‵ (flft κ₀ q₀) ∷ ‵ (flft κ₁ q₁) ∷ ‵ (flft κ₂ q₂) ∷ ‵ Own₀ ∷ ‵ OwnB ∷ ‵ OwnE ∷ []
 
-    said-find : (n f : ℕ) → ent 𝓤 (ensured 𝓤 H A find-string.ended (find-string.clauses 𝓤 H A mem run) (κ₀, (ν ∷ [], (ν′ ∷ [], tt)))
-        (find-args n) tt f)
-        (fact 𝓤 (f ≡ found n))
-    said-find n f =
-        exE 𝓤 _ (λ l. snd∗ 𝓤 (sem 𝓤 H A (lasts find-string.ended (κ₀, (ν ∷ [], (ν′ ∷ [], tt))) (find-args n) l)) (fact 𝓤 (f ≡ found n)))
+  abbrev add-owns : Fml
+  add-owns = owns (ShrSlice (named 0) κ₀ u8 ∷ MutSlice (named 1) κ₁ u8 ∷ MutSlice (named 2) κ₂ T.the-row ∷ C.the-row ∷ []) x at
 
-  abbrev to : Least 𝓤 H A mem run .Ghost
-  to = to-least 𝓤 H A mem run (c .entries) (length es)
+  asked-add : Fit ≡ true → ent 𝓤 (⋆ 𝓤 H A Adds-from) (⋆ 𝓤 H A (raw (AddToFit 𝓤 H A mem run .pre to-add) ∷ ‵ Own₀ ∷ []))
+  asked-add fits =
+      qed W Adds-from ∵ move ! (3 ∷ []) $
+      use1 W (‵ Own₀ ⊛ ‵ Own₀) (shr-slice-copy 𝓤 H A W (named 0) κ₀ u8 .twice x₀ (v₀ ∷ [])) $ split ! $ nothing ! $
+      owned ! C.the-row (Is C.the-row) ((LL.makes C.the-type C′.the-plain) 𝓤 H A) c _ gc $ fjoin ! $ move ! (7 ∷ 0 ∷ []) $ fjoin ! $
+      move ! (6 ∷ 0 ∷ []) $ fjoin ! $ move ! (1 ∷ 0 ∷ []) $ fjoin ! $ nothing ! $ move ! (5 ∷ 0 ∷ []) $ join ! $ move ! (4 ∷ 0 ∷ []) $
+      join ! $ move ! (3 ∷ 0 ∷ []) $ join ! $ use2 W (raw (AddToFit 𝓤 H A mem run .pre to-add)) asks $ frame ! $ done !
+    where
+      asks : ent 𝓤 (sep 𝓤 (mean 𝓤 H A Toks) (sem 𝓤 H A add-owns)) (AddToFit 𝓤 H A mem run .pre to-add)
+      asks = qed W (Toks ∷ ‵ add-owns ∷ []) ∵ says ! fits $ frame ! $ done !
 
-  module _ (fit : Bool) (f : ℕ) where
-    abbrev add-args : RefT (List ℕ) × (RefT (List ℕ) × (ℕ × (Counts × (Bool × (ℕ × Unit {0})))))
-    add-args = (x₀, (x₁, (length es, (c, (fit, (f, tt))))))
+  abbrev to-refuse : RefusalOf 𝓤 H A mem run .Ghost
+  to-refuse = (((κ₀, tt), (q₀, tt), tt, (x₀, tt), (v₀ ∷ [], tt)), tt)
 
-    abbrev add-at : List Val × (List Val × (List Val × (List Val × (List Val × (List Val × Unit {0})))))
-    add-at = (v₀ ∷ [], (v₁ ∷ [], (vint w64 (length es) ∷ [], (C′.lowered c ∷ [], (vbool fit ∷ [], (vint w64 f ∷ [], tt))))))
+  asked-refuse : ent 𝓤 (⋆ 𝓤 H A (‵ (flft κ₀ q₀) ∷ ‵ Own₀ ∷ [])) (⋆ 𝓤 H A (raw (RefusalOf 𝓤 H A mem run .pre to-refuse) ∷ ‵ Own₀ ∷ []))
+  asked-refuse =
+      qed W (‵ (flft κ₀ q₀) ∷ ‵ Own₀ ∷ []) ∵ move ! (1 ∷ []) $
+      use1 W (‵ Own₀ ⊛ ‵ Own₀) (shr-slice-copy 𝓤 H A W (named 0) κ₀ u8 .twice x₀ (v₀ ∷ [])) $ split ! $ nothing ! $
+      move ! (1 ∷ 0 ∷ []) $ fjoin ! $ nothing ! $ move ! (3 ∷ 0 ∷ []) $ join ! $ join ! $ nothing ! $ move ! (1 ∷ 0 ∷ []) $
+      join ! $ frame ! $ done !
 
-    abbrev to-add : AddBytes 𝓤 H A mem run .Ghost
-    to-add = (((κ₀, (κ₁, tt)), (q₀, (q₁, tt)), tt, add-args, add-at), tt)
-
-    abbrev add-toks : Item 𝓤
-    add-toks = ‵ (flft κ₀ q₀) ⊛ ‵ (flft κ₁ q₁) ⊛ ‵ ftrue
-
-    abbrev add-owns : Fml
-    add-owns = owns (ShrSlice (named 0) κ₀ u8 ∷ MutSlice (named 1) κ₁ u8 ∷ usize ∷ C.the-row ∷ bool ∷ usize ∷ []) add-args add-at
-
-    asked-add : f < 2 ^ 64 → (fit ≡ true → c .bytes ≤ byteRoom bs) → ent 𝓤
-        (⋆ 𝓤 H A (‵ (flft κ₀ q₀) ∷ ‵ (flft κ₁ q₁) ∷ ‵ Own₀ ∷ ‵ OwnB ∷ []))
-        (⋆ 𝓤 H A (raw (AddBytes 𝓤 H A mem run .pre to-add) ∷ ‵ Own₀ ∷ []))
-    asked-add gf fits =
-        qed W (‵ (flft κ₀ q₀) ∷ ‵ (flft κ₁ q₁) ∷ ‵ Own₀ ∷ ‵ OwnB ∷ []) ∵ move ! (2 ∷ []) $
-        use1 W (‵ Own₀ ⊛ ‵ Own₀) (shr-slice-copy 𝓤 H A W (named 0) κ₀ u8 .twice x₀ (v₀ ∷ [])) $ split ! $
-        -- [the string's, twice; the two tokens; the bytes']
-        nothing ! $ owned ! usize (Is usize) (uint-makes 𝓤 H A W w64) f _ (refl, gf) $ fjoin ! $
-        owned ! bool (Is bool) (bool-makes 𝓤 H A W) fit _ refl $ fjoin ! $
-        owned ! C.the-row (Is C.the-row) ((LL.makes C.the-type C′.the-plain) 𝓤 H A) c _ gc $ fjoin ! $
-        owned ! usize (Is usize) (uint-makes 𝓤 H A W w64) (length es) _ (refl, g₂ .0) $ fjoin ! $ move ! (5 ∷ 0 ∷ []) $ fjoin ! $
-        move ! (1 ∷ 0 ∷ []) $ fjoin ! $ nothing ! $ move ! (4 ∷ 0 ∷ []) $ join ! $ move ! (3 ∷ 0 ∷ []) $ join ! $
-        use2 W (raw (AddBytes 𝓤 H A mem run .pre to-add)) asks $ frame ! $ done !
-      where
-        asks : ent 𝓤 (sep 𝓤 (mean 𝓤 H A add-toks) (sem 𝓤 H A add-owns)) (AddBytes 𝓤 H A mem run .pre to-add)
-        asks = qed W (add-toks ∷ ‵ add-owns ∷ []) ∵ says ! fits $ frame ! $ done !
-
-  -- the last values that `add_bytes` leaves
-  abbrev Lasts : Type 0
-  Lasts = Unit {0} × (List ℕ × (Unit {0} × (Unit {0} × (Unit {0} × (Unit {0} × Unit {0})))))
-
-  abbrev to-new : Added → Val → IsNew 𝓤 H A mem run .Ghost
-  to-new r u = ((tt, tt, tt, (c, (r, tt)), (C′.lowered c ∷ [], (u ∷ [], tt))), tt)
-
-  asked-new : (r : Added) (u : Val) → Is Ad.the-row r (u ∷ []) → ent 𝓤 (emp 𝓤) (IsNew 𝓤 H A mem run .pre (to-new r u))
-  asked-new r u is =
-      qed W [] ∵ nothing ! $ owned ! Ad.the-row (Is Ad.the-row) ((EL.makes Ad.the-type Ad′.the-plain) 𝓤 H A) r _ is $ fjoin ! $
-      owned ! C.the-row (Is C.the-row) ((LL.makes C.the-type C′.the-plain) 𝓤 H A) c _ gc $ fjoin ! $ nothing ! $ join ! $ frame ! $
-      done !
-
-  said-new : (r : Added) (new : Bool) → ent 𝓤 (ensured 𝓤 H A is-new.ended (is-new.clauses 𝓤 H A mem run) tt (c, (r, tt)) tt new)
-      (fact 𝓤 (new ≡ isNew c r))
-  said-new r new = exE 𝓤 _ (λ l. snd∗ 𝓤 (sem 𝓤 H A (lasts is-new.ended tt (c, (r, tt)) l)) (fact 𝓤 (new ≡ isNew c r)))
-
-  abbrev put-args : ℕ → RefT (List Entry) × (ℕ × (ℕ × (ℕ × Unit {0})))
-  put-args n = (x₂, (n, (c .bytes, (length ws, tt))))
-
-  abbrev to-put : ℕ → PutEntry 𝓤 H A mem run .Ghost
-  to-put n = (
-    (
-      (κ₂, tt),
-      (q₂, tt),
-      tt,
-      put-args n,
-      (v₂ ∷ [], (vint w64 n ∷ [], (vint w32 (c .bytes) ∷ [], (vint w32 (length ws) ∷ [], tt)))),
-    ),
-    tt,
-  )
-
-  asked-put : (n : ℕ) → n < 2 ^ 64 → length ws < 2 ^ 32 → n < length es → ent 𝓤 (sep 𝓤 (A .lft κ₂ q₂) (sem 𝓤 H A OwnE))
-      (PutEntry 𝓤 H A mem run .pre (to-put n))
-  asked-put n gn gw l =
-      qed W (‵ (flft κ₂ q₂) ∷ ‵ OwnE ∷ []) ∵ says ! l $ nothing ! $ move ! (1 ∷ 0 ∷ []) $ join ! $ frame ! $ nothing ! $
-      owned ! u32 (Is u32) (uint-makes 𝓤 H A W w32) (length ws) _ (refl, gw) $ fjoin ! $
-      owned ! u32 (Is u32) (uint-makes 𝓤 H A W w32) (c .bytes) _ (refl, cb) $ fjoin ! $
-      owned ! usize (Is usize) (uint-makes 𝓤 H A W w64) n _ (refl, gn) $ fjoin ! $ move ! (1 ∷ 0 ∷ []) $ fjoin ! $ done !
+  said-refuse : (r : Added) → ent 𝓤 (ensured 𝓤 H A refusal-of.ended (refusal-of.clauses 𝓤 H A mem run) (κ₀, tt) (x₀, tt) tt r)
+      (fact 𝓤 (r ≡ refusalAt ws))
+  said-refuse r = exE 𝓤 _ (λ l. snd∗ 𝓤 (sem 𝓤 H A (lasts refusal-of.ended (κ₀, tt) (x₀, tt) l)) (fact 𝓤 (r ≡ refusalAt ws)))
 
   module _ (Cs : Calls 𝓤 H) (Λ : Loops 𝓤 H) (fm : FmC 𝓤 H (W .laws) Cs)
       (known-fit : Triple 𝓤 (Cs #is-pool-fit) (IsPoolFit 𝓤 H A mem run))
-      (known-least : Triple 𝓤 (Cs #least) (Least 𝓤 H A mem run))
-      (known-find : Triple 𝓤 (Cs #find-string) (FindString 𝓤 H A mem run))
-      (known-add : Triple 𝓤 (Cs #add-bytes) (AddBytes 𝓤 H A mem run))
-      (known-new : Triple 𝓤 (Cs #is-new) (IsNew 𝓤 H A mem run))
-      (known-put : Triple 𝓤 (Cs #put-entry) (PutEntry 𝓤 H A mem run)) where
+      (known-fine : Triple 𝓤 (Cs #is-fine) (IsFine 𝓤 H A mem run))
+      (known-add : Triple 𝓤 (Cs #add-to-fit-row) (AddToFit 𝓤 H A mem run))
+      (known-refuse : Triple 𝓤 (Cs #refusal-of) (RefusalOf 𝓤 H A mem run)) where
     walk : ent 𝓤 (onEntry 𝓤 H A add-row.signature (κ₀, (κ₁, (κ₂, tt))) (q₀, (q₁, (q₂, tt))) x at)
         (WpFn 𝓤 H Cs Λ code.function (v₀ ∷ v₁ ∷ v₂ ∷ C′.lowered c ∷ []) Post)
     walk =
@@ -353,180 +252,118 @@ module _ {M : Type 1} (𝓤 : URA M) (H : Heap 𝓤) (A : Atoms 𝓤) (W : Given
         ∷ ‵ (owns (ShrSlice (named 0) κ₀ u8 ∷ MutSlice (named 1) κ₁ u8 ∷ MutSlice (named 2) κ₂ T.the-row ∷ C.the-row ∷ []) x at) ∷ []) ∵
         enter ! Cs Λ code.function (v₀ ∷ v₁ ∷ v₂ ∷ C′.lowered c ∷ []) _ $ alloc1 ! (λ l₀. alloc1 ! (λ l₁. alloc1 ! (λ l₂.
         alloc1 ! (λ l₃. alloc1 ! (λ l₄. alloc1 ! (λ l₅. alloc1 ! (λ l₆. alloc1 ! (λ l₇. alloc1 ! (λ l₈. alloc1 ! (λ l₉. alloc1 ! (λ l₁₀.
-        alloc1 ! (λ l₁₁. alloc1 ! (λ l₁₂. alloc1 ! (λ l₁₃. alloc1 ! (λ l₁₄. alloc1 ! (λ l₁₅. alloc1 ! (λ l₁₆. alloc1 ! (λ l₁₇.
-        alloc1 ! (λ l₁₈. alloc1 ! (λ l₁₉. alloc1 ! (λ l₂₀. alloc1 ! (λ l₂₁. alloc1 ! (λ l₂₂. alloc1 ! (λ l₂₃. alloc1 ! (λ l₂₄.
-        alloc1 ! (λ l₂₅. alloc1 ! (λ l₂₆. alloc0 ! $ params1 ! $ pass1 ! (init ! 50 refl (tt, (tt, (record { fits = g₀ .0 }, tt)))) $
-        pass1 ! (init ! 48 refl (tt, (tt, (record { fits = g₁ .0 }, tt)))) $
-        pass1 ! (init ! 46 refl (tt, (tt, (record { fits = g₂ .0 }, tt)))) $
-        pass1 ! (init ! 44 refl (LL.lawful C.the-type C′.the-laws 𝓤 H A W .typed c _ gc .0)) $ pass0 ! $
-        -- the bytes and the entries are lent as `&`, each for a lifetime of the first three calls
-        sets ! (addr ! (from ! (fld ! refl (hop ! (look-in ! 48 (sub ! 0 refl (whole !))) (stop !))))) 34 refl (tt, tt) $
-        sets ! (agg ! (and-then ! (local ! 34 refl) (and-then ! (member ! 48 refl (sub ! 1 refl (whole !))) (no-more !)))) 32 refl
+        alloc1 ! (λ l₁₁. alloc1 ! (λ l₁₂. alloc1 ! (λ l₁₃. alloc1 ! (λ l₁₄. alloc0 ! $ params1 ! $
+        pass1 ! (init ! 26 refl (tt, (tt, (record { fits = g₀ .0 }, tt)))) $
+        pass1 ! (init ! 24 refl (tt, (tt, (record { fits = g₁ .0 }, tt)))) $
+        pass1 ! (init ! 22 refl (tt, (tt, (record { fits = g₂ .0 }, tt)))) $
+        pass1 ! (init ! 20 refl (LL.lawful C.the-type C′.the-laws 𝓤 H A W .typed c _ gc .0)) $ pass0 ! $
+        -- the bytes and the entries are lent as `&` to `is_pool_fit`, each for a lifetime of the call
+        sets ! (addr ! (from ! (fld ! refl (hop ! (look-in ! 24 (sub ! 0 refl (whole !))) (stop !))))) 16 refl (tt, tt) $
+        sets ! (agg ! (and-then ! (local ! 16 refl) (and-then ! (member ! 24 refl (sub ! 1 refl (whole !))) (no-more !)))) 14 refl
         (tt, (tt, (record { fits = g₁ .0 }, tt))) $
-        sets ! (addr ! (from ! (fld ! refl (hop ! (look-in ! 46 (sub ! 0 refl (whole !))) (stop !))))) 30 refl (tt, tt) $
-        sets ! (agg ! (and-then ! (local ! 30 refl) (and-then ! (member ! 46 refl (sub ! 1 refl (whole !))) (no-more !)))) 28 refl
-        (tt, (tt, (record { fits = g₂ .0 }, tt))) $ move ! (55 ∷ []) $ fsplit ! $ move ! (1 ∷ []) $ fsplit ! $ move ! (1 ∷ []) $
-        fsplit ! $ move ! (1 ∷ []) $ fsplit ! $ move ! (59 ∷ []) $ split ! $ move ! (1 ∷ []) $ split ! $ move ! (1 ∷ []) $ split ! $
+        sets ! (addr ! (from ! (fld ! refl (hop ! (look-in ! 22 (sub ! 0 refl (whole !))) (stop !))))) 12 refl (tt, tt) $
+        sets ! (agg ! (and-then ! (local ! 12 refl) (and-then ! (member ! 22 refl (sub ! 1 refl (whole !))) (no-more !)))) 10 refl
+        (tt, (tt, (record { fits = g₂ .0 }, tt))) $ move ! (31 ∷ []) $ fsplit ! $ move ! (1 ∷ []) $ fsplit ! $ move ! (1 ∷ []) $
+        fsplit ! $ move ! (1 ∷ []) $ fsplit ! $ move ! (35 ∷ []) $ split ! $ move ! (1 ∷ []) $ split ! $ move ! (1 ∷ []) $ split ! $
         lft-new ! tt (λ ν. move ! (8 ∷ 3 ∷ []) $
         use2 W (later (some (λ (δ : GName). ‵ (SharedB ν δ) ⊛ ‵ (LentB ν))))
         (lends-shared u8 κ₁ (ν ∷ []) q₁ x₁ 𝓤 H A W (named 0) (named 0)) $ await ! tt $ pick ! (λ δ. split ! $ lft-new ! tt (λ ν′.
         move ! (9 ∷ 4 ∷ []) $
         use2 W (later (some (λ (δ′ : GName). ‵ (SharedE ν′ δ′) ⊛ ‵ (LentE ν′))))
         (lends-shared T.the-row κ₂ (ν′ ∷ []) q₂ x₂ 𝓤 H A W (named 0) (named 0)) $ await ! tt $ pick ! (λ δ′. split ! $
-        -- the call of `is_pool_fit`
         move ! (5 ∷ 2 ∷ 3 ∷ 0 ∷ []) $
-        cut (Lends ν ν′ δ δ′) (raw (IsPoolFit 𝓤 H A mem run .pre (to-fit ν ν′ δ δ′)) ∷ ‵ (SharedB ν δ) ∷ ‵ (SharedE ν′ δ′) ∷ []) _
-        (asked-fit ν ν′ δ δ′) $
+        cut (Lends ν ν′ δ δ′) (raw (IsPoolFit 𝓤 H A mem run .pre (to-fit ν ν′ δ δ′)) ∷ []) _ (asked-fit ν ν′ δ δ′) $
         calls-at ! fm (IsPoolFit 𝓤 H A mem run) known-fit (to-fit ν ν′ δ δ′)
-        (and-then ! (local ! 42 refl) (and-then ! (local ! 38 refl) (and-then ! (local ! 54 refl) (no-more !)))) (λ u₀.
+        (and-then ! (local ! 22 refl) (and-then ! (local ! 18 refl) (and-then ! (local ! 28 refl) (no-more !)))) (λ u₀.
         use1 W (later (some (λ (fit : Bool). ((‵ (flft (ν ∷ []) fullShare) ⊛ ‵ (flft (ν′ ∷ []) fullShare) ⊛ ‵ ftrue)
         ⊛ ‵ (bool .own fit (u₀ ∷ []))) ⊛ raw (ensured 𝓤 H A is-pool-fit.ended (is-pool-fit.clauses 𝓤 H A mem run)
         (ν ∷ [], (ν′ ∷ [], tt)) (fit-args ν ν′ δ δ′) tt fit)))) (id⊢ 𝓤 _) $ await ! tt $ pick ! (λ fit. split ! $ move ! (1 ∷ []) $
         use1 W (raw (fact 𝓤 (fit ≡ Fit))) (said-fit ν ν′ δ δ′ fit) $ heard ! (fit ≡ Fit) (λ e₀. split ! $ move ! (1 ∷ []) $
         peeks ! bool (Is bool) (shows 𝓤 H A bool) fit (u₀ ∷ []) (λ is₀.
-        land ! (from ! (stop !)) (init ! 53 refl (bool-lawful 𝓤 H A W .typed fit _ is₀ .0)) $ drop ! $
-        rewrite ! 52 (λ (v : Val). ‵ (fat fullShare tyBool l₅ 0 v)) (ap only is₀) refl $ move ! (0 ∷ []) $ split ! $ move ! (1 ∷ []) $
-        split ! $
-        -- the call of `least`
-        sets ! (un ! (member ! 56 refl (sub ! 0 refl (whole !))) (record { fits = wide ce })) 38 refl (tt, record { fits = wide ce }) $
-        sets ! (of-opd ! (member ! 58 refl (sub ! 1 refl (whole !)))) 36 refl (tt, record { fits = g₂ .0 }) $
-        use0 W (raw (Least 𝓤 H A mem run .pre to)) (asked-least 𝓤 H A mem run (c .entries) (length es) W (wide ce) (g₂ .0)) $
-        calls-at ! fm (Least 𝓤 H A mem run) known-least to (and-then ! (local ! 39 refl) (and-then ! (local ! 37 refl) (no-more !)))
-        (λ u₁.
-        use1 W (later (some (λ (n : ℕ). (‵ ftrue ⊛ ‵ (usize .own n (u₁ ∷ []))) ⊛ raw
-        (least-ensured 𝓤 H A mem run (c .entries) (length es) n)))) (id⊢ 𝓤 _) $ await ! tt $ pick ! (λ n. split ! $ move ! (1 ∷ []) $
-        use1 W (raw (fact 𝓤 (n ≡ most))) (said-least 𝓤 H A mem run (c .entries) (length es) n) $ heard ! (n ≡ most) (λ e₁. split ! $
-        drop ! $ peeks ! usize (Is usize) (shows 𝓤 H A usize) n (u₁ ∷ []) (λ is₁.
-        land ! (from ! (stop !)) (init ! 53 refl (uint-lawful 𝓤 H A W w64 .typed n _ is₁ .0)) $ drop ! $
-        rewrite ! 52 (λ (v : Val). ‵ (fat fullShare (tyInt w64) l₆ 0 v)) (ap only (is₁ .0)) refl $
-        -- the call of `find_string`
-        sets ! (addr ! (from ! (fld ! refl (hop ! (look-in ! 60 (sub ! 0 refl (whole !))) (stop !))))) 34 refl (tt, tt) $
-        sets ! (agg ! (and-then ! (local ! 34 refl) (and-then ! (member ! 60 refl (sub ! 1 refl (whole !))) (no-more !)))) 32 refl
-        (tt, (tt, (record { fits = g₁ .0 }, tt))) $
-        sets ! (addr ! (from ! (fld ! refl (hop ! (look-in ! 58 (sub ! 0 refl (whole !))) (stop !))))) 30 refl (tt, tt) $
-        sets ! (agg ! (and-then ! (local ! 30 refl) (and-then ! (member ! 58 refl (sub ! 1 refl (whole !))) (no-more !)))) 28 refl
-        (tt, (tt, (record { fits = g₂ .0 }, tt))) $ move ! (8 ∷ 11 ∷ 2 ∷ 0 ∷ 3 ∷ 4 ∷ []) $
-        cut (‵ (flft κ₀ q₀) ∷ ‵ Own₀ ∷ Lends ν ν′ δ δ′) (raw (FindString 𝓤 H A mem run .pre (to-find ν ν′ δ δ′ n)) ∷ ‵ Own₀ ∷ []) _
-        (asked-find ν ν′ δ δ′ n (is₁ .1) e₁) $
-        calls-at ! fm (FindString 𝓤 H A mem run) known-find (to-find ν ν′ δ δ′ n)
-        (and-then ! (local ! 58 refl) (and-then ! (local ! 28 refl)
-        (and-then ! (local ! 24 refl) (and-then ! (local ! 48 refl) (no-more !))))) (λ u₂.
-        use1 W (later (some (λ (f : ℕ). ((‵ (flft κ₀ q₀) ⊛ ‵ (flft (ν ∷ []) fullShare) ⊛ ‵ (flft (ν′ ∷ []) fullShare) ⊛ ‵ ftrue)
-        ⊛ ‵ (usize .own f (u₂ ∷ []))) ⊛ raw (ensured 𝓤 H A find-string.ended (find-string.clauses 𝓤 H A mem run)
-        (κ₀, (ν ∷ [], (ν′ ∷ [], tt))) (find-args ν ν′ δ δ′ n) tt f)))) (id⊢ 𝓤 _) $ await ! tt $ pick ! (λ f. split ! $ move ! (1 ∷ []) $
-        use1 W (raw (fact 𝓤 (f ≡ found n))) (said-find ν ν′ δ δ′ n f) $ heard ! (f ≡ found n) (λ e₂. split ! $ move ! (1 ∷ []) $
-        peeks ! usize (Is usize) (shows 𝓤 H A usize) f (u₂ ∷ []) (λ is₂.
-        land ! (from ! (stop !)) (init ! 47 refl (uint-lawful 𝓤 H A W w64 .typed f _ is₂ .0)) $ drop ! $
-        rewrite ! 46 (λ (v : Val). ‵ (fat fullShare (tyInt w64) l₇ 0 v)) (ap only (is₂ .0)) refl $
+        land ! (from ! (stop !)) (init ! 27 refl (bool-lawful 𝓤 H A W .typed fit _ is₀ .0)) $ drop ! $
+        rewrite ! 26 (λ (v : Val). ‵ (fat fullShare tyBool l₅ 0 v)) (ap only is₀) refl $
         -- the two lifetimes are ended, and both slices come back
-        move ! (0 ∷ []) $ split ! $ move ! (1 ∷ []) $ split ! $ move ! (1 ∷ []) $ split ! $ move ! (2 ∷ []) $ lft-end ! tt $
-        move ! (0 ∷ 7 ∷ []) $
+        move ! (0 ∷ []) $ split ! $ move ! (1 ∷ []) $ split ! $ move ! (2 ∷ []) $ lft-end ! tt $ move ! (0 ∷ 4 ∷ []) $
         use2 W (later (‵ OwnB ⊛ ‵ (flft κ₁ q₁))) (shared-back u8 κ₁ (ν ∷ []) q₁ x₁ 𝓤 H A W (named 0) (named 0) g₁) $ await ! tt $
-        split ! $ move ! (2 ∷ []) $ lft-end ! tt $ move ! (0 ∷ 7 ∷ []) $
+        split ! $ move ! (2 ∷ []) $ lft-end ! tt $ move ! (0 ∷ 4 ∷ []) $
         use2 W (later (‵ OwnE ⊛ ‵ (flft κ₂ q₂))) (shared-back T.the-row κ₂ (ν′ ∷ []) q₂ x₂ 𝓤 H A W (named 0) (named 0) g₂) $
         await ! tt $ split ! $
-        -- the call of `add_bytes`: the bytes are given to it for good
-        sets ! (addr ! (from ! (fld ! refl (hop ! (look-in ! 59 (sub ! 0 refl (whole !))) (stop !))))) 25 refl (tt, tt) $
-        sets ! (agg ! (and-then ! (local ! 25 refl) (and-then ! (member ! 59 refl (sub ! 1 refl (whole !))) (no-more !)))) 23 refl
+        -- the call of `is_fine`
+        move ! (6 ∷ 9 ∷ []) $
+        cut (‵ (flft κ₀ q₀) ∷ ‵ Own₀ ∷ []) (raw (IsFine 𝓤 H A mem run .pre (to-fine fit)) ∷ ‵ Own₀ ∷ []) _ (asked-fine fit) $
+        calls-at ! fm (IsFine 𝓤 H A mem run) known-fine (to-fine fit)
+        (and-then ! (local ! 36 refl) (and-then ! (local ! 28 refl) (no-more !))) (λ u₁.
+        use1 W (later (some (λ (t : Bool). ((‵ (flft κ₀ q₀) ⊛ ‵ ftrue) ⊛ ‵ (bool .own t (u₁ ∷ []))) ⊛ raw
+        (ensured 𝓤 H A is-fine.ended (is-fine.clauses 𝓤 H A mem run) (κ₀, tt) (fine-args fit) tt t)))) (id⊢ 𝓤 _) $ await ! tt $
+        pick ! (λ t. split ! $ move ! (1 ∷ []) $ use1 W (raw (fact 𝓤 (t ≡ fineAt ws fit))) (said-fine fit t) $
+        heard ! (t ≡ fineAt ws fit) (λ e₁. split ! $ move ! (1 ∷ []) $ peeks ! bool (Is bool) (shows 𝓤 H A bool) t (u₁ ∷ []) (λ is₁.
+        land ! (from ! (stop !)) (init ! 19 refl (bool-lawful 𝓤 H A W .typed t _ is₁ .0)) $ drop ! $
+        rewrite ! 18 (λ (v : Val). ‵ (fat fullShare tyBool l₁₀ 0 v)) (ap only is₁) refl $ move ! (0 ∷ []) $ split ! $
+        first ! $ branches ! (local ! 19 refl)
+        -- nothing is refused: both slices are given to the addition for good
+        (λ yes. sets ! (addr ! (from ! (fld ! refl (hop ! (look-in ! 35 (sub ! 0 refl (whole !))) (stop !))))) 17 refl (tt, tt) $
+        sets ! (agg ! (and-then ! (local ! 17 refl) (and-then ! (member ! 35 refl (sub ! 1 refl (whole !))) (no-more !)))) 15 refl
         (tt, (tt, (record { fits = g₁ .0 }, tt))) $
-        assigns ! (of-opd ! (member ! 57 refl (sub ! 1 refl (whole !)))) (from ! (stop !))
-        (store ! 37 refl (tt, record { fits = g₂ .0 })) $ move ! (5 ∷ 3 ∷ 6 ∷ 2 ∷ []) $
-        cut (‵ (flft κ₀ q₀) ∷ ‵ (flft κ₁ q₁) ∷ ‵ Own₀ ∷ ‵ OwnB ∷ []) (raw (AddBytes 𝓤 H A mem run .pre (to-add fit f)) ∷ ‵ Own₀ ∷ []) _
-        (asked-add fit f (is₂ .1) (bytes-fit bs es c n e₁ ws fit e₀)) $
-        calls-at ! fm (AddBytes 𝓤 H A mem run) known-add (to-add fit f)
-        (and-then ! (local ! 59 refl) (and-then ! (local ! 21 refl)
-        (and-then ! (local ! 35 refl) (and-then ! (local ! 53 refl)
-        (and-then ! (local ! 51 refl) (and-then ! (local ! 47 refl) (no-more !))))))) (λ u.
-        use1 W (later (some (λ (r : Added). ((‵ (flft κ₀ q₀) ⊛ ‵ (flft κ₁ q₁) ⊛ ‵ ftrue) ⊛ ‵ (Ad.the-row .own r (u ∷ []))) ⊛ raw
-        (ensured 𝓤 H A add-bytes.ended (add-bytes.clauses 𝓤 H A mem run) (κ₀, (κ₁, tt)) (add-args fit f) tt r)))) (id⊢ 𝓤 _) $
+        sets ! (addr ! (from ! (fld ! refl (hop ! (look-in ! 33 (sub ! 0 refl (whole !))) (stop !))))) 13 refl (tt, tt) $
+        sets ! (agg ! (and-then ! (local ! 13 refl) (and-then ! (member ! 33 refl (sub ! 1 refl (whole !))) (no-more !)))) 11 refl
+        (tt, (tt, (record { fits = g₂ .0 }, tt))) $ move ! (0 ∷ 6 ∷ 4 ∷ 2 ∷ 5 ∷ 3 ∷ []) $
+        cut Adds-from (raw (AddToFit 𝓤 H A mem run .pre to-add) ∷ ‵ Own₀ ∷ []) _
+        (asked-add (fine-fit ws bs es c fit e₀ (sym e₁ ∙ is-true t yes))) $
+        calls-at ! fm (AddToFit 𝓤 H A mem run) known-add to-add
+        (and-then ! (local ! 33 refl) (and-then ! (local ! 11 refl) (and-then ! (local ! 7 refl) (and-then ! (local ! 27 refl) (no-more !)))))
+        (λ u₂.
+        use1 W (later (some (λ (r : Added). (Toks ⊛ ‵ (Ad.the-row .own r (u₂ ∷ []))) ⊛ raw
+        (ensured 𝓤 H A add-to-fit-row.ended (add-to-fit-row.clauses 𝓤 H A mem run) (κ₀, (κ₁, (κ₂, tt))) x tt r)))) (id⊢ 𝓤 _) $
         await ! tt $ pick ! (λ r. split ! $ move ! (1 ∷ []) $
-        use1 W (some (λ (zs : Lasts). ‵ (lasts add-bytes.ended (κ₀, (κ₁, tt)) (add-args fit f) zs) ⊛ raw
-        (fact 𝓤 (Put-in fit f r (zs .1 .0))))) (id⊢ 𝓤 _) $ pick ! (λ zs. split ! $ move ! (1 ∷ []) $
-        heard ! (Put-in fit f r (zs .1 .0)) (λ e₃. move ! (0 ∷ []) $ fsplit ! $ drop ! $ fsplit ! $ fsplit ! $ move ! (1 ∷ []) $
-        feqL ! (λ k₁. move ! (1 ∷ []) $ drop ! $ move ! (1 ∷ []) $ split ! $ move ! (1 ∷ []) $
-        peeks ! Ad.the-row (Is Ad.the-row) (shows 𝓤 H A Ad.the-row) r (u ∷ []) (λ is₃.
-        land ! (from ! (stop !)) (init ! 47 refl (EL.lawful Ad.the-type Ad′.the-laws 𝓤 H A W tt .typed r _ is₃ .0)) $ drop ! $
-        -- the call of `is_new`
-        use0 W (raw (IsNew 𝓤 H A mem run .pre (to-new r u))) (asked-new r u is₃) $
-        calls-at ! fm (IsNew 𝓤 H A mem run) known-new (to-new r u)
-        (and-then ! (local ! 55 refl) (and-then ! (local ! 47 refl) (no-more !))) (λ u₄.
-        use1 W (later (some (λ (new : Bool). (‵ ftrue ⊛ ‵ (bool .own new (u₄ ∷ []))) ⊛ raw
-        (ensured 𝓤 H A is-new.ended (is-new.clauses 𝓤 H A mem run) tt (c, (r, tt)) tt new)))) (id⊢ 𝓤 _) $ await ! tt $ pick ! (λ new.
-        split ! $ move ! (1 ∷ []) $ use1 W (raw (fact 𝓤 (new ≡ isNew c r))) (said-new r new) $ heard ! (new ≡ isNew c r) (λ e₄.
-        split ! $ drop ! $ peeks ! bool (Is bool) (shows 𝓤 H A bool) new (u₄ ∷ []) (λ is₄.
-        land ! (from ! (stop !)) (init ! 21 refl (bool-lawful 𝓤 H A W .typed new _ is₄ .0)) $ drop ! $
-        rewrite ! 20 (λ (v : Val). ‵ (fat fullShare tyBool l₂₁ 0 v)) (ap only is₄) refl $
-        -- the branch: the entry is put in, or not
-        first ! $ branches ! (local ! 20 refl)
-        (λ yes. sets ! (addr ! (from ! (fld ! refl (hop ! (look-in ! 56 (sub ! 0 refl (whole !))) (stop !))))) 16 refl (tt, tt) $
-        sets ! (agg ! (and-then ! (local ! 16 refl) (and-then ! (member ! 56 refl (sub ! 1 refl (whole !))) (no-more !)))) 14 refl
-        (tt, (tt, (record { fits = g₂ .0 }, tt))) $
-        sets ! (of-opd ! (member ! 60 refl (sub ! 1 refl (whole !)))) 12 refl (tt, record { fits = g₀ .0 }) $
-        sets ! (un ! (local ! 12 refl) (record { fits = (free bs es c n e₁ ws fit e₀ f e₂ r (e₃ .0) (sym e₄ ∙ is-true new yes)) .1 }))
-        10 refl (tt, record { fits = (free bs es c n e₁ ws fit e₀ f e₂ r (e₃ .0) (sym e₄ ∙ is-true new yes)) .1 }) $
-        move ! (4 ∷ 3 ∷ []) $
-        use2 W (raw (PutEntry 𝓤 H A mem run .pre (to-put n)))
-        (asked-put n (is₁ .1) ((free bs es c n e₁ ws fit e₀ f e₂ r (e₃ .0) (sym e₄ ∙ is-true new yes)) .1)
-        ((free bs es c n e₁ ws fit e₀ f e₂ r (e₃ .0) (sym e₄ ∙ is-true new yes)) .0)) $
-        calls-at-last ! fm (PutEntry 𝓤 H A mem run) known-put (to-put n)
-        (and-then ! (local ! 13 refl) (and-then ! (local ! 49 refl)
-        (and-then ! (member ! 53 refl (sub ! 1 refl (whole !))) (and-then ! (local ! 9 refl) (no-more !))))) (λ u₅.
-        use1 W (later (some (λ (t : unit .Denot). ((‵ (flft κ₂ q₂) ⊛ ‵ ftrue) ⊛ ‵ (unit .own t (u₅ ∷ []))) ⊛ raw
-        (ensured 𝓤 H A put-entry.ended (put-entry.clauses 𝓤 H A mem run) (κ₂, tt) (put-args n) tt t)))) (id⊢ 𝓤 _) $ await ! tt $
-        pick ! (λ t. split ! $ move ! (1 ∷ []) $
-        use1 W (some (λ (ds : List Entry × (Unit {0} × (Unit {0} × (Unit {0} × Unit {0})))).
-        ‵ (lasts put-entry.ended (κ₂, tt) (put-args n) ds) ⊛ raw (fact 𝓤 (ds .0 ≡ put n)))) (id⊢ 𝓤 _) $ pick ! (λ ds. split ! $
-        move ! (1 ∷ []) $ heard ! (ds .0 ≡ put n) (λ e₅. move ! (0 ∷ []) $ fsplit ! $ fsplit ! $ move ! (1 ∷ []) $ feqL ! (λ k₂.
-        move ! (1 ∷ []) $ drop ! $ move ! (1 ∷ []) $ split ! $ move ! (1 ∷ []) $
-        peeks ! unit (Is unit) (shows 𝓤 H A unit) t (u₅ ∷ []) (λ is₅.
-        land-last ! (from ! (stop !)) (init ! 19 refl (nothing-lawful 𝓤 H A W .typed t _ is₅ .0)) $ drop ! $ move ! (0 ∷ []) $ split ! $
-        exec ! Cs Λ _ part.t-20 (atRet _ Post) $
-        assigns ! (of-opd ! (load ! (from ! (stop !)) (look ! 47 refl))) (from ! (stop !))
-        (init ! 63 refl (EL.lawful Ad.the-type Ad′.the-laws 𝓤 H A W tt .typed r _ is₃ .0)) $ returns ! (look ! 63 refl) $
-        forget ! 11 refl $ forget ! 13 refl $ forget ! 15 refl $ forget ! 17 refl $ forget ! 19 refl $ forget ! 21 refl $
-        forget ! 23 refl $ forget ! 25 refl $ forget ! 27 refl $ forget ! 29 refl $ forget ! 31 refl $ forget ! 33 refl $
-        forget ! 35 refl $ forget ! 37 refl $ forget ! 39 refl $ forget ! 41 refl $ forget ! 43 refl $ forget ! 45 refl $
-        forget ! 47 refl $ forget ! 49 refl $ forget ! 51 refl $ forget ! 53 refl $ forget ! 55 refl $ forget ! 57 refl $
-        forget ! 59 refl $ forget ! 61 refl $ forget ! 63 refl $ move ! (63 ∷ 64 ∷ []) $ free1 ! $ move ! (61 ∷ 62 ∷ []) $ free1 ! $
-        move ! (59 ∷ 60 ∷ []) $ free1 ! $ move ! (57 ∷ 58 ∷ []) $ free1 ! $ move ! (55 ∷ 56 ∷ []) $ free1 ! $ move ! (53 ∷ 54 ∷ []) $
-        free1 ! $ move ! (51 ∷ 52 ∷ []) $ free1 ! $ move ! (49 ∷ 50 ∷ []) $ free1 ! $ move ! (47 ∷ 48 ∷ []) $ free1 ! $
-        move ! (45 ∷ 46 ∷ []) $ free1 ! $ move ! (43 ∷ 44 ∷ []) $ free1 ! $ move ! (41 ∷ 42 ∷ []) $ free1 ! $ move ! (39 ∷ 40 ∷ []) $
-        free1 ! $ move ! (37 ∷ 38 ∷ []) $ free1 ! $ move ! (35 ∷ 36 ∷ []) $ free1 ! $ move ! (33 ∷ 34 ∷ []) $ free1 ! $
-        move ! (31 ∷ 32 ∷ []) $ free1 ! $ move ! (29 ∷ 30 ∷ []) $ free1 ! $ move ! (27 ∷ 28 ∷ []) $ free1 ! $ move ! (25 ∷ 26 ∷ []) $
-        free1 ! $ move ! (23 ∷ 24 ∷ []) $ free1 ! $ move ! (21 ∷ 22 ∷ []) $ free1 ! $ move ! (19 ∷ 20 ∷ []) $ free1 ! $
-        move ! (17 ∷ 18 ∷ []) $ free1 ! $ move ! (15 ∷ 16 ∷ []) $ free1 ! $ move ! (13 ∷ 14 ∷ []) $ free1 ! $ move ! (11 ∷ 12 ∷ []) $
-        free1 ! $ free0 ! $ keep ! (3 ∷ 0 ∷ 4 ∷ 2 ∷ 5 ∷ 9 ∷ []) $
-        by ! (exits r u (zs .1 .0) (ds .0) k₁ k₂ is₃
-        (settled-new bs es c n e₁ ws fit e₀ f e₂ r (e₃ .0) (zs .1 .0) (e₃ .1) (ds .0) e₅ (sym e₄ ∙ is-true new yes))))))))))
-        (λ no. skips ! $ exec ! Cs Λ _ part.t-20 (atRet _ Post) $
-        assigns ! (of-opd ! (load ! (from ! (stop !)) (look ! 46 refl))) (from ! (stop !))
-        (init ! 62 refl (EL.lawful Ad.the-type Ad′.the-laws 𝓤 H A W tt .typed r _ is₃ .0)) $ returns ! (look ! 62 refl) $
-        forget ! 20 refl $ forget ! 22 refl $ forget ! 24 refl $ forget ! 26 refl $ forget ! 28 refl $ forget ! 30 refl $
-        forget ! 32 refl $ forget ! 34 refl $ forget ! 36 refl $ forget ! 38 refl $ forget ! 40 refl $ forget ! 42 refl $
-        forget ! 44 refl $ forget ! 46 refl $ forget ! 48 refl $ forget ! 50 refl $ forget ! 52 refl $ forget ! 54 refl $
-        forget ! 56 refl $ forget ! 58 refl $ forget ! 60 refl $ forget ! 62 refl $ move ! (62 ∷ 63 ∷ []) $ free1 ! $
-        move ! (60 ∷ 61 ∷ []) $ free1 ! $ move ! (58 ∷ 59 ∷ []) $ free1 ! $ move ! (56 ∷ 57 ∷ []) $ free1 ! $ move ! (54 ∷ 55 ∷ []) $
-        free1 ! $ move ! (52 ∷ 53 ∷ []) $ free1 ! $ move ! (50 ∷ 51 ∷ []) $ free1 ! $ move ! (48 ∷ 49 ∷ []) $ free1 ! $
-        move ! (46 ∷ 47 ∷ []) $ free1 ! $ move ! (44 ∷ 45 ∷ []) $ free1 ! $ move ! (42 ∷ 43 ∷ []) $ free1 ! $ move ! (40 ∷ 41 ∷ []) $
-        free1 ! $ move ! (38 ∷ 39 ∷ []) $ free1 ! $ move ! (36 ∷ 37 ∷ []) $ free1 ! $ move ! (34 ∷ 35 ∷ []) $ free1 ! $
-        move ! (32 ∷ 33 ∷ []) $ free1 ! $ move ! (30 ∷ 31 ∷ []) $ free1 ! $ move ! (28 ∷ 29 ∷ []) $ free1 ! $ move ! (26 ∷ 27 ∷ []) $
-        free1 ! $ move ! (24 ∷ 25 ∷ []) $ free1 ! $ move ! (22 ∷ 23 ∷ []) $ free1 ! $ move ! (20 ∷ 21 ∷ []) $ free1 ! $
-        move ! (18 ∷ 19 ∷ []) $ free1 ! $ move ! (16 ∷ 17 ∷ []) $ free1 ! $ move ! (14 ∷ 15 ∷ []) $ free1 ! $ move ! (12 ∷ 13 ∷ []) $
-        free1 ! $ move ! (10 ∷ 11 ∷ []) $ free1 ! $ free0 ! $ move ! (3 ∷ []) $
-        use1 W (‵ (finally T.the-row (x₂ .name) es)) (at-end T.the-row κ₂ κ₂ q₂ x₂ 𝓤 H A W (named 0) (named 0)) $
-        keep ! (1 ∷ 4 ∷ 2 ∷ 0 ∷ 3 ∷ 8 ∷ []) $
-        by ! (exits r u (zs .1 .0) es k₁ refl is₃
-        (settled-old bs es c n e₁ ws fit e₀ f e₂ r (e₃ .0) (zs .1 .0) (e₃ .1)
-        (sym e₄ ∙ is-false new no)))))))))))))))))))))))))))))))))))))))))))))))))))))))))
+        use1 W (some (λ (zs : Unit {0} × (List ℕ × (List Entry × (Unit {0} × Unit {0})))).
+        ‵ (lasts add-to-fit-row.ended (κ₀, (κ₁, (κ₂, tt))) x zs) ⊛ raw (fact 𝓤 (AddsToFit ws c bs (numbersOf es) (zs .1 .0)
+        (numbersOf (zs .1 .1 .0)) r)))) (id⊢ 𝓤 _) $ pick ! (λ zs. split ! $ move ! (1 ∷ []) $
+        heard ! (AddsToFit ws c bs (numbersOf es) (zs .1 .0) (numbersOf (zs .1 .1 .0)) r) (λ e₂. fsplit ! $ drop ! $ fsplit ! $ fsplit ! $
+        move ! (1 ∷ []) $ feqL ! (λ k₁. move ! (1 ∷ []) $ fsplit ! $ fsplit ! $ move ! (1 ∷ []) $ feqL ! (λ k₂. move ! (1 ∷ []) $
+        fsplit ! $ drop ! $ drop ! $ move ! (2 ∷ []) $ split ! $ move ! (1 ∷ []) $
+        peeks ! Ad.the-row (Is Ad.the-row) (shows 𝓤 H A Ad.the-row) r (u₂ ∷ []) (λ is₂.
+        land ! (from ! (stop !)) (init ! 38 refl (EL.lawful Ad.the-type Ad′.the-laws 𝓤 H A W tt .typed r _ is₂ .0)) $ drop ! $
+        returns-within ! Post refl (look ! 37 refl) $
+        forget ! 9 refl $ forget ! 11 refl $ forget ! 13 refl $ forget ! 15 refl $ forget ! 17 refl $ forget ! 19 refl $
+        forget ! 21 refl $ forget ! 23 refl $ forget ! 25 refl $ forget ! 27 refl $ forget ! 29 refl $ forget ! 31 refl $
+        forget ! 33 refl $ forget ! 35 refl $ forget ! 37 refl $
+        move ! (37 ∷ 38 ∷ []) $ free1 ! $ move ! (35 ∷ 36 ∷ []) $ free1 ! $ move ! (33 ∷ 34 ∷ []) $ free1 ! $
+        move ! (31 ∷ 32 ∷ []) $ free1 ! $ move ! (29 ∷ 30 ∷ []) $ free1 ! $ move ! (27 ∷ 28 ∷ []) $ free1 ! $
+        move ! (25 ∷ 26 ∷ []) $ free1 ! $ move ! (23 ∷ 24 ∷ []) $ free1 ! $ move ! (21 ∷ 22 ∷ []) $ free1 ! $
+        move ! (19 ∷ 20 ∷ []) $ free1 ! $ move ! (17 ∷ 18 ∷ []) $ free1 ! $ move ! (15 ∷ 16 ∷ []) $ free1 ! $
+        move ! (13 ∷ 14 ∷ []) $ free1 ! $ move ! (11 ∷ 12 ∷ []) $ free1 ! $ move ! (9 ∷ 10 ∷ []) $ free1 ! $ free0 ! $ keep ! (0 ∷ 2 ∷ 1 ∷ 3 ∷ 7 ∷ []) $
+        by ! (exits r u₂ (zs .1 .0) (zs .1 .1 .0) k₁ k₂ is₂
+        (settled-fine ws bs es c fit e₀ (sym e₁ ∙ is-true t yes) e₂))))))))))
+        -- something is
+        (λ no. skips ! $ exec ! Cs Λ _ part.t-8 (atRet _ Post) $ move ! (0 ∷ 2 ∷ []) $
+        cut (‵ (flft κ₀ q₀) ∷ ‵ Own₀ ∷ []) (raw (RefusalOf 𝓤 H A mem run .pre to-refuse) ∷ ‵ Own₀ ∷ []) _ asked-refuse $
+        calls-at ! fm (RefusalOf 𝓤 H A mem run) known-refuse to-refuse (and-then ! (local ! 37 refl) (no-more !)) (λ u₂.
+        use1 W (later (some (λ (r : Added). ((‵ (flft κ₀ q₀) ⊛ ‵ ftrue) ⊛ ‵ (Ad.the-row .own r (u₂ ∷ []))) ⊛ raw
+        (ensured 𝓤 H A refusal-of.ended (refusal-of.clauses 𝓤 H A mem run) (κ₀, tt) (x₀, tt) tt r)))) (id⊢ 𝓤 _) $ await ! tt $
+        pick ! (λ r. split ! $ move ! (1 ∷ []) $ use1 W (raw (fact 𝓤 (r ≡ refusalAt ws))) (said-refuse r) $
+        heard ! (r ≡ refusalAt ws) (λ e₂. split ! $ move ! (1 ∷ []) $
+        peeks ! Ad.the-row (Is Ad.the-row) (shows 𝓤 H A Ad.the-row) r (u₂ ∷ []) (λ is₂.
+        land ! (from ! (stop !)) (init ! 40 refl (EL.lawful Ad.the-type Ad′.the-laws 𝓤 H A W tt .typed r _ is₂ .0)) $ drop ! $
+        returns ! (look ! 39 refl) $
+        forget ! 19 refl $ forget ! 21 refl $ forget ! 23 refl $ forget ! 25 refl $ forget ! 27 refl $ forget ! 29 refl $
+        forget ! 31 refl $ forget ! 33 refl $ forget ! 35 refl $ forget ! 37 refl $ forget ! 39 refl $
+        move ! (39 ∷ 40 ∷ []) $ free1 ! $ move ! (37 ∷ 38 ∷ []) $ free1 ! $ move ! (35 ∷ 36 ∷ []) $ free1 ! $
+        move ! (33 ∷ 34 ∷ []) $ free1 ! $ move ! (31 ∷ 32 ∷ []) $ free1 ! $ move ! (29 ∷ 30 ∷ []) $ free1 ! $
+        move ! (27 ∷ 28 ∷ []) $ free1 ! $ move ! (25 ∷ 26 ∷ []) $ free1 ! $ move ! (23 ∷ 24 ∷ []) $ free1 ! $
+        move ! (21 ∷ 22 ∷ []) $ free1 ! $ move ! (19 ∷ 20 ∷ []) $ free1 ! $ move ! (17 ∷ 18 ∷ []) $ free1 ! $
+        move ! (15 ∷ 16 ∷ []) $ free1 ! $ move ! (13 ∷ 14 ∷ []) $ free1 ! $ move ! (11 ∷ 12 ∷ []) $ free1 ! $ free0 ! $ move ! (3 ∷ []) $
+        use1 W (‵ (finally T.the-row (x₂ .name) es)) (at-end T.the-row κ₂ κ₂ q₂ x₂ 𝓤 H A W (named 0) (named 0)) $ move ! (5 ∷ []) $
+        use1 W (‵ (finally u8 (x₁ .name) bs)) (at-end u8 κ₁ κ₁ q₁ x₁ 𝓤 H A W (named 0) (named 0)) $ move ! (2 ∷ []) $ split ! $
+        nothing ! $ move ! (7 ∷ 0 ∷ []) $ join ! $ move ! (7 ∷ 0 ∷ []) $ join ! $ move ! (1 ∷ 0 ∷ []) $ join ! $
+        keep ! (0 ∷ 2 ∷ 3 ∷ 4 ∷ 8 ∷ []) $
+        by ! (exits r u₂ bs es refl refl is₂ (settled-refused ws bs es c fit e₀ (sym e₁ ∙ is-false t no) r e₂))))))))))))))))))))))))))))))))))
 
 module _ {M : Type 1} (𝓤 : URA M) (H : Heap 𝓤) (A : Atoms 𝓤) (W : Given 𝓤 H A) (mem : Memory → SProp 𝓤) (run : Routine → Fun 𝓤)
     (𝓣 : Tables 𝓤 H)
     (known-fit : Triple 𝓤 (𝓣 .C #is-pool-fit) (IsPoolFit 𝓤 H A mem run))
-    (known-least : Triple 𝓤 (𝓣 .C #least) (Least 𝓤 H A mem run))
-    (known-find : Triple 𝓤 (𝓣 .C #find-string) (FindString 𝓤 H A mem run))
-    (known-add : Triple 𝓤 (𝓣 .C #add-bytes) (AddBytes 𝓤 H A mem run))
-    (known-new : Triple 𝓤 (𝓣 .C #is-new) (IsNew 𝓤 H A mem run))
-    (known-put : Triple 𝓤 (𝓣 .C #put-entry) (PutEntry 𝓤 H A mem run)) where
+    (known-fine : Triple 𝓤 (𝓣 .C #is-fine) (IsFine 𝓤 H A mem run))
+    (known-add : Triple 𝓤 (𝓣 .C #add-to-fit-row) (AddToFit 𝓤 H A mem run))
+    (known-refuse : Triple 𝓤 (𝓣 .C #refusal-of) (RefusalOf 𝓤 H A mem run)) where
   add-row-walks : Walks 𝓤 H A add-row.ended stayed (WpFn 𝓤 H (𝓣 .C) (𝓣 .Λ) code.function) (add-row.clauses 𝓤 H A mem run)
   add-row-walks =
       walked 𝓤 H A add-row.ended stayed (add-row.clauses 𝓤 H A mem run) (WpFn 𝓤 H (𝓣 .C) (𝓣 .Λ) code.function)
@@ -541,7 +378,7 @@ module _ {M : Type 1} (𝓤 : URA M) (H : Heap 𝓤) (A : Atoms 𝓤) (W : Given
       (λ κs qs bounds a g are. via 𝓤 _ (fst∗ 𝓤 _ (emp 𝓤))
       (walk 𝓤 H A W mem run (κs .0) (κs .1 .0) (κs .1 .1 .0) (qs .0) (qs .1 .0) (qs .1 .1 .0) (a .0) (a .1 .0) (a .1 .1 .0) (a .1 .1 .1 .0)
       (are .0 .0 .1) (are .1 .0 .0 .1) (are .1 .1 .0 .0 .1) (are .1 .1 .1 .0) (𝓣 .C) (𝓣 .Λ) (fmOf 𝓤 H (W .laws) 𝓣)
-      known-fit known-least known-find known-add known-new known-put))
+      known-fit known-fine known-add known-refuse))
 
   add-row-meets : Meets 𝓤 H A add-row.signature (WpFn 𝓤 H (𝓣 .C) (𝓣 .Λ) code.function) (add-row.spec 𝓤 H A mem run)
   add-row-meets =
@@ -562,13 +399,9 @@ add-row-spec 𝓤 H 𝓜 𝓖 𝓡 =
     (add-row-meets 𝓤 H (𝓖 .A) (givenOf 𝓤 H 𝓜 𝓖) (𝓜 .mem) (𝓡 .run) (tablesOf 𝓤 H 𝓜 (tables 𝓤 H 𝓜 𝓡 code.env))
     (cited 𝓤 H (IsPoolFit 𝓤 H (𝓖 .A) (𝓜 .mem) (𝓡 .run)) 𝓜 𝓡 code.env #is-pool-fit is-pool-fit-def.routine
     code.calls-pool-lent·is-pool-fit (is-pool-fit-thm.met 𝓤 H 𝓜 𝓖 𝓡))
-    (cited 𝓤 H (Least 𝓤 H (𝓖 .A) (𝓜 .mem) (𝓡 .run)) 𝓜 𝓡 code.env #least least-def.routine code.calls-pool-lent·least
-    (least-thm.met 𝓤 H 𝓜 𝓖 𝓡))
-    (cited 𝓤 H (FindString 𝓤 H (𝓖 .A) (𝓜 .mem) (𝓡 .run)) 𝓜 𝓡 code.env #find-string find-string-def.routine
-    code.calls-pool-lent·find-string (find-string-thm.met 𝓤 H 𝓜 𝓖 𝓡))
-    (cited 𝓤 H (AddBytes 𝓤 H (𝓖 .A) (𝓜 .mem) (𝓡 .run)) 𝓜 𝓡 code.env #add-bytes add-bytes-def.routine code.calls-pool-lent·add-bytes
-    (add-bytes-thm.met 𝓤 H 𝓜 𝓖 𝓡))
-    (cited 𝓤 H (IsNew 𝓤 H (𝓖 .A) (𝓜 .mem) (𝓡 .run)) 𝓜 𝓡 code.env #is-new is-new-def.routine code.calls-pool·is-new
-    (is-new-thm.met 𝓤 H 𝓜 𝓖 𝓡))
-    (cited 𝓤 H (PutEntry 𝓤 H (𝓖 .A) (𝓜 .mem) (𝓡 .run)) 𝓜 𝓡 code.env #put-entry put-entry-def.routine code.calls-pool-lent·put-entry
-    (put-entry-thm.met 𝓤 H 𝓜 𝓖 𝓡)))
+    (cited 𝓤 H (IsFine 𝓤 H (𝓖 .A) (𝓜 .mem) (𝓡 .run)) 𝓜 𝓡 code.env #is-fine is-fine-def.routine code.calls-pool-lent·is-fine
+    (is-fine-thm.met 𝓤 H 𝓜 𝓖 𝓡))
+    (cited 𝓤 H (AddToFit 𝓤 H (𝓖 .A) (𝓜 .mem) (𝓡 .run)) 𝓜 𝓡 code.env #add-to-fit-row add-to-fit-row-def.routine
+    code.calls-pool-lent·add-to-fit-row (add-to-fit-row-thm.met 𝓤 H 𝓜 𝓖 𝓡))
+    (cited 𝓤 H (RefusalOf 𝓤 H (𝓖 .A) (𝓜 .mem) (𝓡 .run)) 𝓜 𝓡 code.env #refusal-of refusal-of-def.routine
+    code.calls-pool-lent·refusal-of (refusal-of-thm.met 𝓤 H 𝓜 𝓖 𝓡)))
