@@ -6,7 +6,7 @@
 --     fine-fit                           where nothing is refused, the pool is fit
 --     settled-fine, settled-refused      a return: after the addition, or with a refusal
 -- Assumes nothing.
-use Prim.Native.Nat.{ℕ, _+_, _<_, _≤_, _^_}
+use Prim.Native.Nat.{ℕ, _<_, _≤_, _^_}
 use native.Mathlib.Omega.{arith}
 use mathlib.Core.Path.{_≡_, refl, sym, ap, _∙_}
 use mathlib.Core.Bool.{Bool, true, false}
@@ -20,7 +20,7 @@ use Rattle.utf8.specs.declared.Utf8Check.{Utf8Check}
 use Rattle.utf8.specs.declared.Utf8Check.the-variants as utf8
 use Rattle.pool_rows.specs.Rows.{indexOf, stringsOf, roomOf, byteRoom, entryRoom, runsTo, fitIn, fitPool}
 use Rattle.pool.specs.Pool.{onUtf8, placed, addedToFit, added}
-use Rattle.pool.specs.Pool.{isNew, entered, bytesAfter, AddsToFit, AddsString}
+use Rattle.pool.specs.Pool.{isNew, bytesAfter, AddsToFit, AddsString}
 use Rattle.pool_rows.specs.FitLaws.{room-within, fit-of}
 use Rattle.pool.specs.PoolLaws.{settled, adds-fine, placed-same, old-bytes, old-entries, new-entries}
 use Rattle.pool_rows.specs.declared.Counts.{Counts}

@@ -2,20 +2,20 @@
 -- `is_pool_fit`, for lifetimes that are made for it, and come back (`Shared.antt`); where nothing is refused they are given to
 -- `add_to_fit_row` for good.
 -- All that the proof knows of the four is that they meet their contracts; `Adds.antt` has what that comes to. Assumes nothing.
-use Rattle.pool_lent.proofs.Walk.{_≡_, refl, sym, ap, _∙_, ℕ, _<_, _^_, _≤_, List, [], _∷_, arith, length, set, URA, fullShare}
-use Rattle.pool_lent.proofs.Walk.{named, w32, w64, tyInt, tyBool, Val, vint, vbool, SProp, ent, emp, via, fst∗, snd∗, exE, id⊢}
+use Rattle.pool_lent.proofs.Walk.{_≡_, refl, sym, ap, _∙_, ℕ, List, [], _∷_, length, URA, fullShare}
+use Rattle.pool_lent.proofs.Walk.{named, tyBool, Val, vbool, SProp, ent, emp, via, fst∗, snd∗, exE, id⊢}
 use Rattle.pool_lent.proofs.Walk.{sep, Lft, GName, Share, ftrue, fat, flft, Fml, Memory, Routine, Heap, Calls, Loops, WpFn, Tables}
 use Rattle.pool_lent.proofs.Walk.{Atoms, sem, Fun, fact, givenOf, tables, tablesOf, Given, ‵, _⊛_, ⋆, _$_, _∵_, !, qed, by, move}
 use Rattle.pool_lent.proofs.Walk.{keep, split, join, rewrite, fsplit, fjoin, suffices, frame, done, drop, use1, raw, some, later}
-use Rattle.pool_lent.proofs.Walk.{use0, pick, await, use2, Item, atRet, mean, cut, feqL, whole, sub, look-in, agg, look, init}
-use Rattle.pool_lent.proofs.Walk.{forget, stop, hop, fld, from, load, of-opd, assigns, returns, enter, alloc1, alloc0, params1}
-use Rattle.pool_lent.proofs.Walk.{pass1, pass0, free1, free0, store, and-then, no-more, land, addr, first, skips, branches, exec, returns-within}
-use Rattle.pool_lent.proofs.Walk.{un, land-last, WpFn-mono, FmC, fmOf, owns, Is, shows, uint-makes, nothing-lawful, bool-lawful}
-use Rattle.pool_lent.proofs.Walk.{bool-makes, uint-lawful, u32, usize, unit, u8, bool, RefT, sliceVal, ShrSlice, Room, slice-vals}
+use Rattle.pool_lent.proofs.Walk.{pick, await, use2, Item, atRet, mean, cut, feqL, whole, sub, look-in, agg, look, init}
+use Rattle.pool_lent.proofs.Walk.{forget, stop, hop, fld, from, returns, enter, alloc1, alloc0, params1}
+use Rattle.pool_lent.proofs.Walk.{pass1, pass0, free1, free0, and-then, no-more, land, addr, first, skips, branches, exec, returns-within}
+use Rattle.pool_lent.proofs.Walk.{WpFn-mono, FmC, fmOf, owns, Is, shows, bool-lawful}
+use Rattle.pool_lent.proofs.Walk.{bool-makes, u8, bool, RefT, sliceVal, ShrSlice, Room, slice-vals}
 use Rattle.pool_lent.proofs.Walk.{shr-slice-tells, MutSlice, mut-slice-tells, shr-slice-copy, finally, plain, nothing, owned}
 use Rattle.pool_lent.proofs.Walk.{peeks, heard, only, Vals, onEntry, Meets, tripleOf, entered, cited, says, Stays, stay-none-slice}
 use Rattle.pool_lent.proofs.Walk.{stay-none, walkOf, goes-none-slice, goes-none, Walks, ends-at, walked, walk-meets, gave-slice}
-use Rattle.pool_lent.proofs.Walk.{goes-gave-slice, yes, calls-at, calls-at-last, ensured, lasts, Contract, Triple, lft-new}
+use Rattle.pool_lent.proofs.Walk.{goes-gave-slice, yes, calls-at, ensured, lasts, Contract, Triple, lft-new}
 use Rattle.pool_lent.proofs.Walk.{lft-end, Bool, true}
 use Rattle.pool_lent.proofs.Places.{local, member, sets}
 use denote.Struct.Laws as LL
