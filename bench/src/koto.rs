@@ -16,6 +16,7 @@ pub use lexer::{KotoLexer, LexedToken};
 use span::{Position, Span};
 use std::hint::black_box;
 use string_format_options::StringFormatOptions;
+use unicode_segmentation::UnicodeSegmentation;
 
 mod error {
     pub enum InternalError {
@@ -93,4 +94,27 @@ pub fn parse_all(formats: &[&[u8]]) -> usize {
         }
     }
     fine
+}
+
+/// How many clusters a text has
+pub fn clusters(text: &[u8]) -> usize {
+    std::str::from_utf8(text).expect("a well-formed input").graphemes(true).count()
+}
+
+/// A text in the middle of fills, as koto would count it: the count of bytes
+pub fn pad(text: &[u8], width: usize, fill: &str, out: &mut [u8]) -> usize {
+    let fills = width.saturating_sub(clusters(text));
+    let mut end = 0;
+    let mut put = |piece: &[u8]| {
+        out[end..end + piece.len()].copy_from_slice(piece);
+        end += piece.len();
+    };
+    for _ in 0..fills / 2 {
+        put(fill.as_bytes());
+    }
+    put(text);
+    for _ in 0..fills - fills / 2 {
+        put(fill.as_bytes());
+    }
+    end
 }

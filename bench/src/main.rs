@@ -5,7 +5,7 @@ mod inputs;
 mod stack;
 
 use clock::{Side, medians};
-use koto_lexer::{Counts, Edition, Entry, Given, Parsed, Pool, Scanned};
+use koto_lexer::{Alignment, Counts, Edition, Entry, Given, Padded, Padding, Parsed, Pool, Scanned};
 use std::hint::black_box;
 
 const MEBIBYTE: usize = 1 << 20;
@@ -23,6 +23,7 @@ fn main() {
     checks(&table);
     walks(&table);
     formats(&table);
+    paddings(&table);
     stacks(&table);
 }
 
@@ -183,6 +184,57 @@ fn long_formats(table: &[u32]) {
         speed(ours),
         speed(theirs),
         theirs / ours
+    );
+}
+
+fn pad(text: &[u8], width: usize, table: &[u32], buffer: &mut [u8]) -> usize {
+    let padding = Padding { alignment: Alignment::Center, width: Some(width as u32), fill: Some(b"-") };
+    match koto_lexer::pad(text, padding, table, 2, buffer) {
+        Padded::Length(len) => len,
+        refused => panic!("the text was refused: {refused:?}"),
+    }
+}
+
+/// A text that is counted and copied, and one that gets as many fills as it has bytes
+fn paddings(table: &[u32]) {
+    const BYTES: usize = 60_000;
+    println!(
+        "\npadding of 60,000 bytes   copied: library    rust  ratio   with 60,000 fills: library    rust  ratio   (MB/s)"
+    );
+    let (mut ours, mut theirs) = (vec![0; 2 * BYTES], vec![0; 2 * BYTES]);
+    for (kind, (name, _)) in inputs::KINDS.iter().enumerate() {
+        let text = inputs::input(kind, BYTES);
+        let clusters = koto_rust::clusters(&text);
+        let times = [0, clusters + BYTES].map(|width| {
+            let len = pad(&text, width, table, &mut ours);
+            assert_eq!(koto_rust::pad(&text, width, "-", &mut theirs), len);
+            assert_eq!(ours[..len], theirs[..len]);
+            medians(
+                [&mut || pad(&text, width, table, &mut ours), &mut || koto_rust::pad(&text, width, "-", &mut theirs)],
+                10,
+            )
+            .map(|seconds| BYTES as f64 / seconds / 1e6)
+        });
+        println!(
+            "{name:<18} {:>22.1} {:>7.1} {:>6.2} {:>27.1} {:>7.1} {:>6.2}",
+            times[0][0],
+            times[0][1],
+            times[0][0] / times[0][1],
+            times[1][0],
+            times[1][1],
+            times[1][0] / times[1][1]
+        );
+    }
+    let small = koto_lexer_small();
+    let text = b"idle_code";
+    let [full] = medians([&mut || pad(text, 20, table, &mut ours)], 2_000).map(|seconds| seconds * 1e9);
+    let [few, rust] =
+        medians([&mut || pad(text, 20, &small, &mut ours), &mut || koto_rust::pad(text, 20, "-", &mut theirs)], 2_000)
+            .map(|seconds| seconds * 1e9);
+    println!(
+        "nine bytes padded to 20, nanoseconds: library, full table {full:.0} (ratio {:.3}); library, small table {few:.0} (ratio {:.2}); rust {rust:.0}",
+        rust / full,
+        rust / few
     );
 }
 
