@@ -189,7 +189,7 @@ fn long_formats(table: &[u32]) {
 
 fn pad(text: &[u8], width: usize, table: &[u32], buffer: &mut [u8]) -> usize {
     let padding = Padding { alignment: Alignment::Center, width: Some(width as u32), fill: Some(b"-") };
-    match koto_lexer::pad(text, padding, table, 2, buffer) {
+    match koto_lexer::pad(text, padding, table, EDITION, buffer) {
         Padded::Length(len) => len,
         refused => panic!("the text was refused: {refused:?}"),
     }

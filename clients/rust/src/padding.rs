@@ -2,6 +2,7 @@
 
 use crate::formats::Alignment;
 use crate::raw;
+use crate::texts::Edition;
 
 /// How a text is padded: the alignment and the width may be those of [`crate::Options`], and the fill the bytes that their fill stands for
 #[derive(Clone, Copy, Debug, PartialEq, Eq)]
@@ -34,7 +35,7 @@ pub enum Padded {
 }
 
 /// Writes the padded text to the start of the buffer, by the cluster rules of edition 1 (without GB9c) or 2 (with it).
-pub fn pad(text: &[u8], padding: Padding, table: &[u32], edition: u32, buffer: &mut [u8]) -> Padded {
+pub fn pad(text: &[u8], padding: Padding, table: &[u32], edition: Edition, buffer: &mut [u8]) -> Padded {
     let (mut len, mut place) = (0, 0);
     let fill = padding.fill.unwrap_or_default();
     // SAFETY: the slices are lent for the call, the buffer to be written, and each answer word is a local.
@@ -49,7 +50,7 @@ pub fn pad(text: &[u8], padding: Padding, table: &[u32], edition: u32, buffer: &
             fill.len(),
             table.as_ptr(),
             table.len(),
-            edition,
+            edition.0,
             buffer.as_mut_ptr(),
             buffer.len(),
             &mut len,

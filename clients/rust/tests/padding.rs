@@ -10,7 +10,7 @@ const SPACES: Padding = Padding { alignment: Alignment::Default, width: None, fi
 /// The padded text, in a buffer of 64 bytes of which the rest must stay
 fn padded(text: &str, padding: Padding, edition: u32) -> String {
     let mut buffer = [b'~'; 64];
-    match pad(text.as_bytes(), padding, &full_table(), edition, &mut buffer) {
+    match pad(text.as_bytes(), padding, &full_table(), Edition(edition), &mut buffer) {
         Padded::Length(len) => {
             assert!(buffer[len..].iter().all(|&byte| byte == b'~'));
             String::from_utf8(buffer[..len].to_vec()).unwrap()
@@ -21,7 +21,7 @@ fn padded(text: &str, padding: Padding, edition: u32) -> String {
 
 fn refused(text: &[u8], padding: Padding, table: &[u32], edition: u32, room: usize) -> Padded {
     let mut buffer = vec![b'~'; room];
-    let answer = pad(text, padding, table, edition, &mut buffer);
+    let answer = pad(text, padding, table, Edition(edition), &mut buffer);
     assert!(buffer.iter().all(|&byte| byte == b'~'));
     answer
 }
@@ -68,7 +68,7 @@ fn the_options_of_a_parse_go_in() {
     let (mut bytes, mut entries) = ([0; 8], [Entry::default(); 2]);
     let mut pool = Pool { bytes: &mut bytes, entries: &mut entries, counts: Counts::default() };
     let format = "\u{B7}^7".as_bytes();
-    let Parsed::Read(options) = parse(format, &full_table(), &mut pool) else { panic!() };
+    let Parsed::Read(options) = parse(format, &full_table(), Edition::WITH_GB9C, &mut pool) else { panic!() };
     let fill = options.fill.map(|fill| &format[fill.place..fill.place + fill.len]);
     let padding = Padding { alignment: options.alignment, width: options.width, fill };
     assert_eq!(padded("idle", padding, 2), "\u{B7}idle\u{B7}\u{B7}");
