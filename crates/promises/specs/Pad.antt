@@ -4,17 +4,18 @@
 use Prim.Native.Nat.{ℕ, _+_, _<_, _≤_}
 use mathlib.Core.Path.{_≡_}
 use mathlib.Core.Bool.{Bool, true}
-use mathlib.Core.List.{List}
-use lib.ListN.{length}
+use mathlib.Core.List.{List, []}
+use lib.ListN.{length, getD}
 use Rattle.base.specs.Refusal.{none, tooLong, badTable, badUtf8, cutUtf8, badEdition, noSuchFormat, noRoom}
 use Rattle.utf8.specs.Chars.{chars, checkFrom}
 use Rattle.utf8.specs.declared.Utf8Check.the-variants as utf8
 use Rattle.property.specs.Table.{propertiesAt}
 use Rattle.fitness.specs.Fit.{tableCheck}
 use Rattle.fitness.specs.declared.TableCheck.the-variants.{Fit, BadTable}
-use Rattle.cluster_count.specs.Count.{clusterCount}
+use Rattle.cluster.specs.First.{breakAfter}
+use Rattle.cluster_count.specs.Count.{breaks, clusterCount, clustersOf, together}
 use Rattle.pool.specs.Pool.{written}
-use Rattle.fills.specs.Pad.{right, noWidth, widthMost, filled}
+use Rattle.fills.specs.Pad.{default, left, center, right, noWidth, widthMost, leading, trailing, filled}
 use Rattle.pad_input.specs.Check.{textMost, Short, Begun, Paddable}
 use Rattle.pad.specs.Call.{fillOf, numberOf, placeOf, lenOf}
 use Rattle.pad.specs.declared.Padded.{Padded}
@@ -22,6 +23,27 @@ use Rattle.promises.specs.Said.{Said, says}
 
 abbrev pub padSays : Padded → Said
 padSays r = says (numberOf r) (placeOf r)
+
+-- ---- what is counted, and where fills stand
+
+-- a text of code points cs has n clusters: cut at its breaks it falls into n parts, none of them empty, which together are the text; and it is
+-- cut at every place after which there is a break, and nowhere else
+pub record CountPromise (look : ℕ → ℕ) (edition : ℕ) (cs : List ℕ) (n : ℕ) : Type 0 where
+  pub as-many : length (clustersOf look edition cs) ≡ n
+  pub whole : together (clustersOf look edition cs) ≡ cs
+  pub some : (i : ℕ) → i < n → 0 < length (getD (clustersOf look edition cs) i [])
+  pub each-break :
+      (k : ℕ) → 0 < k → k ≤ length cs → breakAfter look edition cs k ≡ true
+      → (i : ℕ) × ((i < n) × (getD (breaks look edition cs) i 0 ≡ k))
+  pub no-other : (i : ℕ) → i < n → breakAfter look edition cs (getD (breaks look edition cs) i 0) ≡ true
+
+-- n fills, before the text and behind it
+pub record SidesPromise (n : ℕ) : Type 0 where
+  pub all : (alignment : ℕ) → leading alignment n + trailing alignment n ≡ n
+  pub default-is-left : leading default n ≡ leading left n
+  pub left-behind : (leading left n ≡ 0) × (trailing left n ≡ n)
+  pub right-before : (leading right n ≡ n) × (trailing right n ≡ 0)
+  pub odd-behind : (leading center n ≤ trailing center n) × (trailing center n ≤ leading center n + 1)
 
 -- a text of so many clusters lacks n fills: with them it reaches the width, and at or above it, and without one, it lacks none
 pub record Lacks (width clusters n : ℕ) : Type 0 where

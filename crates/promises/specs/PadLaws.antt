@@ -1,6 +1,9 @@
 -- The promise of `Pad`, proved, and that no second answer and no second buffer fit.
 --     pad-promise, pad-has-one-answer
+--     count-promise        what is counted are the clusters
+--     sides-promise        where the fills stand
 --     one-lack             no second number of fills fits
+--     length-fits          how many bytes are needed is a number of 64 bits
 --     alignment-numbers    an alignment's number is the one that a parse tells of it
 -- Assumes nothing.
 use Prim.Native.Nat.{ℕ, _+_, _<_, _≤_}
@@ -16,19 +19,44 @@ use Rattle.base.specs.PickLaws.{by-eq, split-lt, split-eq}
 use Rattle.format.specs.Options.{alignmentNumber}
 use Rattle.format.specs.declared.Alignment.the-variants as alignment
 use Rattle.pool.specs.Pool.{written}
+use Rattle.cluster_count.specs.Count.{clusterCount}
+use Rattle.cluster_count.specs.CountLaws.{each-break, no-other}
+use Rattle.cluster_count.specs.CutLaws.{cut-count, cut-all, cut-some}
 use Rattle.fills.specs.Pad.{default, left, center, right, noWidth, widthMost, isWidth, fills, filled}
-use Rattle.fills.specs.PadLaws.{no-fills}
-use Rattle.pad_input.specs.Check.{isFormat, padCheck, Paddable}
-use Rattle.pad_input.specs.CheckLaws.{long-text, fill-long, no-edition, unfit, bad-text, cut-text, bad-fill, cut-fill, not-one, no-format, is-fine}
+use Rattle.fills.specs.PadLaws.{all-fills, default-left, left-behind, right-before, odd-right, no-fills, length-padded}
+use Rattle.pad_input.specs.Check.{textMost, isFormat, padCheck}
+use Rattle.pad_input.specs.CheckLaws.{long-text, fill-long, no-edition, unfit, bad-text, cut-text, bad-fill, cut-fill, not-one, no-format, is-fine, width-of}
 use Rattle.pad_input.specs.declared.Check.the-variants as check
 use Rattle.pad_input.specs.declared.Refusal.{Refusal}
 use Rattle.pad_input.specs.declared.Refusal.the-variants.{NoSuchFormat}
-use Rattle.pad.specs.Call.{Pads, padAnswer, paddedText, lenOf}
-use Rattle.pad.specs.CallLaws.{is-refused, is-short, is-padded, one-answer, kept}
+use Rattle.pad.specs.Call.{fillOf, Pads, paddedText, lenOf}
+use Rattle.pad.specs.CallLaws.{fits, is-refused, is-short, is-padded, one-answer, kept}
 use Rattle.pad.specs.declared.Padded.{Padded}
 use Rattle.pad.specs.declared.Padded.the-variants.{Length, Refused, NoRoom}
 use Rattle.promises.specs.Said.{says}
-use Rattle.promises.specs.Pad.{padSays, Lacks, clustersIn, Asked, Taken, between, PadPromise}
+use Rattle.promises.specs.Pad.{padSays, CountPromise, SidesPromise, Lacks, clustersIn, Asked, Taken, between, PadPromise}
+
+-- ---- what is counted, and where fills stand
+
+pub count-promise : (look : ℕ → ℕ) (edition : ℕ) (cs : List ℕ) → CountPromise look edition cs (clusterCount look edition cs)
+count-promise look edition cs =
+    record {
+      as-many = cut-count look edition cs;
+      whole = cut-all look edition cs;
+      some = cut-some look edition cs;
+      each-break = each-break look edition cs;
+      no-other = λ i h. no-other look edition cs i h .1 .1;
+    }
+
+pub sides-promise : (n : ℕ) → SidesPromise n
+sides-promise n =
+    record {
+      all = λ alignment. all-fills alignment n;
+      default-is-left = default-left n;
+      left-behind = left-behind n;
+      right-before = right-before n;
+      odd-behind = odd-right n;
+    }
 
 -- ---- how many fills a text lacks
 
@@ -68,6 +96,14 @@ module _ (text : List ℕ) (alignment width : ℕ) (given : Bool) (fill table : 
   text-is : (n : ℕ) → Lacks width (clustersIn text alignment width given fill table edition text) n
       → paddedText text alignment width given fill table edition ≡ between text alignment width given fill table edition n
   text-is n l = ap (between text alignment width given fill table edition) (lacks-is width _ n l)
+
+  pub length-fits : Taken text alignment width given fill table edition
+      → length (paddedText text alignment width given fill table edition) < 18446744073709551616
+  length-fits t = rw (length-padded alignment width (fillOf given fill) text _) (fits width _ (fillOf given fill) text (width-of alignment width (t .format)) (go given (t .begun .short .fill-short)) (t .begun .short .text-short))
+    where
+      go : (b : Bool) → (b ≡ true → length fill ≤ textMost) → length (fillOf b fill) ≤ textMost
+      go true f = f refl
+      go false f = omega arith
 
   module _ (old new : List ℕ) (r : Padded) (p : Pads text alignment width given fill table edition old new r) where
     says-refused : (x : Refusal) → padCheck text alignment width given fill table edition ≡ check.Refused x → padSays r ≡ padSays (Refused x)
