@@ -69,15 +69,15 @@ pub enum Given {
     BadRecord(usize),
 }
 
-/// What `peek` answers. A refusal leaves the cursor.
+/// What `peek` and `look_ahead` answer. A refusal leaves the cursor.
 #[derive(Clone, Copy, Debug, PartialEq, Eq)]
 pub enum Peeked {
     Token(Record),
-    /// No token n is queued.
+    /// There is no token n, or `peek` has not queued it.
     Nothing,
     /// Refusal 8
     BadState,
-    /// Refusal 6
+    /// Refusal 6, of `peek` alone: `look_ahead` never answers it.
     PeekTooFar,
     /// Refusal 7
     QueueFull,
@@ -142,8 +142,8 @@ impl Status {
     }
 }
 
-// `next` and `peek` are inlined, so that the record is read where the library wrote it. Copied once more it would be loaded in other parts
-// than it was stored in, which a processor waits for.
+// `next`, `peek` and `look_ahead` are inlined, so that the record is read where the library wrote it. Copied once more it would be loaded in
+// other parts than it was stored in, which a processor waits for.
 
 /// Hands out the next token.
 #[inline]
@@ -175,11 +175,22 @@ pub fn next(list: &[u32], cursor: &mut Cursor) -> Given {
 /// Shows queued token n, and queues one more before, as koto's `peek` does.
 #[inline]
 pub fn peek(list: &[u32], cursor: &mut Cursor, n: usize) -> Peeked {
+    look(raw::koto_peek, list, cursor, n)
+}
+
+/// Shows the token that the (n+1)th following `next` hands out, and queues what lacks for it, as the comment of koto's `peek` has it.
+#[inline]
+pub fn look_ahead(list: &[u32], cursor: &mut Cursor, n: usize) -> Peeked {
+    look(raw::koto_look_ahead, list, cursor, n)
+}
+
+#[inline]
+fn look(call: raw::Look, list: &[u32], cursor: &mut Cursor, n: usize) -> Peeked {
     let (mut shown, mut record, mut place) = (0, Record::default(), 0);
     let status = cursor.status.number();
     // SAFETY: as in `next`
     let refused = unsafe {
-        raw::koto_peek(
+        call(
             list.as_ptr(),
             list.len(),
             cursor.taken,

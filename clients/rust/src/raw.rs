@@ -48,6 +48,20 @@ pub const NONE: u64 = u64::MAX;
 pub const END: u32 = 0;
 pub const STUCK: u32 = 1;
 
+/// A call that looks ahead: [`koto_peek`] or [`koto_look_ahead`]
+pub type Look = unsafe extern "C" fn(
+    list: *const u32,
+    list_len: usize,
+    taken: usize,
+    queued: *mut usize,
+    count: usize,
+    status: u32,
+    n: usize,
+    shown: *mut u32,
+    record: *mut Record,
+    place: *mut usize,
+) -> u32;
+
 extern "C" {
     pub fn koto_read_char(bytes: *const u8, bytes_len: usize, at: usize, code: *mut u32, len: *mut usize) -> u32;
     pub fn koto_check_utf8(bytes: *const u8, bytes_len: usize, place: *mut usize) -> u32;
@@ -93,6 +107,18 @@ extern "C" {
         place: *mut usize,
     ) -> u32;
     pub fn koto_peek(
+        list: *const u32,
+        list_len: usize,
+        taken: usize,
+        queued: *mut usize,
+        count: usize,
+        status: u32,
+        n: usize,
+        shown: *mut u32,
+        record: *mut Record,
+        place: *mut usize,
+    ) -> u32;
+    pub fn koto_look_ahead(
         list: *const u32,
         list_len: usize,
         taken: usize,

@@ -113,6 +113,69 @@ fn peek_as_koto_does() {
 }
 
 #[test]
+fn look_ahead_as_the_comment_says() {
+    let mut list = [0; 64];
+    let mut cursor = scan(b"a b", &full_table(), WITH, &mut list).cursor().unwrap();
+    // On an empty queue a look at 1 shows the second token, and queues both.
+    assert!(matches!(look_ahead(&list, &mut cursor, 1), Peeked::Token(Record { kind: 1, start: 1, .. })));
+    assert_eq!((cursor.taken, cursor.queued), (0, 2));
+    // What is queued is shown without another.
+    assert!(matches!(look_ahead(&list, &mut cursor, 0), Peeked::Token(Record { kind: 6, start: 0, .. })));
+    assert_eq!(cursor.queued, 2);
+    // Nothing stands past the end, however far that is, and no more is queued than is left.
+    for n in [3, 4, QUEUE_MOST, usize::MAX] {
+        assert_eq!((look_ahead(&list, &mut cursor, n), cursor.queued), (Peeked::Nothing, 3));
+    }
+    assert!(matches!(next(&list, &mut cursor), Given::Token(Record { kind: 6, start: 0, .. })));
+    assert_eq!((cursor.taken, cursor.queued), (1, 2));
+    assert!(matches!(look_ahead(&list, &mut cursor, 1), Peeked::Token(Record { kind: 6, start: 2, .. })));
+    assert_eq!(look_ahead(&list, &mut cursor, 2), Peeked::Nothing);
+}
+
+#[test]
+fn a_look_shows_what_next_hands_out() {
+    let source = b"'{n:}' #-#\n";
+    let mut list = vec![0; room_for(source.len())];
+    let start = scan(source, &full_table(), WITH, &mut list).cursor().unwrap();
+    let nexts =
+        |mut cursor: Cursor, count: usize| -> Vec<Given> { (0..count).map(|_| next(&list, &mut cursor)).collect() };
+    for taken in 0..=start.count {
+        for n in 0..start.count + 2 {
+            let before = Cursor { taken, ..start };
+            let mut cursor = before;
+            let shown = look_ahead(&list, &mut cursor, n);
+            let wanted = match nexts(before, n + 1)[n] {
+                Given::Token(record) => Peeked::Token(record),
+                Given::Nothing => Peeked::Nothing,
+                refused => panic!("{refused:?}"),
+            };
+            assert_eq!(shown, wanted);
+            assert_eq!(cursor, Cursor { queued: (n + 1).min(start.count - taken), ..before });
+            // `next` is the same after it, and after a peek behind it.
+            assert_eq!(nexts(cursor, 12), nexts(before, 12));
+            peek(&list, &mut cursor, 0);
+            assert_eq!(nexts(cursor, 12), nexts(before, 12));
+        }
+    }
+}
+
+#[test]
+fn a_look_fills_the_queue_at_stuck() {
+    let mut list = [0; 8];
+    let start = scan(b"\r", &full_table(), WITH, &mut list).cursor().unwrap();
+    let mut cursor = start;
+    assert_eq!((look_ahead(&list, &mut cursor, QUEUE_MOST), cursor), (Peeked::QueueFull, start));
+    assert_eq!((look_ahead(&list, &mut cursor, usize::MAX), cursor), (Peeked::QueueFull, start));
+    assert!(matches!(look_ahead(&list, &mut cursor, QUEUE_MOST - 1), Peeked::Token(Record { kind: 0, .. })));
+    assert_eq!(cursor.queued, QUEUE_MOST);
+    assert_eq!(look_ahead(&list, &mut cursor, QUEUE_MOST), Peeked::QueueFull);
+    assert!(matches!(look_ahead(&list, &mut cursor, 0), Peeked::Token(_)));
+    assert_eq!(peek(&list, &mut cursor, 0), Peeked::QueueFull);
+    assert!(matches!(next(&list, &mut cursor), Given::Token(_)));
+    assert_eq!((cursor.taken, cursor.queued), (0, QUEUE_MOST - 1));
+}
+
+#[test]
 fn refusals_of_a_cursor() {
     let mut list = [0; 64];
     let fit = scan(b"a b", &full_table(), WITH, &mut list).cursor().unwrap();
@@ -126,6 +189,7 @@ fn refusals_of_a_cursor() {
         let mut cursor = unfit;
         assert_eq!(next(&list, &mut cursor), Given::BadState);
         assert_eq!(peek(&list, &mut cursor, 0), Peeked::BadState);
+        assert_eq!(look_ahead(&list, &mut cursor, 0), Peeked::BadState);
         assert_eq!(cursor, unfit);
     }
     let mut cursor = fit;
@@ -135,7 +199,10 @@ fn refusals_of_a_cursor() {
     list[0] = 81;
     assert_eq!(next(&list, &mut cursor), Given::BadRecord(0));
     assert_eq!(peek(&list, &mut cursor, 0), Peeked::BadRecord(0));
+    assert_eq!(look_ahead(&list, &mut cursor, 0), Peeked::BadRecord(0));
     assert_eq!(cursor, fit);
+    // A look past a record that may not be shown does not show it.
+    assert!(matches!(look_ahead(&list, &mut cursor, 1), Peeked::Token(Record { kind: 1, start: 1, .. })));
 }
 
 #[test]
