@@ -174,11 +174,20 @@ impl Library {
 
     /// shown, the record, place, and the cursor after it
     pub fn peek(&mut self, cursor: Cursor, n: usize) -> Said<(u32, Record, usize, Cursor)> {
+        self.look(raw::koto_peek, cursor, n)
+    }
+
+    /// as of `peek`
+    pub fn look_ahead(&mut self, cursor: Cursor, n: usize) -> Said<(u32, Record, usize, Cursor)> {
+        self.look(raw::koto_look_ahead, cursor, n)
+    }
+
+    fn look(&mut self, call: raw::Look, cursor: Cursor, n: usize) -> Said<(u32, Record, usize, Cursor)> {
         let (list, mut said) = (self.list.get(), Answers::new());
         self.record.fill(&[Record { kind: 7, ..Record::default() }]);
         unsafe { *said.size(1) = cursor.queued };
         let number = unsafe {
-            raw::koto_peek(
+            call(
                 list.as_ptr(),
                 list.len(),
                 cursor.taken,

@@ -1,4 +1,4 @@
-//! Cursors and lists of any kind, fit or not, against document 01's "Look-ahead", written here once more.
+//! Cursors and lists of any kind, fit or not, against document 01's "Look-ahead" and document 02's C-1, written here once more.
 
 use crate::Run;
 use crate::calls::Cursor;
@@ -8,6 +8,9 @@ use koto_lexer::raw::Record;
 const QUEUE_MOST: usize = 65_535;
 
 type Answer = (u32, (u32, Record, usize, Cursor));
+
+/// The calls over a list that has more records than may be queued
+const LONG: usize = 300;
 
 pub fn compare(run: &mut Run, dice: &mut Dice, count: usize) {
     for _ in 0..count {
@@ -23,18 +26,35 @@ pub fn compare(run: &mut Run, dice: &mut Dice, count: usize) {
             dice.below(9),
             usize::MAX,
         ][dice.below(7)];
-        let (name, said, wanted) = if dice.below(2) == 0 {
-            ("next", run.library.next(cursor), next(&list, cursor))
-        } else {
-            ("peek", run.library.peek(cursor, n), peek(&list, cursor, n))
-        };
-        let input: Vec<u8> = list.iter().flat_map(|word| word.to_le_bytes()).collect();
-        run.tally.note(name, said.number, &(said.number, said.answer), &wanted, &input);
-        if !said.whole || run.library.list.get() != list {
-            run.tally.spoiled(name, &input);
-        }
+        one(run, dice, &list, cursor, n);
     }
-    println!("cursors: {count}");
+    let list: Vec<u32> = (0..8 * (QUEUE_MOST + 9)).map(|i| word(dice, i)).collect();
+    run.library.list.fill(&list);
+    for _ in 0..LONG {
+        let cursor = Cursor {
+            taken: dice.below(6),
+            queued: if dice.below(3) == 0 { QUEUE_MOST - dice.below(4) } else { dice.below(5) },
+            count: QUEUE_MOST - 2 + dice.below(12),
+            status: dice.below(2) as u32,
+        };
+        let n = if dice.below(8) == 0 { usize::MAX } else { QUEUE_MOST - 4 + dice.below(8) };
+        one(run, dice, &list, cursor, n);
+    }
+    println!("cursors: {}", count + LONG);
+}
+
+/// A call of one of the three
+fn one(run: &mut Run, dice: &mut Dice, list: &[u32], cursor: Cursor, n: usize) {
+    let (name, said, wanted) = match dice.below(3) {
+        0 => ("next", run.library.next(cursor), next(list, cursor)),
+        1 => ("peek", run.library.peek(cursor, n), peek(list, cursor, n)),
+        _ => ("look_ahead", run.library.look_ahead(cursor, n), look_ahead(list, cursor, n)),
+    };
+    let input: Vec<u8> = list.iter().flat_map(|word| word.to_le_bytes()).collect();
+    run.tally.note(name, said.number, &(said.number, said.answer), &wanted, &input);
+    if !said.whole || run.library.list.get() != list {
+        run.tally.spoiled(name, &input);
+    }
 }
 
 /// A word of a list: now and then no scan would write it
@@ -113,8 +133,37 @@ fn next(list: &[u32], c: Cursor) -> Answer {
     let Some(record) = record(list, i) else {
         return refused(9, i, c);
     };
+    (0, (1, record, 0, moved_on(c)))
+}
+
+/// The cursor after its next token
+fn moved_on(c: Cursor) -> Cursor {
     let taken = if c.status == 1 { (c.taken + 1).min(c.count - 1) } else { c.taken + 1 };
-    (0, (1, record, 0, Cursor { taken, queued: c.queued.saturating_sub(1), ..c }))
+    Cursor { taken, queued: c.queued.saturating_sub(1), ..c }
+}
+
+/// A copy of the cursor goes on token by token, whether or not each may be shown, and each would be queued: to the one that n others stand before,
+/// to the end, or to one too many.
+fn look_ahead(list: &[u32], c: Cursor, n: usize) -> Answer {
+    if is_unfit(list.len() / 8, c) {
+        return refused(8, 0, c);
+    }
+    let (mut copy, mut passed) = (c, 0);
+    loop {
+        let Some(i) = place(copy, 0) else {
+            return refused(0, 0, Cursor { queued: c.queued.max(passed), ..c });
+        };
+        if passed == QUEUE_MOST {
+            return refused(7, 0, c);
+        }
+        if passed == n {
+            return match record(list, i) {
+                None => refused(9, i, c),
+                Some(record) => (0, (1, record, 0, Cursor { queued: c.queued.max(n + 1), ..c })),
+            };
+        }
+        (copy, passed) = (moved_on(copy), passed + 1);
+    }
 }
 
 fn peek(list: &[u32], c: Cursor, n: usize) -> Answer {

@@ -115,19 +115,29 @@ fn record_of(record: answers::Record) -> Record {
     Record { kind, detail, start, end, start_line, start_column, end_line, end_column, indent }
 }
 
-/// A place to look at is one that may be queued, or a little further.
-fn some_call(dice: &mut Dice, peeks: &mut usize) -> Call {
+/// A place to look at is one that may be queued, `queued` being what is queued at most, or a little further; a look ahead now and then goes so
+/// far that a lexer that is stuck has just room for it in its queue, or none.
+fn some_call(dice: &mut Dice, queued: &mut usize) -> Call {
     if dice.below(3) == 0 {
         return Call::Next;
     }
-    *peeks += 1;
-    Call::Peek(if dice.below(4) == 0 { dice.below(*peeks + 3) } else { dice.below(*peeks) })
+    let n = if dice.below(4) == 0 { dice.below(*queued + 4) } else { dice.below(*queued + 1) };
+    if dice.below(2) == 0 {
+        *queued += 1;
+        return Call::Peek(n);
+    }
+    if dice.below(200) == 0 {
+        return Call::LookAhead([65_533, 65_534, 65_535, usize::MAX][dice.below(4)]);
+    }
+    *queued = (*queued).max(n + 1);
+    Call::LookAhead(n)
 }
 
-/// Some calls of `next` and `peek` over the list of a scan, against koto's
+/// Some calls of `next`, `peek` and `look_ahead` over the list of a scan, against koto's. Koto has no `look_ahead`, but it has the tokens that
+/// follow, which its judge counts.
 fn walk(run: &mut Run, source: &[u8], start: Cursor, host: &Host, dice: &mut Dice) {
-    let mut peeks = 0;
-    let calls: Vec<Call> = (0..dice.below(16)).map(|_| some_call(dice, &mut peeks)).collect();
+    let mut at_most = 0;
+    let calls: Vec<Call> = (0..dice.below(16)).map(|_| some_call(dice, &mut at_most)).collect();
     let text = std::str::from_utf8(source).expect("a source that was scanned");
     let (shown, queued) = (host.judge.walk)(text, &calls);
     let list = run.library.list.get().to_vec();
@@ -136,6 +146,7 @@ fn walk(run: &mut Run, source: &[u8], start: Cursor, host: &Host, dice: &mut Dic
         let (name, said) = match call {
             Call::Next => ("next", run.library.next(cursor)),
             Call::Peek(n) => ("peek", run.library.peek(cursor, *n)),
+            Call::LookAhead(n) => ("look_ahead", run.library.look_ahead(cursor, *n)),
         };
         let (is_shown, record, place, after) = said.answer;
         let wanted = match shown {

@@ -4,7 +4,7 @@ use std::collections::{BTreeMap, HashSet};
 use std::hash::{DefaultHasher, Hash, Hasher};
 
 /// Each call, and the answers that it must have given at least once
-const WANTED: [(&str, &[u32]); 10] = [
+const WANTED: [(&str, &[u32]); 11] = [
     ("read_char", &[0, 3, 15]),
     ("check_utf8", &[0, 3, 15]),
     ("check_table", &[0, 2]),
@@ -13,6 +13,7 @@ const WANTED: [(&str, &[u32]); 10] = [
     ("scan", &[0, 1, 2, 3, 4, 5, 15, 17]),
     ("next", &[0, 8, 9]),
     ("peek", &[0, 6, 7, 8, 9]),
+    ("look_ahead", &[0, 7, 8, 9]),
     ("add_string", &[0, 3, 8, 13, 15]),
     ("parse", &[0, 1, 2, 3, 8, 10, 11, 12, 13, 15, 17]),
 ];

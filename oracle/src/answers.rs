@@ -30,6 +30,8 @@ pub struct Scan {
 pub enum Call {
     Next,
     Peek(usize),
+    /// Not koto's: what the comment above its `peek` says
+    LookAhead(usize),
 }
 
 pub enum Shown {

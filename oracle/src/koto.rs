@@ -141,6 +141,18 @@ fn answer(lexer: &mut KotoLexer, call: Call) -> Shown {
             }
             lexer.peek(n).cloned()
         }
+        Call::LookAhead(n) => {
+            // The tokens up to that one, as far as there are any; at a lexer that is stuck no more than one too many.
+            let needed = lexer.clone().take(n.saturating_add(1)).take(QUEUE + 1).count();
+            if needed > QUEUE {
+                return Shown::Refused(7);
+            }
+            // A look just behind the queue queues one.
+            while lexer.queued() < needed {
+                lexer.peek(lexer.queued());
+            }
+            lexer.clone().nth(n)
+        }
     };
     lexed.map_or(Shown::Nothing, |lexed| Shown::Record(record(&lexed)))
 }

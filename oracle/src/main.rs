@@ -295,13 +295,14 @@ fn walk(asked: &Asked, source: &[u8], calls: &str) -> String {
     out
 }
 
-/// `n`, `p3`, or one of these with `*TIMES`
+/// `n`, `p3`, `l3`, or one of these with `*TIMES`
 fn some_calls(word: &str) -> Vec<Call> {
     let (call, times) = word.split_once('*').unwrap_or((word, "1"));
-    let call = match call.strip_prefix('p') {
-        Some(n) => Call::Peek(number(n)),
-        None if call == "n" => Call::Next,
-        None => fail("a call is n or p with a number"),
+    let call = match call.split_at_checked(1) {
+        Some(("n", "")) => Call::Next,
+        Some(("p", n)) => Call::Peek(number(n)),
+        Some(("l", n)) => Call::LookAhead(number(n)),
+        _ => fail("a call is n, or p or l with a number"),
     };
     vec![call; number(times)]
 }
