@@ -93,16 +93,16 @@ looked-has-one-answer p q = (
   p .place-is ∙ sym (q .place-is),
 )
 
-pub koto-peek-has-one-answer : {list words words′ : List ℕ}
-    {taken queued count status n newQueued shown place r newQueued′ shown′ place′ r′ : ℕ}
+pub koto-peek-has-one-answer : (list : List ℕ) (taken queued count status n : ℕ) {words words′ : List ℕ}
+    {newQueued shown place r newQueued′ shown′ place′ r′ : ℕ}
     → PeekIs list taken queued count status n newQueued shown words place r
     → PeekIs list taken queued count status n newQueued′ shown′ words′ place′ r′
     → (r ≡ r′) × (newQueued ≡ newQueued′) × (shown ≡ shown′) × (words ≡ words′) × (place ≡ place′)
-koto-peek-has-one-answer p q = looked-has-one-answer p q
+koto-peek-has-one-answer list taken queued count status n p q = looked-has-one-answer p q
 
-pub koto-look-ahead-has-one-answer : {list words words′ : List ℕ}
-    {taken queued count status n newQueued shown place r newQueued′ shown′ place′ r′ : ℕ}
+pub koto-look-ahead-has-one-answer : (list : List ℕ) (taken queued count status n : ℕ) {words words′ : List ℕ}
+    {newQueued shown place r newQueued′ shown′ place′ r′ : ℕ}
     → LookAheadIs list taken queued count status n newQueued shown words place r
     → LookAheadIs list taken queued count status n newQueued′ shown′ words′ place′ r′
     → (r ≡ r′) × (newQueued ≡ newQueued′) × (shown ≡ shown′) × (words ≡ words′) × (place ≡ place′)
-koto-look-ahead-has-one-answer p q = looked-has-one-answer p q
+koto-look-ahead-has-one-answer list taken queued count status n p q = looked-has-one-answer p q

@@ -180,5 +180,5 @@ pub never-full : (source table : List ℕ) (edition n : ℕ) → length source �
     → mostRecords (length source) ≤ n → numberOf (scanned source table edition n) ≡ listFull → ⊥
 unfolding scanned
 never-full source table edition n h k fit w room e =
-    has-room source n (readingOf source table edition) (reading-is-whole source table edition edition h w (fit-of table fit)) room
+    has-room source n (readingOf source table edition) (reading-is-whole source table edition h w (fit-of table fit)) room
     (rw (is-fine sourceMost source table edition (record { short = h; known = k; fit = fit; well = w })) at e)

@@ -29,7 +29,7 @@ use Rattle.queue.specs.Calls.{peekedToken, peekedCursor, next, call, afterCalls
 use Rattle.queue.specs.LookLaws.{same-nexts, look-fits, look-token}
 use Rattle.promises.specs.Lookahead.{Unfit, peekedSays}
 use Rattle.promises.specs.LookaheadLaws.{unfit-is, fit-is}
-use Rattle.promises.specs.Look.{LookAheadEnsures, Lacks, nothing, at-stuck, at-end, past-end, LookAheadPromise}
+use Rattle.promises.specs.Look.{LookAheadEnsures, Lacks, nothing, at-stuck, at-end, past-end, nextsOf, LookAheadPromise}
 
 -- how many are queued, as the document says it and as the definition computes it
 lacks-is : (c : Cursor) (n m : ℕ) → Lacks c n m → queuedFor c n ≡ m
@@ -93,14 +93,13 @@ module _ (list : List ℕ) (c : Cursor) (n : ℕ) where
 
 pub look-ahead-promise : (list : List ℕ) (c : Cursor) (n : ℕ) (r : Peeked) → LookAheadEnsures list c n r → LookAheadPromise list c n r
 look-ahead-promise list c n r e =
-    let told : {x : Peeked} → lookAheadOf (room list) (shownAt list) c n ≡ x → r ≡ x = λ q. e ∙ q in
     record {
-      unfit = λ u. ap peekedSays (told (sym (look-unfit (room list) (shownAt list) c n (unfit-is list c u))));
-      full = λ u m l h. ap peekedSays (told (is-full list c n (fit-is list c u) m l h));
-      nothing-there = λ u m l h k. told (is-seen list c n (fit-is list c u) m l h (see-nothing (shownAt list) c n refl k));
+      unfit = λ u. ap peekedSays (e ∙ sym (look-unfit (room list) (shownAt list) c n (unfit-is list c u)));
+      full = λ u m l h. ap peekedSays (e ∙ is-full list c n (fit-is list c u) m l h);
+      nothing-there = λ u m l h k. e ∙ is-seen list c n (fit-is list c u) m l h (see-nothing (shownAt list) c n refl k);
       bad-record = λ u m l h k t.
-          ap peekedSays (told (is-seen list c n (fit-is list c u) m l h (see-bad (shownAt list) c n refl k refl (shown-unfit list (ahead c n) t))));
-      shown = λ u m l h k t. told (is-seen list c n (fit-is list c u) m l h (see-token (shownAt list) c n refl k refl (shown-fit list (ahead c n) t)));
+          ap peekedSays (e ∙ is-seen list c n (fit-is list c u) m l h (see-bad (shownAt list) c n refl k refl (shown-unfit list (ahead c n) t)));
+      shown = λ u m l h k t. e ∙ is-seen list c n (fit-is list c u) m l h (see-token (shownAt list) c n refl k refl (shown-fit list (ahead c n) t));
       never-too-far = λ z. never-far list c n (ap ofPeek.numberOf (sym e) ∙ z);
       fit-after = λ z. subst (λ (x : Peeked). isFit (room list) (peekedCursor c x) ≡ true) (sym e) (after-fits list c n (ap ofPeek.numberOf (sym e) ∙ z));
       same-next = λ z m.
@@ -109,8 +108,8 @@ look-ahead-promise list c n r e =
           let w = look-fits (room list) (shownAt list) c n f y in
           let s = same-nexts (room list) (shownAt list) m c (queuedFor c n) f (w .0) in
           let to : peekedCursor c r ≡ queueing c (queuedFor c n) = ap (peekedCursor c) e ∙ w .1 in (
-            ap (λ (d : Cursor). call (room list) (shownAt list) (afterCalls (room list) (shownAt list) d _) next .number) to ∙ s .number,
-            ap (λ (d : Cursor). call (room list) (shownAt list) (afterCalls (room list) (shownAt list) d _) next .token) to ∙ s .token,
+            ap (λ (d : Cursor). call (room list) (shownAt list) (afterCalls (room list) (shownAt list) d (nextsOf m)) next .number) to ∙ s .number,
+            ap (λ (d : Cursor). call (room list) (shownAt list) (afterCalls (room list) (shownAt list) d (nextsOf m)) next .token) to ∙ s .token,
           );
       shows-next = λ z u.
           let y = ap ofPeek.numberOf (sym e) ∙ z in ap peekedToken e ∙ look-token (room list) (shownAt list) c n (unrefused-fit list c n y) y u;

@@ -296,12 +296,12 @@ module _ (old : List ℕ) (rows : List Row) (status : Status) (h : length rows �
 whole-shown : (source table : List ℕ) (edition : ℕ) (room n : ℕ) (stop : Stop) → ReadWhole source table edition room n stop → (i : ℕ) (d : Row)
     → i < length (readingOf source table edition .rows) → rowFits (getD (readingOf source table edition .rows) i d) ≡ true
 whole-shown source table edition room n stop w =
-    reading-shown source table edition edition (property.fit-of table (w .readable .fit)) startState
+    reading-shown source table edition (property.fit-of table (w .readable .fit)) startState
     (start-ok source (w .readable .short) (w .readable .well))
 
 module _ (source table : List ℕ) (edition : ℕ) (old new : List ℕ) where
   abbrev stream : Stream
-  stream = rustStream source table edition edition
+  stream = rustStream source table edition
 
   -- from what was read whole and written
   from-whole : (n : ℕ) (stop : Stop) (status : Status) (c : Cursor) → ReadWhole source table edition (room old) n stop
@@ -321,10 +321,10 @@ module _ (source table : List ℕ) (edition : ℕ) (old new : List ℕ) where
   after-a-scan (scanned.End n b) p c e =
       let w = end-whole source table edition old new n b p in
       from-whole n ended End c (w .0) (w .1) e (λ s. absurd (let z : _≡_ {A = ℕ} 0 1 = cc in omega arith))
-      (stream-promise source table edition edition (w .0 .readable) .at-end (w .0 .stops))
+      (stream-promise source table edition (w .0 .readable) .at-end (w .0 .stops))
   after-a-scan (scanned.Stuck n b) p c e =
       let w = stuck-whole source table edition old new n b p in
-      from-whole n stuck Stuck c (w .0) (w .1) e (λ s. refl) (stream-promise source table edition edition (w .0 .readable) .at-stuck (w .0 .stops))
+      from-whole n stuck Stuck c (w .0) (w .1) e (λ s. refl) (stream-promise source table edition (w .0 .readable) .at-stuck (w .0 .stops))
   after-a-scan (scanned.Refused x) p c e = absurd e
   after-a-scan (scanned.ListFull n b) p c e = absurd e
   after-a-scan (scanned.ModesFull n b) p c e = absurd e

@@ -16,8 +16,8 @@ use lib.ListN.{length}
 use borrow.Author.Tests.{lt-ltb, le-ltb, lt-leb, ne-eqb}
 use Rattle.base.specs.Refusal.{none}
 use Rattle.base.specs.PickLaws.{by-eq, split-lt, split-eq}
-use Rattle.format.specs.Options.{alignmentNumber}
-use Rattle.format.specs.declared.Alignment.the-variants as alignment
+use Rattle.format_options.specs.Options.{alignmentNumber}
+use Rattle.format_options.specs.declared.Alignment.the-variants as alignment
 use Rattle.pool.specs.Pool.{written}
 use Rattle.cluster_count.specs.Count.{clusterCount}
 use Rattle.cluster_count.specs.CountLaws.{each-break, no-other}

@@ -14,7 +14,7 @@ use Rattle.input.specs.Input.{inputCheck}
 use Rattle.input.specs.InputLaws.{is-long, is-none, is-table, is-bad, is-cut, is-fine, fine-of, only-bad, only-cut}
 use Rattle.input.specs.Input as input
 use Rattle.input.specs.declared.Refusal.{Refusal}
-use Rattle.input.specs.declared.Refusal.the-variants as refusal
+use Rattle.input.specs.declared.Refusal.the-variants as early
 use Rattle.input.specs.declared.Input.{Input}
 use Rattle.input.specs.declared.Input.the-variants.{Fine, Refused}
 use Rattle.pool_rows.specs.Rows.{fitPool}
@@ -33,18 +33,18 @@ use Rattle.promises.specs.Parse.{parseSays, Parsable, ParsePromise}
 
 -- a refusal keeps its number and place
 refused-number : (x : Refusal) → numberOf (refusedAs x) ≡ input.numberOf x
-refused-number refusal.TooLong = refl
-refused-number refusal.BadEdition = refl
-refused-number (refusal.BadTable i) = refl
-refused-number (refusal.BadUtf8 i) = refl
-refused-number (refusal.CutUtf8 i) = refl
+refused-number early.TooLong = refl
+refused-number early.BadEdition = refl
+refused-number (early.BadTable i) = refl
+refused-number (early.BadUtf8 i) = refl
+refused-number (early.CutUtf8 i) = refl
 
 refused-value : (x : Refusal) → valueOf (refusedAs x) ≡ input.placeOf x
-refused-value refusal.TooLong = refl
-refused-value refusal.BadEdition = refl
-refused-value (refusal.BadTable i) = refl
-refused-value (refusal.BadUtf8 i) = refl
-refused-value (refusal.CutUtf8 i) = refl
+refused-value early.TooLong = refl
+refused-value early.BadEdition = refl
+refused-value (early.BadTable i) = refl
+refused-value (early.BadUtf8 i) = refl
+refused-value (early.CutUtf8 i) = refl
 
 -- a reading's answer is neither 3 nor 15
 abbrev Works : Parsed → Type 0
@@ -75,7 +75,9 @@ module _ (format table : List ℕ) (edition : ℕ) (bytes entries : List ℕ) (c
 
   fine-worked : Works (worked .answer)
   fine-worked =
-      by-test (λ (c : Comes). Works (c .answer)) (fitPool bytes entries counts) (λ _. works _ _ _ _) (λ _. (λ m. omega arith, λ m. omega arith))
+      let r = parsed format table edition (lent bytes entries counts) in
+      by-test (λ (c : Comes). Works (c .answer)) (fitPool bytes entries counts)
+      (λ _. works (r .options) (r .outcome) (r .pool .index) (r .pool .full)) (λ _. (λ m. omega arith, λ m. omega arith))
 
   bad-only : told-number (call format table edition (lent bytes entries counts)) ≡ badUtf8
       → Damaged format (told-value (call format table edition (lent bytes entries counts)))

@@ -15,7 +15,7 @@ use Rattle.rust.specs.HandsLaws.{reading-hands, stream-end, stream-stuck}
 use Rattle.rust.specs.OneLaws.{hands-one}
 use Rattle.promises.specs.Stream.{ourReading, StreamPromise}
 
-pub stream-promise : (source table : List ℕ) (edition : ℕ) (edition : ℕ) → Readable sourceMost source table edition → StreamPromise source table edition
+pub stream-promise : (source table : List ℕ) (edition : ℕ) → Readable sourceMost source table edition → StreamPromise source table edition
 stream-promise source table edition h =
     let fit : FitTable table = fit-of table (h .fit) in
     let hands = reading-hands source table edition fit (h .short) (h .well) in

@@ -13,7 +13,7 @@ tell-looked-requires : tie.Need-tell-looked-requires
 tell-looked-requires c κs = search needs
 
 returns : tie.Need-returns
-returns c = rw (← c .before .look-by .ensures) (c .tell-looked .ensures)
+returns c = rw (← c .before .before .before .before .before .look-by .ensures) (c .tell-looked .ensures)
 
 pub koto-look-ahead-spec : {M : Type 1} → statement M
 koto-look-ahead-spec = tie.close (tie.spec look-by-requires tell-looked-requires returns)

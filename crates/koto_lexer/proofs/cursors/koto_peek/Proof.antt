@@ -13,7 +13,7 @@ tell-looked-requires : tie.Need-tell-looked-requires
 tell-looked-requires c κs = search needs
 
 returns : tie.Need-returns
-returns c = rw (← c .before .peek-by .ensures) (c .tell-looked .ensures)
+returns c = rw (← c .before .before .before .before .before .peek-by .ensures) (c .tell-looked .ensures)
 
 pub koto-peek-spec : {M : Type 1} → statement M
 koto-peek-spec = tie.close (tie.spec peek-by-requires tell-looked-requires returns)
