@@ -132,19 +132,22 @@ fn look_ahead_as_the_comment_says() {
     assert_eq!(look_ahead(&list, &mut cursor, 2), Peeked::Nothing);
 }
 
+fn nexts(list: &[u32], from: Cursor, count: usize) -> Vec<Given> {
+    let mut cursor = from;
+    (0..count).map(|_| next(list, &mut cursor)).collect()
+}
+
 #[test]
 fn a_look_shows_what_next_hands_out() {
     let source = b"'{n:}' #-#\n";
     let mut list = vec![0; room_for(source.len())];
     let start = scan(source, &full_table(), WITH, &mut list).cursor().unwrap();
-    let nexts =
-        |mut cursor: Cursor, count: usize| -> Vec<Given> { (0..count).map(|_| next(&list, &mut cursor)).collect() };
     for taken in 0..=start.count {
         for n in 0..start.count + 2 {
             let before = Cursor { taken, ..start };
             let mut cursor = before;
             let shown = look_ahead(&list, &mut cursor, n);
-            let wanted = match nexts(before, n + 1)[n] {
+            let wanted = match nexts(&list, before, n + 1)[n] {
                 Given::Token(record) => Peeked::Token(record),
                 Given::Nothing => Peeked::Nothing,
                 refused => panic!("{refused:?}"),
@@ -152,9 +155,9 @@ fn a_look_shows_what_next_hands_out() {
             assert_eq!(shown, wanted);
             assert_eq!(cursor, Cursor { queued: (n + 1).min(start.count - taken), ..before });
             // `next` is the same after it, and after a peek behind it.
-            assert_eq!(nexts(cursor, 12), nexts(before, 12));
+            assert_eq!(nexts(&list, cursor, 12), nexts(&list, before, 12));
             peek(&list, &mut cursor, 0);
-            assert_eq!(nexts(cursor, 12), nexts(before, 12));
+            assert_eq!(nexts(&list, cursor, 12), nexts(&list, before, 12));
         }
     }
 }
