@@ -11,7 +11,11 @@ use koto_lexer::raw::Record;
 /// What stands in a list before a scan
 const OLD: u32 = 0xDEAD_BEEF;
 
+/// The most tokens that may be queued
+const QUEUE: usize = 65_535;
+
 pub fn compare(run: &mut Run, dice: &mut Dice, count: usize) {
+    full_queues(run);
     let mut done = [0; 4];
     for source in scripts::long(dice) {
         done[0] += one(run, dice, &source);
@@ -127,19 +131,36 @@ fn some_call(dice: &mut Dice, queued: &mut usize) -> Call {
         return Call::Peek(n);
     }
     if dice.below(200) == 0 {
-        return Call::LookAhead([65_533, 65_534, 65_535, usize::MAX][dice.below(4)]);
+        return Call::LookAhead([QUEUE - 2, QUEUE - 1, QUEUE, usize::MAX][dice.below(4)]);
     }
     *queued = (*queued).max(n + 1);
     Call::LookAhead(n)
 }
 
-/// Some calls of `next`, `peek` and `look_ahead` over the list of a scan, against koto's. Koto has no `look_ahead`, but it has the tokens that
-/// follow, which its judge counts.
+/// Some calls of `next`, `peek` and `look_ahead` over the list of a scan
 fn walk(run: &mut Run, source: &[u8], start: Cursor, host: &Host, dice: &mut Dice) {
     let mut at_most = 0;
     let calls: Vec<Call> = (0..dice.below(16)).map(|_| some_call(dice, &mut at_most)).collect();
+    walk_by(run, source, start, host, &calls);
+}
+
+/// Sources that end after about as many tokens as may be queued, and looks that fill the queue or are one too far for it
+fn full_queues(run: &mut Run) {
+    let looks = [QUEUE, QUEUE - 1, QUEUE - 1, QUEUE - 2, QUEUE, QUEUE, usize::MAX].map(Call::LookAhead);
+    let calls: Vec<Call> = looks.into_iter().flat_map(|look| [look, Call::Peek(0), Call::Next]).collect();
+    for tokens in QUEUE - 1..QUEUE + 6 {
+        let source = b"(".repeat(tokens);
+        run.library.source.fill(&source);
+        run.library.list.fill(&vec![OLD; 8 * tokens]);
+        let (status, count, _) = run.library.scan(hosts::NEWER.table, hosts::NEWER.edition).answer;
+        walk_by(run, &source, Cursor { taken: 0, queued: 0, count, status }, &hosts::NEWER, &calls);
+    }
+}
+
+/// Calls over the list of a scan, against koto's. Koto has no `look_ahead`, but it has the tokens that follow, which its judge counts.
+fn walk_by(run: &mut Run, source: &[u8], start: Cursor, host: &Host, calls: &[Call]) {
     let text = std::str::from_utf8(source).expect("a source that was scanned");
-    let (shown, queued) = (host.judge.walk)(text, &calls);
+    let (shown, queued) = (host.judge.walk)(text, calls);
     let list = run.library.list.get().to_vec();
     let mut cursor = start;
     for (call, shown) in calls.iter().zip(shown) {
