@@ -12,6 +12,7 @@ mod memory;
 #[allow(dead_code)]
 #[path = "../src/rich.rs"]
 mod rich;
+mod store;
 
 use damage::damaged;
 use judge::{Asked, NONE, TEXT_MOST};
@@ -26,6 +27,10 @@ const WANTED: [u32; 8] = [0, 1, 2, 3, 15, 17, 18, 19];
 /// No buffer that is lent is longer.
 const ROOM_MOST: usize = 1 << 18;
 const SHOWN_MOST: usize = 10;
+/// Texts that one can count by hand, and fills
+const TEXTS: [&str; 7] =
+    ["", "abc", "e\u{301}", "\u{1F1E9}\u{1F1EA}\u{1F1E9}", "\u{915}\u{94D}\u{937}", "\r\n", "\u{301}"];
+const FILLS: [&str; 6] = ["-", "\u{B7}", "\u{301}", "\u{1F468}\u{200D}\u{1F469}", "\r\n", "\u{1F1E9}"];
 
 struct Run {
     kinds: Kinds,
@@ -41,6 +46,10 @@ struct Run {
 
 fn main() {
     let words: Vec<String> = std::env::args().skip(1).collect();
+    if words.first().is_some_and(|word| word == "--store") {
+        store::print_all(&Kinds::of(&kpt::full()));
+        return;
+    }
     let number = |i: usize, else_: u64| words.get(i).map_or(else_, |word| word.parse().expect("a number"));
     let (seed, count) = (number(0, 110), number(1, 1_000_000) as usize);
     let table = kpt::full();
@@ -141,8 +150,8 @@ impl Run {
 
     /// Each alignment and some widths of texts that one can count by hand
     fn examples(&mut self) {
-        for text in ["", "abc", "e\u{301}", "\u{1F1E9}\u{1F1EA}\u{1F1E9}", "\u{915}\u{94D}\u{937}", "\r\n", "\u{301}"] {
-            for fill in ["-", "\u{B7}", "\u{301}", "\u{1F468}\u{200D}\u{1F469}", "\r\n", "\u{1F1E9}"] {
+        for text in TEXTS {
+            for fill in FILLS {
                 for (alignment, width) in (0..4).flat_map(|a| (0..9).chain([NONE]).map(move |w| (a, w))) {
                     for edition in [1, 2] {
                         let given = Asked {
