@@ -58,7 +58,7 @@ unfolding computes firstBad startOk propertiesOk runOk tableCheck smallTable las
 reads-computed = tt
 
 -- and every definition of a parse
-unfoldable formats-computed : Unit {0}
+unfoldable pub formats-computed : Unit {0}
 unfolding reads-computed stringsFrom rows.same indexOf roomOf runsTo fitIn placed added bytesAfter entriesAfter peeked isSign isDigit charToAlignment
     digitsFrom consumeU32 representationOf letterOf lastArm armOf parseFrom inputCheck addTo parsed call
 formats-computed = tt

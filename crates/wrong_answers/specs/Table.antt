@@ -1,0 +1,279 @@
+-- Wrong answers, call by call, each with the mistake that gives it. `TableLaws.all-shut-out` proves that the contracts shut out every one.
+-- Assumes nothing.
+use Prim.Native.Nat.{ℕ, _+_, _*_}
+use mathlib.Core.List.{List, [], _∷_, _++_}
+use lib.ListN.{take, drop, replicate}
+use Rattle.fitness.specs.Small.{smallTable}
+use Rattle.table_file.specs.File.{fileOf}
+use Rattle.input.specs.Input.{withoutGB9c, withGB9c}
+use Rattle.token.specs.Kind as kind
+use Rattle.words.specs.Words.{bytes}
+use Rattle.reading.specs.Status.{endNumber, stuckNumber, refusedNumber}
+use Rattle.pool_rows.specs.declared.Counts.{Counts}
+use Rattle.pool_lent.specs.Entries.{entryOf}
+use Rattle.pool_lent.specs.declared.Entry.{Entry}
+use Rattle.parse.specs.Numbers.{noNumber}
+use Rattle.wrong_answers.specs.Wrong.{Wrong, readChar, checkUtf8, checkTable, readTable, firstCluster, scan, next, peek, lookAhead, addString, parse}
+
+-- ---- what goes in
+
+-- E2 82 AC is U+20AC, and its first two bytes are a beginning of it
+abbrev euro : List ℕ
+euro = 0xe2 ∷ 0x82 ∷ 0xac ∷ []
+
+abbrev cutEuro : List ℕ
+cutEuro = 0xe2 ∷ 0x82 ∷ []
+
+-- FF begins no character
+abbrev badAtOne : List ℕ
+badAtOne = 0x61 ∷ 0xff ∷ []
+
+-- the number of a run
+abbrev run : ℕ → ℕ → ℕ
+run start properties = start * 2048 + properties
+
+-- the small table with a 23rd run
+abbrev smallAnd : ℕ → List ℕ
+smallAnd x = smallTable ++ (x ∷ [])
+
+-- the small table, but code point 0 has other properties
+abbrev otherNul : List ℕ
+otherNul = run 0 4 ∷ run 1 48 ∷ drop 1 smallTable
+
+-- a file whose one run is no fit table
+abbrev unfitFile : List ℕ
+unfitFile = fileOf (0 ∷ [])
+
+-- the small table's code points 0 to 127, and above them characters of two bytes, C2 80 and up: U+0080 other, U+0081 a Regional_Indicator,
+-- U+0082 ZWJ, U+0083 Extended_Pictographic, U+0084 a consonant of GB9c, U+0085 an Extend that is no linker, U+0086 a SpacingMark
+abbrev rich : List ℕ
+rich =
+    take 15 smallTable
+    ++ (run 0x80 4 ∷ run 0x81 (4 + 6 * 16) ∷ run 0x82 (2 * 512 + 5 * 16) ∷ run 0x83 (4 + 256) ∷ run 0x84 (4 + 512)
+    ∷ run 0x85 (2 * 512 + 4 * 16) ∷ run 0x86 (4 + 8 * 16) ∷ [])
+
+-- the bytes of U+0080 and so many more
+abbrev two : ℕ → List ℕ
+two n = 0xc2 ∷ (0x80 + n) ∷ []
+
+-- a list of zeros with room for so many records
+abbrev zeros : ℕ → List ℕ
+zeros n = replicate (8 * n) 0
+
+-- a record's eight numbers, of a token on the first line and without an indent: kind, detail and depth, bytes, columns
+abbrev row : ℕ → ℕ → ℕ → ℕ → ℕ → List ℕ
+row kind detail depth start end = (kind + 128 * detail + 1048576 * depth) ∷ start ∷ end ∷ 0 ∷ start ∷ 0 ∷ end ∷ 0 ∷ []
+
+-- a record's numbers as a call shows them, at depth 0
+abbrev shows : ℕ → ℕ → ℕ → ℕ → List ℕ
+shows kind detail start end = kind ∷ detail ∷ start ∷ end ∷ 0 ∷ start ∷ 0 ∷ end ∷ 0 ∷ 0 ∷ []
+
+-- the list of `a`, space
+abbrev aSpace : List ℕ
+aSpace = row kind.id 0 0 0 1 ++ row kind.whitespace 0 0 1 2
+
+-- the records of `'{x:`, after which format options stand
+abbrev toOptions : List ℕ
+toOptions = row kind.stringStart 1 0 0 1 ++ row kind.curlyOpen 0 1 1 2 ++ row kind.id 0 2 2 3 ++ row kind.colon 0 2 3 4
+
+-- what is shown where no token is
+abbrev shownNothing : List ℕ
+shownNothing = shows 0 0 0 0
+
+-- a pool that has the string "a" and room for two entries and three bytes
+abbrev poolBytes : List ℕ
+poolBytes = 0x61 ∷ 0 ∷ 0 ∷ []
+
+abbrev poolEntries : List Entry
+poolEntries = entryOf 0 1 ∷ entryOf 0 0 ∷ []
+
+-- an entry count and a byte count
+abbrev counts : ℕ → ℕ → Counts
+counts entries bytes = record { entries = entries; bytes = bytes }
+
+-- options that say nothing but this fill, with its index
+abbrev fillAt : ℕ → ℕ → ℕ → ℕ → List ℕ
+fillAt alignment width place index = alignment ∷ width ∷ noNumber ∷ noNumber ∷ place ∷ 1 ∷ index ∷ []
+
+abbrev noOptions : List ℕ
+noOptions = replicate 7 noNumber
+
+-- ---- one character, and all bytes
+
+abbrev pub ofBytes : List Wrong
+ofBytes =
+    -- a character of three bytes has the length 3
+    readChar euro 0 0x20ac 2 0
+    -- three bytes are enough for a character of three
+    ∷ readChar euro 0 0 0 15
+    -- 15 tells a character that the end cuts from bytes that begin none
+    ∷ readChar cutEuro 0 0 0 3
+    -- ED with a second byte over 9F would be a surrogate
+    ∷ readChar (0xed ∷ 0xa0 ∷ 0x80 ∷ []) 0 0xd800 3 0
+    -- F5 begins no character
+    ∷ readChar (0xf5 ∷ 0x80 ∷ 0x80 ∷ 0x80 ∷ []) 0 0x140000 4 0
+    -- the place is where the first wrong sequence begins: neither 0 nor the byte after
+    ∷ checkUtf8 badAtOne 0 3
+    ∷ checkUtf8 badAtOne 2 3
+    -- a character that the end cuts is told from wrong bytes
+    ∷ checkUtf8 cutEuro 0 3
+    ∷ []
+
+-- ---- tables, and their files
+
+abbrev pub ofTables : List Wrong
+ofTables =
+    -- there is no class 14
+    checkTable (smallAnd (run 0x20000 224)) 0 0
+    -- starts rise up to the last run
+    ∷ checkTable (smallAnd (run 0x100 4)) 0 0
+    -- a bad run is named by its own number, and not by the count
+    ∷ checkTable (smallAnd (run 0x20000 224)) 23 2
+    -- the first run is asked too: it starts at 0
+    ∷ checkTable (run 1 48 ∷ drop 1 smallTable) 22 2
+    -- where several runs are bad the first one is named
+    ∷ checkTable (smallAnd (run 0x20000 224) ++ (run 0x20001 224 ∷ [])) 23 2
+    -- code points 0 to 127 are fixed, 0 among them, and where only they differ the place is the count
+    ∷ checkTable otherNul 0 0
+    ∷ checkTable otherNul 0 2
+    -- an unfit table in a good file is refusal 2
+    ∷ readTable unfitFile (5 ∷ []) (5 ∷ []) 0 1 14
+    -- a row is written only if all pass
+    ∷ readTable unfitFile (5 ∷ []) (0 ∷ []) 0 1 2
+    -- a row that is too short for a file's numbers is refusal 4, and nothing was read
+    ∷ readTable unfitFile [] [] 0 0 14
+    ∷ readTable unfitFile [] [] 8000 0 4
+    -- the place of a surplus byte is the first of them, and not the end of the file
+    ∷ readTable (unfitFile ++ (7 ∷ 7 ∷ [])) (5 ∷ []) (5 ∷ []) 0 14 14
+    -- 14 comes before 4
+    ∷ readTable (unfitFile ++ (7 ∷ [])) [] [] 0 0 4
+    ∷ []
+
+-- ---- first clusters
+
+abbrev pub ofClusters : List Wrong
+ofClusters =
+    -- GB11 asks for a pictograph before the ZWJ too
+    firstCluster (bytes "a" ++ two 2 ++ two 3) rich withGB9c 5 0 0
+    -- GB9a: no break before a SpacingMark
+    ∷ firstCluster (bytes "a" ++ two 6) rich withGB9c 1 0 0
+    -- GB9c asks for a linker between the consonants
+    ∷ firstCluster (two 4 ++ two 5 ++ two 4) rich withGB9c 6 0 0
+    -- a third Regional_Indicator begins a new cluster
+    ∷ firstCluster (two 1 ++ two 1 ++ two 1) rich withGB9c 6 0 0
+    -- only a refusal has a place
+    ∷ firstCluster (bytes "ab") smallTable withGB9c 1 1 0
+    -- refusal 2 keeps the place that the check of the table gives it
+    ∷ firstCluster [] otherNul withGB9c 0 0 2
+    -- and comes before what is said of the bytes, with a number of its own
+    ∷ firstCluster badAtOne otherNul withGB9c 0 1 3
+    -- 17 comes before 2
+    ∷ firstCluster [] otherNul 3 0 23 2
+    -- 3 and 15 are told apart
+    ∷ firstCluster cutEuro smallTable withGB9c 0 0 3
+    ∷ firstCluster badAtOne smallTable withGB9c 0 1 15
+    ∷ []
+
+-- ---- scans
+
+abbrev pub ofScans : List Wrong
+ofScans =
+    -- the count is that of the records written, the Error that stands still among them
+    scan (bytes "\r") smallTable withGB9c (zeros 1) (zeros 1) stuckNumber 2 0 0
+    ∷ scan (bytes "a") smallTable withGB9c (zeros 2) (row kind.id 0 0 0 1 ++ zeros 1) endNumber 2 1 0
+    -- the Rust would repeat that Error for ever, and never answer None
+    ∷ scan (bytes "\r") smallTable withGB9c (zeros 1) (zeros 1) endNumber 1 0 0
+    -- an Error that stands still has the range and span before it; the next ones would be empty, and begin where those end
+    ∷ scan (bytes "a\r") smallTable withGB9c (zeros 2) (row kind.id 0 0 0 1 ++ row kind.error 0 0 1 1) stuckNumber 2 1 0
+    -- the list's last word is past the records
+    ∷ scan (bytes "a") smallTable withGB9c (replicate 9 7) (row kind.id 0 0 0 1 ++ (0 ∷ [])) endNumber 1 1 0
+    -- a list that is full is refusal 4, and its scan has not come to the end
+    ∷ scan (bytes "a") smallTable withGB9c [] [] refusedNumber 0 0 5
+    ∷ scan (bytes "a") smallTable withGB9c [] [] endNumber 0 0 4
+    -- a refusal that comes before any work leaves every word of the list
+    ∷ scan badAtOne smallTable withGB9c (zeros 1) (row kind.id 0 0 0 1) refusedNumber 0 1 3
+    -- a string literal ends before "{", where a template expression begins
+    ∷ scan (bytes "'{") smallTable withGB9c (zeros 2) (row kind.stringStart 1 0 0 1 ++ row kind.stringLiteral 0 1 1 2) endNumber 2 2 0
+    -- the end of a raw string has its quote
+    ∷ scan (bytes "r''") smallTable withGB9c (zeros 3)
+    (row kind.stringStart 3 0 0 2 ++ row kind.stringLiteral 0 1 2 2 ++ row kind.stringEnd 0 1 2 2) stuckNumber 3 2 0
+    -- after the contents of a raw string its end is read, and not its contents again
+    ∷ scan (bytes "r''") smallTable withGB9c (zeros 3)
+    (row kind.stringStart 3 0 0 2 ++ row kind.stringLiteral 0 1 2 2 ++ row kind.stringLiteral 0 1 2 2) refusedNumber 3 2 4
+    -- in a string literal "\\{" is contents, and its brace opens no template
+    ∷ scan (bytes "'\\{x'") smallTable withGB9c (zeros 5)
+    (row kind.stringStart 1 0 0 1 ++ row kind.stringLiteral 0 1 1 2 ++ row kind.curlyOpen 0 1 2 3 ++ row kind.id 0 2 3 4 ++ row kind.stringStart 1 2 4 5)
+    endNumber 5 5 0
+    -- the alignments are "<", "^" and ">", so a "}" before "=" is no fill and ends the options
+    ∷ scan (bytes "'{x:}=}'") smallTable withGB9c (zeros 8)
+    (toOptions ++ row kind.stringLiteral 0 3 4 6 ++ row kind.curlyClose 0 2 6 7 ++ row kind.stringEnd 0 1 7 8 ++ zeros 1) endNumber 7 8 0
+    -- a "}" with an alignment after it is the fill, and does not end them
+    ∷ scan (bytes "'{x:}<}'") smallTable withGB9c (zeros 8)
+    (toOptions ++ row kind.stringLiteral 0 3 4 4 ++ row kind.curlyClose 0 2 4 5 ++ row kind.stringLiteral 0 1 5 7 ++ row kind.stringEnd 0 1 7 8)
+    endNumber 8 8 0
+    -- the options reach to the brace that ends them
+    ∷ scan (bytes "'{x:5}'") smallTable withGB9c (zeros 8)
+    (toOptions ++ row kind.stringLiteral 0 3 4 4 ++ row kind.number 0 2 4 5 ++ row kind.curlyClose 0 2 5 6 ++ row kind.stringEnd 0 1 6 7)
+    endNumber 8 7 0
+    ∷ []
+
+-- ---- look-ahead
+
+abbrev pub ofCursors : List Wrong
+ofCursors =
+    -- a shown record starts with its kind
+    next aSpace 0 0 2 endNumber 1 0 1 (0 ∷ drop 1 (shows kind.id 0 0 1)) 0 0
+    -- the list must have room for all records that the cursor counts
+    ∷ next aSpace 0 0 3 endNumber 1 0 1 (shows kind.id 0 0 1) 0 0
+    -- a token that is handed out is no longer queued
+    ∷ next aSpace 0 1 2 endNumber 1 1 1 (shows kind.id 0 0 1) 0 0
+    -- at Stuck taken never goes past the last record
+    ∷ next (zeros 1) 0 0 1 stuckNumber 1 0 1 (shows kind.error 0 0 0) 0 0
+    -- and a cursor that has taken it is unfit
+    ∷ next (zeros 1) 1 0 1 stuckNumber 0 0 1 (shows kind.error 0 0 0) 0 0
+    -- at most 65,535 tokens are queued
+    ∷ next (zeros 1) 0 65536 1 stuckNumber 0 65535 1 (shows kind.error 0 0 0) 0 0
+    -- refusal 8 comes before 9
+    ∷ next aSpace 3 0 2 endNumber 3 0 0 shownNothing 0 9
+    -- a look one past the queue queues and shows nothing, against the comment in the Rust
+    ∷ peek aSpace 0 0 2 endNumber 1 0 1 (shows kind.whitespace 0 1 2) 0 0
+    ∷ peek aSpace 0 0 2 endNumber 1 1 0 shownNothing 0 0
+    -- refusal 6 comes before 7
+    ∷ peek (zeros 1) 0 65535 1 stuckNumber 65537 65535 0 shownNothing 0 7
+    -- a queue that is full is refusal 7
+    ∷ peek (zeros 1) 0 65535 1 stuckNumber 65535 65535 0 shownNothing 0 6
+    -- 65,535 tokens may be queued
+    ∷ lookAhead (zeros 1) 0 0 1 stuckNumber 65534 0 0 shownNothing 0 7
+    ∷ []
+
+-- ---- strings of a pool, and format options
+
+abbrev pub ofPools : List Wrong
+ofPools =
+    -- 15 tells a string that its end cuts from a wrong one
+    addString cutEuro poolBytes poolEntries (counts 1 1) poolBytes poolEntries (counts 1 1) 0 0 3
+    -- refusal 3 has the place of the first ill-formed sequence
+    ∷ addString badAtOne poolBytes poolEntries (counts 1 1) poolBytes poolEntries (counts 1 1) 0 0 3
+    -- and comes before 8
+    ∷ addString badAtOne poolBytes poolEntries (counts 3 1) poolBytes poolEntries (counts 3 1) 0 0 8
+    -- entries run end to end
+    ∷ addString (bytes "a") poolBytes (entryOf 0 1 ∷ entryOf 2 1 ∷ []) (counts 2 3) poolBytes (entryOf 0 1 ∷ entryOf 2 1 ∷ []) (counts 2 3) 0 0 0
+    -- indices count from 0
+    ∷ addString (bytes "b") poolBytes poolEntries (counts 1 1) (bytes "ab" ++ (0 ∷ [])) (entryOf 0 1 ∷ entryOf 1 1 ∷ []) (counts 2 2) 2 0 0
+    -- an entry has the length, where the Rust keeps the end of a range
+    ∷ addString (bytes "b") poolBytes poolEntries (counts 1 1) (bytes "ab" ++ (0 ∷ [])) (entryOf 0 1 ∷ entryOf 1 2 ∷ []) (counts 2 2) 1 0 0
+    -- a string that is there costs nothing
+    ∷ addString (bytes "a") poolBytes poolEntries (counts 1 1) (bytes "aa" ++ (0 ∷ [])) (entryOf 0 1 ∷ entryOf 1 1 ∷ []) (counts 1 1) 0 0 0
+    -- an addition without room comes before the error that is found after it
+    ∷ parse (bytes "b<!") smallTable withGB9c [] [] (counts 0 0) [] [] (counts 0 0) noOptions 33 12
+    -- a pool without room is refusal 13
+    ∷ parse (bytes "b<") smallTable withGB9c [] [] (counts 0 0) [] [] (counts 0 0) noOptions 0 8
+    -- the fill's index is that of the string added last
+    ∷ parse (bytes "b<") smallTable withGB9c poolBytes poolEntries (counts 1 1) (bytes "ab" ++ (0 ∷ [])) (entryOf 0 1 ∷ entryOf 1 1 ∷ [])
+    (counts 2 2) (fillAt 1 noNumber 0 0) 0 0
+    -- no representation is none, and not 0, which is Debug
+    ∷ parse [] smallTable withGB9c [] [] (counts 0 0) [] [] (counts 0 0)
+    (0 ∷ noNumber ∷ noNumber ∷ 0 ∷ noNumber ∷ noNumber ∷ noNumber ∷ []) 0 0
+    -- a format string can add two strings, its fill and "0"
+    ∷ parse (bytes "a<05") smallTable withGB9c poolBytes poolEntries (counts 1 1) poolBytes poolEntries (counts 1 1) (fillAt 1 5 2 0) 0 0
+    ∷ []
