@@ -1,5 +1,6 @@
 -- A search in the table needs to look only at the keyword that has the name's place.
 --     compared, eight    a name is compared with the first bytes of the eight that stand at its place
+--     differs            a name that has another first or second byte than those is no keyword
 --     by-length          a name that is too short or too long is no keyword
 --     by-none            no keyword has a place that the code's `match` leaves over
 -- Assumes nothing.
@@ -19,7 +20,7 @@ use Rattle.base.specs.All.{allGood}
 use Rattle.base.specs.AllLaws.{good-at}
 use Rattle.token.specs.Kind.{id}
 use Rattle.words.specs.Words.{isWord, startsWith, Entry, firstIn, only}
-use Rattle.words.specs.WordsLaws.{word-same, word-itself, every, by-first, narrowed, Outside, among, outside-other}
+use Rattle.words.specs.WordsLaws.{word-same, word-itself, starts-at, every, by-first, narrowed, Outside, among, outside-other}
 use Rattle.words.proofs.Compare.{by-start}
 use Rattle.keywords.specs.Keywords.{keywords, keywordOf}
 use Rattle.keywords.specs.Places.{placeBy, placeOf, keywordsAt, filled, firstText, firstKind, textAt, kindAt}
@@ -109,6 +110,20 @@ module _ (s : List ℕ) (at len : ℕ) {n p : ℕ} {t : List ℕ} (long : n ≡ 
   compared e =
       let said = e ∙ by-start (take n t) (drop at s) len (sym long ∙ sym (length-take-le n t (omega (arith, eight)))) in
       rw (said, is, its-place, long) (by-place (take len (drop at s)) (omega arith) (omega arith))
+
+  -- a name that differs from what stands at its place in one of its first two bytes is no keyword
+  pub differs : (i : ℕ) → i < 2 → (getD s (at + i) 0 ≡ getD t i 0 → ⊥) → id ≡ keywordOf (take len (drop at s))
+  differs i h other =
+      compared
+      (sym
+      (same-when (startsWith (take n t) (drop at s)) false
+      (λ e.
+      absurd
+      (other
+      (sym (getD-drop at s i 0)
+      ∙ starts-at (take n t) (drop at s) i e (omega (arith, length-take-le n t (omega (arith, eight))))
+      ∙ getD-take n t i 0 (omega arith))))
+      (λ e. absurd (false≢true e))))
 
 -- a keyword has two to eight bytes
 abbrev sized : Entry → Bool

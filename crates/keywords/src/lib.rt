@@ -148,6 +148,13 @@ pub fn keyword(source: &[u8], at: usize, len: usize) -> u8
     }
     let place = place(n, source[at], source[at + 1]);
     let text = text_at(place);
+    // Most names differ from the keyword at their place in a letter that gives it: these need no loop.
+    if source[at] != text[0] {
+        return ID;
+    }
+    if source[at + 1] != text[1] {
+        return ID;
+    }
     if starts_with(source, at, &text[..n]) {
         return kind_at(place);
     }
