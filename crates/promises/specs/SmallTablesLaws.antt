@@ -12,8 +12,8 @@ use Rattle.cluster.specs.CallLaws.{same-call}
 use Rattle.reading.specs.ScanLaws as scan
 use Rattle.parse.specs.CallLaws as parse
 use Rattle.agree.specs.ScanLaws.{scan-agrees}
-use Rattle.agree.specs.ParseLaws.{parses-agree}
-use Rattle.agree.specs.PadLaws.{pads-agree}
+use Rattle.agree_text.specs.ParseLaws.{parses-agree}
+use Rattle.agree_text.specs.PadLaws.{pads-agree}
 use Rattle.promises.specs.SmallTables.{SameOn, BothFit, SmallTablesPromise, SamePad}
 
 -- the same, one code point after the other

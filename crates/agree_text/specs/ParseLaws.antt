@@ -19,8 +19,8 @@ use Rattle.format.specs.Parse.{stringOf}
 use Rattle.parse.specs.Call.{Pool, addTo, lent, parsed, answer, Comes, comes, refusedAs, call, Parses}
 use Rattle.parse.specs.declared.After.{After}
 use Rattle.parse.specs.declared.Parsed.the-variants.{BadState}
 use Rattle.agree.specs.ScanLaws.{inputs-agree}
-use Rattle.agree.specs.FormatLaws.{parse-agrees}
+use Rattle.agree_text.specs.FormatLaws.{parse-agrees}
 
 module _ (format t u : List ℕ) (edition : ℕ) (fit : tableCheck t ≡ Fit) (also : tableCheck u ≡ Fit)
     (agree : Agree (propertiesAt t) (propertiesAt u) (chars format)) where
