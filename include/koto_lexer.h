@@ -26,7 +26,7 @@
 #include <stddef.h>
 #include <stdint.h>
 
-#define KOTO_LEXER_VERSION "0.5.0"
+#define KOTO_LEXER_VERSION "0.6.0"
 
 #ifdef __cplusplus
 extern "C" {
@@ -47,7 +47,8 @@ extern "C" {
  *    6 PEEK_TOO_FAR                n is over queued + 1
  *    7 QUEUE_FULL                  a token must be queued, and KOTO_QUEUE_MOST are
  *    8 BAD_STATE                   a cursor or a pool that is unfit
- *    9 BAD_RECORD                  a record that may not be shown: its kind is over 80, or it may not have its detail. Place: its index
+ *    9 BAD_RECORD                  a record that may not be shown: its kind is over 80, it may not have its detail, its depth is over 64, or
+ *                                  bits 28 to 31 of its first word are not 0. Place: its index
  *   10 EXPECTED_NUMBER             a precision has no digit. Value: the code point that stands there
  *   11 FORMAT_NUMBER_IS_TOO_LARGE  Value: the first value over 4,294,967,295
  *   12 UNEXPECTED_TOKEN            Value: the code point
@@ -218,7 +219,8 @@ extern "C" {
 /* ---- Structs ---- */
 
 /* A token of a scan, as koto_next, koto_peek and koto_look_ahead show it: its kind and detail, its bytes from start to before end, its span (lines
- * and columns from 0), and the indent of its line. */
+ * and columns from 0), the indent of its line, and its depth: how many modes were open before it, 0 to 64. A string, a template expression, an inline
+ * map in one, and format options are a mode each; so the depth is 0 outside strings, 1 in a string's contents and 2 in the code of a template. */
 typedef struct koto_record {
     uint32_t kind;
     uint32_t detail;
@@ -229,6 +231,7 @@ typedef struct koto_record {
     uint32_t end_line;
     uint32_t end_column;
     uint32_t indent;
+    uint32_t depth;
 } koto_record;
 
 /* The options of a format string. The fill is the part of the format string from byte fill_place on of fill_len bytes, and fill_index is
@@ -313,8 +316,8 @@ uint32_t koto_read_table(const uint8_t *file, size_t file_len, uint32_t *row, si
 uint32_t koto_first_cluster(const uint8_t *source, size_t source_len, const uint32_t *table, size_t table_len, uint32_t edition,
                             size_t *len, size_t *place);
 
-/* Scans a source into records. A record is KOTO_RECORD_WORDS words of the list: kind + 128 * detail, start, end, start line, start column,
- * end line, end column, indent. n bytes have at most n + n / 3 records.
+/* Scans a source into records. A record is KOTO_RECORD_WORDS words of the list: kind + 128 * detail + 1,048,576 * depth, start, end, start
+ * line, start column, end line, end column, indent. Between neighbours the depth changes by at most one, and the first has 0. n bytes have at most n + n / 3 records.
  *
  * in       the source; a table; an edition, by which clusters are read; a list, of which nothing is read
  * out      list: the records from its start on, and behind them what was there. status: KOTO_END or KOTO_STUCK. count: how many records

@@ -8,8 +8,8 @@ pub fn text_of(bytes: &[u8]) -> Result<&str, (u32, usize)> {
     })
 }
 
-/// kind, detail, byte start, byte end, start line, start column, end line, end column, indent
-pub type Record = [u32; 9];
+/// kind, detail, byte start, byte end, start line, start column, end line, end column, indent, depth
+pub type Record = [u32; 10];
 
 #[derive(Clone, Copy, PartialEq)]
 pub enum Status {

@@ -82,7 +82,8 @@ fn detail(token: &Token) -> u32 {
     raw + u32::from(*quote == StringQuote::Single)
 }
 
-fn record(lexed: &LexedToken) -> Record {
+// `depth` is the length of the lexer's stack before the token, which it does not hand out.
+fn record(lexed: &LexedToken, depth: u32) -> Record {
     let Span { start, end } = lexed.span;
     [
         kinds::kind(&lexed.token),
@@ -94,6 +95,7 @@ fn record(lexed: &LexedToken) -> Record {
         end.line,
         end.column,
         lexed.indent as u32,
+        depth,
     ]
 }
 
@@ -102,6 +104,7 @@ fn scan(source: &str, room: usize) -> Scan {
     let mut records = vec![];
     let status = loop {
         let place = lexer.current_byte();
+        let depth = lexer.mode_depth() as u32;
         let refused = |number, records| Scan { status: Status::Refused(number), records, place };
         let Some(lexed) = lexer.next() else {
             break Status::End;
@@ -112,7 +115,7 @@ fn scan(source: &str, room: usize) -> Scan {
         if lexer.mode_depth() > MODES {
             return refused(5, records);
         }
-        records.push(record(&lexed));
+        records.push(record(&lexed, depth));
         if lexed.token == Token::Error && lexer.current_byte() == place {
             break Status::Stuck;
         }
@@ -122,22 +125,42 @@ fn scan(source: &str, room: usize) -> Scan {
 
 fn walk(source: &str, calls: &[Call]) -> (Vec<Shown>, usize) {
     let mut lexer = KotoLexer::new(source);
-    let shown = calls.iter().map(|call| answer(&mut lexer, *call)).collect();
+    // A token that is shown was read before, so that the stack no longer tells its depth: a second lexer has told it of every token.
+    let depths: Vec<u32> = scan(source, usize::MAX).records.iter().map(|record| record[9]).collect();
+    let mut taken = 0_usize;
+    let shown = calls.iter().map(|call| {
+        let ahead = match *call {
+            Call::Next => 0,
+            Call::Peek(n) | Call::LookAhead(n) => n,
+        };
+        match answer(&mut lexer, *call) {
+            Ok(Some(lexed)) => {
+                // Behind an Error that stands still comes the same again.
+                let depth = depths[taken.saturating_add(ahead).min(depths.len() - 1)];
+                taken += usize::from(matches!(call, Call::Next));
+                Shown::Record(record(&lexed, depth))
+            }
+            Ok(None) => Shown::Nothing,
+            Err(number) => Shown::Refused(number),
+        }
+    });
+    let shown = shown.collect();
     (shown, lexer.queued())
 }
 
-fn answer(lexer: &mut KotoLexer, call: Call) -> Shown {
-    let lexed = match call {
+/// The token that a call shows, if there is one, or the number of a refusal
+fn answer(lexer: &mut KotoLexer, call: Call) -> Result<Option<LexedToken>, u32> {
+    Ok(match call {
         Call::Next => lexer.next(),
         Call::Peek(n) => {
             let queued = lexer.queued();
             // Further on the Rust's subtraction would pass below 0.
             if n > queued + 1 {
-                return Shown::Refused(6);
+                return Err(6);
             }
             let is_left = lexer.source().get(lexer.current_byte()..).is_some_and(|rest| !rest.is_empty());
             if n <= queued && queued == QUEUE && is_left {
-                return Shown::Refused(7);
+                return Err(7);
             }
             lexer.peek(n).cloned()
         }
@@ -145,7 +168,7 @@ fn answer(lexer: &mut KotoLexer, call: Call) -> Shown {
             // The tokens up to that one, as far as there are any; at a lexer that is stuck no more than one too many.
             let needed = lexer.clone().take(n.saturating_add(1)).take(QUEUE + 1).count();
             if needed > QUEUE {
-                return Shown::Refused(7);
+                return Err(7);
             }
             // A look just behind the queue queues one.
             while lexer.queued() < needed {
@@ -153,8 +176,7 @@ fn answer(lexer: &mut KotoLexer, call: Call) -> Shown {
             }
             lexer.clone().nth(n)
         }
-    };
-    lexed.map_or(Shown::Nothing, |lexed| Shown::Record(record(&lexed)))
+    })
 }
 
 fn parse(format_string: &str, pool: &Pool) -> Parse {

@@ -16,7 +16,7 @@ pub struct Counts {
     pub bytes: u32,
 }
 
-/// A record that is shown
+/// A record that is shown; its depth is how many modes of strings and templates are open before it
 #[repr(C)]
 #[derive(Clone, Copy, Debug, Default, PartialEq, Eq)]
 pub struct Record {
@@ -29,6 +29,7 @@ pub struct Record {
     pub end_line: u32,
     pub end_column: u32,
     pub indent: u32,
+    pub depth: u32,
 }
 
 /// The options of a format string; [`NONE`] for no number

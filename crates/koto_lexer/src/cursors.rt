@@ -33,7 +33,7 @@ fn next_by(list: &[u32], taken: usize, queued: usize, count: usize, status: u32)
     }
 }
 
-// Hands out the next token, and moves the cursor on. Refused are a cursor that is unfit with 8, then a record whose kind or detail may not be shown with 9;
+// Hands out the next token, and moves the cursor on. Refused are a cursor that is unfit with 8, then a record that may not be shown with 9;
 // both leave the cursor.
 #[no_mangle]
 pub extern "C" fn koto_next(
@@ -43,7 +43,7 @@ pub extern "C" fn koto_next(
     count: usize,
     status: u32,
     shown: &mut u32,
-    record: &mut [u32; 9],
+    record: &mut [u32; 10],
     place: &mut usize,
 ) -> u32
     ensures { λ r. ⌜ NextIs (now (list .entry)) (now (taken .entry)) (now (queued .entry)) count status
@@ -67,7 +67,7 @@ fn tell_looked(
     taken: usize,
     queued: &mut usize,
     shown: &mut u32,
-    record: &mut [u32; 9],
+    record: &mut [u32; 10],
     place: &mut usize,
 ) -> u32
     ensures { λ r. ⌜ LookedIs looked taken (now (queued .entry)) (now (queued .exit)) (now (shown .exit)) (now («record» .exit)) (now (place .exit)) r ⌝ }
@@ -92,7 +92,7 @@ fn peek_by(list: &[u32], taken: usize, queued: usize, count: usize, status: u32,
 }
 
 // Queues one more token, if there is one and n is at most what is queued, and shows queued token n. Refused are a cursor that is unfit with
-// 8, then an n that is too far with 6, then a full queue with 7, then a record whose kind or detail may not be shown with 9; all leave the cursor.
+// 8, then an n that is too far with 6, then a full queue with 7, then a record that may not be shown with 9; all leave the cursor.
 #[no_mangle]
 pub extern "C" fn koto_peek(
     list: &[u32],
@@ -102,7 +102,7 @@ pub extern "C" fn koto_peek(
     status: u32,
     n: usize,
     shown: &mut u32,
-    record: &mut [u32; 9],
+    record: &mut [u32; 10],
     place: &mut usize,
 ) -> u32
     ensures { λ r. ⌜ PeekIs (now (list .entry)) taken (now (queued .entry)) count status n
@@ -124,7 +124,7 @@ fn look_by(list: &[u32], taken: usize, queued: usize, count: usize, status: u32,
 }
 
 // Shows the token that the (n+1)th following `koto_next` would hand out, and queues what is lacking for it. Refused are a cursor that is unfit
-// with 8, then more tokens than may be queued with 7, then a record whose kind or detail may not be shown with 9; all leave the cursor.
+// with 8, then more tokens than may be queued with 7, then a record that may not be shown with 9; all leave the cursor.
 #[no_mangle]
 pub extern "C" fn koto_look_ahead(
     list: &[u32],
@@ -134,7 +134,7 @@ pub extern "C" fn koto_look_ahead(
     status: u32,
     n: usize,
     shown: &mut u32,
-    record: &mut [u32; 9],
+    record: &mut [u32; 10],
     place: &mut usize,
 ) -> u32
     ensures { λ r. ⌜ LookAheadIs (now (list .entry)) taken (now (queued .entry)) count status n

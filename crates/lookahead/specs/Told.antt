@@ -26,13 +26,14 @@ noRow =
       «end_line» = 0;
       «end_column» = 0;
       indent = 0;
+      depth = 0;
     }
 
--- a record's nine numbers, in the order of the struct `Row` and of C's `koto_record`
+-- a record's ten numbers, in the order of the struct `Row` and of C's `koto_record`
 abbrev pub recordNumbers : Row → List ℕ
 recordNumbers row =
     row .kind ∷ row .detail ∷ row .start ∷ row .end ∷ row .«start_line» ∷ row .«start_column» ∷ row .«end_line» ∷ row .«end_column»
-    ∷ row .indent ∷ []
+    ∷ row .indent ∷ row .depth ∷ []
 
 -- ---- what is told
 

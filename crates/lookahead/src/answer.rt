@@ -15,8 +15,8 @@ use rows::Row;
 
 // ---- a record
 
-// Writes a record's nine numbers.
-pub fn put_record(words: &mut [u32; 9], row: Row)
+// Writes a record's ten numbers.
+pub fn put_record(words: &mut [u32; 10], row: Row)
     ensures { λ _. ⌜ now (words .exit) ≡ recordNumbers row ⌝ }
 {
     *words = [
@@ -29,6 +29,7 @@ pub fn put_record(words: &mut [u32; 9], row: Row)
         row.end_line,
         row.end_column,
         row.indent,
+        row.depth,
     ];
 }
 
@@ -71,6 +72,7 @@ fn not_shown(taken: usize, queued: usize) -> Told
             end_line: 0,
             end_column: 0,
             indent: 0,
+            depth: 0,
         },
         taken,
         queued,

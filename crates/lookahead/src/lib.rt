@@ -32,7 +32,7 @@ pub enum Given {
     Nothing,
     // Refusal 8: the cursor is unfit for this list.
     BadState,
-    // Refusal 9: the record at this index has a kind over 80, or a detail that its kind may not have.
+    // Refusal 9: the record at this index is none that may be shown (`rows::RowAt`).
     BadRecord(usize),
 }
 
@@ -47,7 +47,7 @@ pub enum Peeked {
     PeekTooFar,
     // Refusal 7: a token must be queued, and no more may be.
     QueueFull,
-    // Refusal 9: the record at this index has a kind over 80, or a detail that its kind may not have.
+    // Refusal 9: the record at this index is none that may be shown (`rows::RowAt`).
     BadRecord(usize),
 }
 

@@ -20,11 +20,11 @@ pub fn print_number(x: u64, after: &[u8])
     io::write_all(STDOUT_FILENO, after);
 }
 
-// The nine numbers of a record in the order in which they are printed: its kind and its detail, then the other seven. Their count, which
+// The ten numbers of a record in the order in which they are printed: its kind and its detail, then the other eight. Their count, which
 // follows, is what lending them as a slice asks.
-pub fn numbers(row: Row) -> [u32; 9]
-    ensures { λ r. ⌜ r ≡ row .kind ∷ row .detail ∷ row .start ∷ row .end ∷ row .«start_line» ∷ row .«start_column» ∷ row .«end_line» ∷ row .«end_column» ∷ row .indent ∷ [] ⌝ }
-    ensures { λ r. ⌜ 9 ≡ length r ⌝ }
+pub fn numbers(row: Row) -> [u32; 10]
+    ensures { λ r. ⌜ r ≡ row .kind ∷ row .detail ∷ row .start ∷ row .end ∷ row .«start_line» ∷ row .«start_column» ∷ row .«end_line» ∷ row .«end_column» ∷ row .indent ∷ row .depth ∷ [] ⌝ }
+    ensures { λ r. ⌜ 10 ≡ length r ⌝ }
 {
     [
         row.kind,
@@ -36,6 +36,7 @@ pub fn numbers(row: Row) -> [u32; 9]
         row.end_line,
         row.end_column,
         row.indent,
+        row.depth,
     ]
 }
 
@@ -56,12 +57,12 @@ fn print_numbers(numbers: &[u32]) {
     }
 }
 
-// Prints a record, by its nine numbers.
+// Prints a record, by its ten numbers.
 pub fn print_row(row: Row)
     ensures { λ r. ⌜ r ≡ tt ⌝ }
 {
-    let nine = numbers(row);
-    print_numbers(&nine);
+    let ten = numbers(row);
+    print_numbers(&ten);
     io::write_all(STDOUT_FILENO, b"\n");
 }
 

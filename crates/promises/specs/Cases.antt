@@ -84,10 +84,10 @@ abbrev plain : OptionalNumber → Fill → OptionalNumber → Parsed
 plain width fill index =
     Read (record { alignment = Default; width = width; precision = Nothing; representation = Plain; fill = fill }) index
 
--- a record by its nine numbers, in the order in which the list program prints them: kind, detail, byte start, byte end, start line, start
--- column, end line, end column, indent
-abbrev row : ℕ → ℕ → ℕ → ℕ → ℕ → ℕ → ℕ → ℕ → ℕ → Row
-row kind detail start end startLine startColumn endLine endColumn indent =
+-- a record by its ten numbers, in the order in which the list program prints them: kind, detail, byte start, byte end, start line, start
+-- column, end line, end column, indent, depth
+abbrev row : ℕ → ℕ → ℕ → ℕ → ℕ → ℕ → ℕ → ℕ → ℕ → ℕ → Row
+row kind detail start end startLine startColumn endLine endColumn indent depth =
     record {
       kind = kind;
       detail = detail;
@@ -98,6 +98,7 @@ row kind detail start end startLine startColumn endLine endColumn indent =
       «end_line» = endLine;
       «end_column» = endColumn;
       indent = indent;
+      depth = depth;
     }
 
 -- ---- the table
@@ -109,19 +110,19 @@ cases =
     -- the empty source
     scans [] (End 0 0) []
     -- "\r": an Error that stands still
-    ∷ scans (13 ∷ []) (Stuck 1 0) (row error 0 0 0 0 0 0 0 0 ∷ [])
-    ∷ scans (bytes "#-#") (End 1 3) (row commentMulti 0 0 3 0 0 0 3 0 ∷ [])
+    ∷ scans (13 ∷ []) (Stuck 1 0) (row error 0 0 0 0 0 0 0 0 0 ∷ [])
+    ∷ scans (bytes "#-#") (End 1 3) (row commentMulti 0 0 3 0 0 0 3 0 0 ∷ [])
     -- a raw string with no hashes has detail 2
     ∷ scans (bytes "r\"\"") (End 3 3)
-    (row stringStart 2 0 2 0 0 0 2 0 ∷ row stringLiteral 0 2 2 0 2 0 2 0 ∷ row stringEnd 0 2 3 0 2 0 3 0 ∷ [])
-    ∷ scans (bytes "else iffy") (End 2 9) (row elseIf 0 0 7 0 0 0 7 0 ∷ row id 0 7 9 0 7 0 9 0 ∷ [])
+    (row stringStart 2 0 2 0 0 0 2 0 0 ∷ row stringLiteral 0 2 2 0 2 0 2 0 1 ∷ row stringEnd 0 2 3 0 2 0 3 0 1 ∷ [])
+    ∷ scans (bytes "else iffy") (End 2 9) (row elseIf 0 0 7 0 0 0 7 0 0 ∷ row id 0 7 9 0 7 0 9 0 0 ∷ [])
     -- behind a dot "if" is a name, and "else" is not
-    ∷ scans (bytes "x.if") (End 3 4) (row id 0 0 1 0 0 0 1 0 ∷ row dot 0 1 2 0 1 0 2 0 ∷ row id 0 2 4 0 2 0 4 0 ∷ [])
-    ∷ scans (bytes "x.else") (End 3 6) (row id 0 0 1 0 0 0 1 0 ∷ row dot 0 1 2 0 1 0 2 0 ∷ row else 0 2 6 0 2 0 6 0 ∷ [])
+    ∷ scans (bytes "x.if") (End 3 4) (row id 0 0 1 0 0 0 1 0 0 ∷ row dot 0 1 2 0 1 0 2 0 0 ∷ row id 0 2 4 0 2 0 4 0 0 ∷ [])
+    ∷ scans (bytes "x.else") (End 3 6) (row id 0 0 1 0 0 0 1 0 0 ∷ row dot 0 1 2 0 1 0 2 0 0 ∷ row else 0 2 6 0 2 0 6 0 0 ∷ [])
     -- U+6F22 U+5B57: the first letter of a name counts one column, whatever its width
-    ∷ scans (0xe6 ∷ 0xbc ∷ 0xa2 ∷ 0xe5 ∷ 0xad ∷ 0x97 ∷ []) (End 1 6) (row id 0 0 6 0 0 0 3 0 ∷ [])
+    ∷ scans (0xe6 ∷ 0xbc ∷ 0xa2 ∷ 0xe5 ∷ 0xad ∷ 0x97 ∷ []) (End 1 6) (row id 0 0 6 0 0 0 3 0 0 ∷ [])
     -- U+20AC: an unknown symbol advances one byte, and inside a character nothing is left to read
-    ∷ scans (0xe2 ∷ 0x82 ∷ 0xac ∷ []) (End 1 1) (row error 0 0 1 0 0 0 1 0 ∷ [])
+    ∷ scans (0xe2 ∷ 0x82 ∷ 0xac ∷ []) (End 1 1) (row error 0 0 1 0 0 0 1 0 0 ∷ [])
     -- no format options: all defaults
     ∷ parses [] (plain Nothing NoFill Nothing) []
     -- a dot with nothing after it is a fill

@@ -8,7 +8,7 @@ use mathlib.Core.Bool.{true, false}
 use mathlib.Core.List.{List}
 use lib.ListN.{replicate}
 use Rattle.base.specs.Refusal.{none, peekTooFar, queueFull, badState, badRecord}
-use Rattle.rows.specs.Row.{room, rowAt, rowFits, shownAt}
+use Rattle.rows.specs.Row.{room, rowAt, fitsAt, shownAt}
 use Rattle.cursor.specs.Cursor.{queueMost, isFit, ahead, queueing}
 use Rattle.lookahead.specs.Peek as ofPeek
 use Rattle.lookahead.specs.LookAhead.{lookAheadOf}
@@ -43,10 +43,10 @@ pub record LookAheadPromise (list : List ℕ) (c : Cursor) (n : ℕ) (r : Peeked
   pub nothing-there :
       (Unfit list c → ⊥) → (m : ℕ) → Lacks c n m → m ≤ queueMost → c .count ≤ ahead c n → r ≡ peeked.Nothing (queueing c m)
   pub bad-record :
-      (Unfit list c → ⊥) → (m : ℕ) → Lacks c n m → m ≤ queueMost → ahead c n < c .count → rowFits (rowAt list (ahead c n)) ≡ false
+      (Unfit list c → ⊥) → (m : ℕ) → Lacks c n m → m ≤ queueMost → ahead c n < c .count → fitsAt list (ahead c n) ≡ false
       → peekedSays r ≡ says badRecord (ahead c n)
   pub shown :
-      (Unfit list c → ⊥) → (m : ℕ) → Lacks c n m → m ≤ queueMost → ahead c n < c .count → rowFits (rowAt list (ahead c n)) ≡ true
+      (Unfit list c → ⊥) → (m : ℕ) → Lacks c n m → m ≤ queueMost → ahead c n < c .count → fitsAt list (ahead c n) ≡ true
       → r ≡ peeked.Token (rowAt list (ahead c n)) (queueing c m)
   pub never-too-far : ofPeek.numberOf r ≡ peekTooFar → ⊥
   -- after an unrefused look the cursor is fit

@@ -9,7 +9,7 @@ use mathlib.Core.List.{List}
 use lib.Dec.{ltb}
 use borrow.Author.Tests.{leb-true, lt-ltb, le-ltb}
 use Rattle.base.specs.Refusal.{none, peekTooFar}
-use Rattle.rows.specs.Row.{room, rowAt, rowFits, shownAt}
+use Rattle.rows.specs.Row.{room, rowAt, fitsAt, shownAt}
 use Rattle.rows.specs.RowLaws.{shown-fit, shown-unfit}
 use Rattle.cursor.specs.Cursor.{queueMost, isFit, ahead, queuedFor, queueing}
 use Rattle.cursor.specs.CursorLaws.{fits-of, there-end, queued-for}

@@ -8,7 +8,7 @@ use mathlib.Core.Option.{Option, some}
 use mathlib.Core.Option as option
 use lib.ListN.{length, getD}
 use Rattle.base.specs.Refusal.{none, peekTooFar, queueFull, badState, badRecord}
-use Rattle.rows.specs.Row.{room, rowAt, rowFits, shownAt}
+use Rattle.rows.specs.Row.{room, rowAt, fitsAt, shownAt}
 use Rattle.rows.specs.declared.Row.{Row}
 use Rattle.reading.specs.declared.Scanned.{Scanned}
 use Rattle.reading.specs.declared.Scanned.the-variants as scanned
@@ -60,16 +60,16 @@ pub record NextPromise (list : List ℕ) (c : Cursor) (r : Given) : Type 0 where
   pub unfit : Unfit list c → givenSays r ≡ says badState 0
   pub nothing-left : (Unfit list c → ⊥) → c .taken ≡ c .count → r ≡ given.Nothing
   pub bad-record :
-      (Unfit list c → ⊥) → c .taken < c .count → rowFits (rowAt list (c .taken)) ≡ false → givenSays r ≡ says badRecord (c .taken)
+      (Unfit list c → ⊥) → c .taken < c .count → fitsAt list (c .taken) ≡ false → givenSays r ≡ says badRecord (c .taken)
   pub at-end :
-      (Unfit list c → ⊥) → c .status ≡ End → c .taken < c .count → rowFits (rowAt list (c .taken)) ≡ true
+      (Unfit list c → ⊥) → c .status ≡ End → c .taken < c .count → fitsAt list (c .taken) ≡ true
       → r ≡ given.Token (rowAt list (c .taken)) (handedOn c (c .taken + 1))
   pub at-stuck :
-      (Unfit list c → ⊥) → c .status ≡ Stuck → c .taken + 1 < c .count → rowFits (rowAt list (c .taken)) ≡ true
+      (Unfit list c → ⊥) → c .status ≡ Stuck → c .taken + 1 < c .count → fitsAt list (c .taken) ≡ true
       → r ≡ given.Token (rowAt list (c .taken)) (handedOn c (c .taken + 1))
   -- the last record is handed out again and again
   pub at-last :
-      (Unfit list c → ⊥) → c .status ≡ Stuck → c .taken + 1 ≡ c .count → rowFits (rowAt list (c .taken)) ≡ true
+      (Unfit list c → ⊥) → c .status ≡ Stuck → c .taken + 1 ≡ c .count → fitsAt list (c .taken) ≡ true
       → r ≡ given.Token (rowAt list (c .taken)) (handedOn c (c .taken))
 
 -- ---- `peek`
@@ -96,10 +96,10 @@ pub record PeekPromise (list : List ℕ) (c : Cursor) (n : ℕ) (r : Peeked) : T
   pub full : (Unfit list c → ⊥) → n ≤ c .queued → More c → c .queued ≡ queueMost → peekedSays r ≡ says queueFull 0
   pub nothing : (Unfit list c → ⊥) → (d : Cursor) → Queues c n d → d .queued ≤ n → r ≡ peeked.Nothing d
   pub bad-record :
-      (Unfit list c → ⊥) → (d : Cursor) → Queues c n d → n < d .queued → rowFits (rowAt list (ahead c n)) ≡ false
+      (Unfit list c → ⊥) → (d : Cursor) → Queues c n d → n < d .queued → fitsAt list (ahead c n) ≡ false
       → peekedSays r ≡ says badRecord (ahead c n)
   pub shown :
-      (Unfit list c → ⊥) → (d : Cursor) → Queues c n d → n < d .queued → rowFits (rowAt list (ahead c n)) ≡ true
+      (Unfit list c → ⊥) → (d : Cursor) → Queues c n d → n < d .queued → fitsAt list (ahead c n) ≡ true
       → r ≡ peeked.Token (rowAt list (ahead c n)) d
   -- which record that is: the one n places on, and at Stuck no other than the last past it
   pub place-at-end : c .status ≡ End → c .taken + n ≤ c .count → ahead c n ≡ c .taken + n

@@ -16,7 +16,8 @@ use borrow.Author.Tests.{ltb-true, leb-true, lt-ltb, le-leb, lt-leb}
 use Rattle.base.specs.PickLaws.{split-lt}
 use Rattle.property.specs.Table.{propertiesAt}
 use Rattle.fitness.specs.FitLaws as property
-use Rattle.rows.specs.Row.{room, rowAt, putRows, rowFits, shownAt}
+use Rattle.rows.specs.First.{rowFits}
+use Rattle.rows.specs.Row.{room, rowAt, putRows, fitsAt, shownAt}
 use Rattle.rows.specs.RowLaws.{rows-room, rows-shown, shown-fit, shown-unfit}
 use Rattle.rows.specs.declared.Row.{Row}
 use Rattle.state.specs.State.{startState}
@@ -101,7 +102,7 @@ module _ (list : List ℕ) (c : Cursor) (n : Unfit list c → ⊥) where
   unfolding movedOn
   moved-to taken e = rw e
 
-  given-to : (taken : ℕ) → c .taken < c .count → rowFits (rowAt list (c .taken)) ≡ true → ahead c 1 ≡ taken
+  given-to : (taken : ℕ) → c .taken < c .count → fitsAt list (c .taken) ≡ true → ahead c 1 ≡ taken
       → nextOf (room list) (shownAt list) c ≡ given.Token (rowAt list (c .taken)) (handedOn c taken)
   given-to taken h t e =
       sym (next-row (room list) (shownAt list) c (fit-is list c n) first h (shown-fit list (c .taken) t)) ∙ ap (given.Token (rowAt list (c .taken))) (moved-to taken e)
@@ -199,10 +200,10 @@ module _ (list : List ℕ) (c : Cursor) (f : isFit (room list) c ≡ true) where
       there : ahead c n < d .count
       there = subst (λ (i : ℕ). i < d .count) (l .same) (queued-there (room list) d (l .fit) n h)
 
-      look-bad : rowFits (rowAt list (ahead c n)) ≡ false → peekOf (room list) (shownAt list) c n ≡ peeked.BadRecord (ahead c n)
+      look-bad : fitsAt list (ahead c n) ≡ false → peekOf (room list) (shownAt list) c n ≡ peeked.BadRecord (ahead c n)
       look-bad t = l .answer ∙ sym (queued-bad (shownAt list) d n (l .same) there h (shown-unfit list (ahead c n) t))
 
-      look-row : rowFits (rowAt list (ahead c n)) ≡ true → peekOf (room list) (shownAt list) c n ≡ peeked.Token (rowAt list (ahead c n)) d
+      look-row : fitsAt list (ahead c n) ≡ true → peekOf (room list) (shownAt list) c n ≡ peeked.Token (rowAt list (ahead c n)) d
       look-row t = l .answer ∙ sym (queued-row (shownAt list) d n (l .same) there h (shown-fit list (ahead c n) t))
 
 pub peek-promise : (list : List ℕ) (c : Cursor) (n : ℕ) (r : Peeked) → PeekEnsures list c n r → PeekPromise list c n r

@@ -1,10 +1,10 @@
 -- A loop that reads on into a list, on plain values: what holds at its head (`Going`), and what each way out and each turn owes. What completes
 -- the list from here completes it from the start.
---     row-same                                  a record is made of the lexers' place and indent alone
+--     row-same                                  of the lexer after it, a record has the place and the indent alone
 --     error-packs, stuck-written                an Error that stands still
 --     begins, from-start                        into the loop
 --     at-end, at-modes, at-full, at-stuck       the ways out
---     keeps-is, changes-is, made, bounds, packs, falls, again    a turn
+--     keeps-is, changes-is, made, low, bounds, packs, falls, again    a turn
 -- Assumes nothing.
 use Prim.Native.Nat.{ℕ, _+_, _≤_, _<_}
 use native.Mathlib.Omega.{arith}
@@ -16,12 +16,14 @@ use Rattle.position.specs.declared.Place.{Place}
 use Rattle.property.specs.Table.{propertiesAt}
 use Rattle.fitness.specs.Fit.{FitTable}
 use Rattle.token.specs.Kind.{error}
-use Rattle.rows.specs.Row.{room, Packs, putRow, rowFits}
-use Rattle.rows.specs.RowLaws.{put-length, fits-packs}
+use Rattle.rows.specs.First.{Packs, depthMost}
+use Rattle.rows.specs.FirstLaws.{fits-packs}
+use Rattle.rows.specs.Row.{room, putRow}
+use Rattle.rows.specs.RowLaws.{put-length}
 use Rattle.token.specs.declared.Token.{Token}
 use Rattle.rows.specs.declared.Row.{Row}
 use Rattle.token.specs.Token.{tokenOf}
-use Rattle.state.specs.Lexer.{reachOf}
+use Rattle.state.specs.Lexer.{reachOf, atPlace, withIndent}
 use Rattle.state.specs.State.{stateOf, changedBy}
 use Rattle.state.specs.Stack.{Agrees}
 use Rattle.state.specs.StackLaws.{state-is}
@@ -45,40 +47,23 @@ use Rattle.reading.specs.Reading.{rowOf, ended, stuck, deep, Reading, on
 use Rattle.reading.specs.Scan.{whole, Fills, ReadsOn}
 use Rattle.reading.specs.ReadingLaws.{reading-step}
 use Rattle.reading.specs.ScanLaws.{fills-none, fills-full, fills-row}
+use Rattle.reading.specs.ShownLaws.{depth-low, row-fits}
 use Rattle.reading.specs.declared.Scanned.{Scanned}
 use Rattle.reading.specs.declared.Scanned.the-variants.{End, Stuck, ListFull}
 
--- a record is made of the place and the indent after it alone
+-- of the lexer after it, a record has the place and the indent alone
 pub row-same : (t : Token) (before l m : Lexer) → Same l m → rowOf t before l ≡ rowOf t before m
 row-same t before l m e =
-    ap (λ (p : Place). record {
-      kind = t .kind;
-      detail = t .detail;
-      start = p .«previous_byte» .0;
-      end = p .«current_byte» .0;
-      «start_line» = p .span .start .line;
-      «start_column» = p .span .start .column .0;
-      «end_line» = p .span .end .line;
-      «end_column» = p .span .end .column .0;
-      indent = l .indent;
-    }) (e .place)
-    ∙ ap (λ (n : ℕ). record {
-      kind = t .kind;
-      detail = t .detail;
-      start = m .place .«previous_byte» .0;
-      end = m .place .«current_byte» .0;
-      «start_line» = m .place .span .start .line;
-      «start_column» = m .place .span .start .column .0;
-      «end_line» = m .place .span .end .line;
-      «end_column» = m .place .span .end .column .0;
-      indent = n;
-    }) (e .indent)
+    ap (λ (p : Place). rowOf t before (atPlace p l)) (e .place)
+    ∙ ap (λ (n : ℕ). rowOf t before (withIndent n (atPlace (m .place) l))) (e .indent)
 
 -- ---- an Error that stands still
 
-pub error-packs : (before after : Lexer) {t : Token} {row : Row} → t ≡ tokenOf error → row ≡ rowOf t before after → Packs row
-error-packs before after e q =
-    subst Packs (sym (q ∙ ap (λ (u : Token). rowOf u before after) e)) (record { kind-fits = omega arith; detail-fits = omega arith })
+pub error-packs : (before after : Lexer) {t : Token} {row : Row} → before .depth ≤ depthMost → t ≡ tokenOf error → row ≡ rowOf t before after
+    → Packs row
+error-packs before after h e q =
+    subst Packs (sym (q ∙ ap (λ (u : Token). rowOf u before after) e))
+    (fits-packs (rowOf (tokenOf error) before after) (row-fits (tokenOf error) before after h refl))
 
 module _ (l : List ℕ) (k : ℕ) (before after : Lexer) where
   pub stuck-written : k < room l → {t : Token} {row : Row} {new : List ℕ} → t ≡ tokenOf error → row ≡ rowOf t before after → new ≡ putRow l k row
@@ -181,6 +166,10 @@ module _ {s table : List ℕ} {edition : ℕ} {st₀ : State} {k₀ : ℕ} {l₀
   pub made : (u : Token) {h : Half} {row : Row} → h ≡ found → row ≡ rowOf u (st .lexer) (h .lexer) → row ≡ rowOf u (st .lexer) (found .lexer)
   made u e q = q ∙ ap (λ (x : Half). rowOf u (st .lexer) (x .lexer)) e
 
+  -- there are at most 64 modes
+  pub low : st .lexer .depth ≤ depthMost
+  low = depth-low st (g .ok .agrees)
+
   -- the bytes of a record have 32 bits
   pub bounds : (found .lexer .place .«previous_byte» .0 ≤ sourceMost) × (found .lexer .place .«current_byte» .0 ≤ sourceMost)
   bounds =
@@ -190,9 +179,10 @@ module _ {s table : List ℕ} {edition : ℕ} {st₀ : State} {k₀ : ℕ} {l₀
 
   module _ (u : Token) (e : found .what ≡ what.Token u) where
     pub packs : {row : Row} → row ≡ rowOf u (st .lexer) (found .lexer) → Packs row
-    unfolding rowFits
     packs {row} q =
-        subst Packs (sym q) (fits-packs (rowOf u (st .lexer) (found .lexer)) (token-reads s table edition (g .fit) st (g .ok) u (found-is e) .shown))
+        subst Packs (sym q)
+        (fits-packs (rowOf u (st .lexer) (found .lexer))
+        (row-fits u (st .lexer) (found .lexer) low (token-reads s table edition (g .fit) st (g .ok) u (found-is e) .shown)))
 
     pub falls : {x : State} → x ≡ next → measure s x < measure s st
     falls q = subst (λ (x : State). measure s x < measure s st) (sym q) (step-falls s table edition (g .fit) st (g .ok) u (found-is e))

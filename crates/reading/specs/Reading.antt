@@ -17,8 +17,8 @@ use Rattle.lexer.specs.declared.What.the-variants as what
 
 -- ---- records
 
--- `LexedToken`: a token with the bytes, the span and the indent that the lexer l has after it. What it may tell of the lexer before it
--- comes in too: document 02 asks for the depth there
+-- `LexedToken`: a token with the bytes, the span and the indent that the lexer l has after it. Beside them it has the depth that the lexer had
+-- before it (document 02, C-4), which the Rust's does not tell
 abbrev pub rowOf : Token → Lexer → Lexer → Row
 rowOf t before l =
     record {
@@ -31,6 +31,7 @@ rowOf t before l =
       «end_line» = l .place .span .end .line;
       «end_column» = l .place .span .end .column .0;
       indent = l .indent;
+      depth = before .depth;
     }
 
 -- ---- the reading

@@ -1,17 +1,26 @@
 -- Every record of a reading may be shown, and a reading that is stuck has one.
+--     depth-low        a lexer whose copies agree has at most 64 modes
+--     row-fits         so the record of a token that may be shown may be shown
 --     reading-shown    each of its records
 --     stuck-some       the Error that advanced nothing is a record
 -- Assumes nothing.
-use Prim.Native.Nat.{ℕ, zero, suc, _<_}
+use Prim.Native.Nat.{ℕ, zero, suc, _≤_, _<_}
 use native.Mathlib.Omega.{arith}
 use mathlib.Core.Path.{_≡_, refl}
-use mathlib.Core.Bool.{true}
+use mathlib.Core.Bool.{true, and-eq-true-iff}
 use mathlib.Core.List.{List, [], _∷_}
+use lib.Dec.{leb}
 use lib.ListN.{length, getD}
+use borrow.Author.Tests.{le-leb}
 use Rattle.property.specs.Table.{propertiesAt}
 use Rattle.fitness.specs.Fit.{FitTable}
-use Rattle.rows.specs.Row.{rowFits}
+use Rattle.token.specs.Kind.{error}
+use Rattle.token.specs.Detail.{fits}
+use Rattle.token.specs.Token.{tokenOf}
+use Rattle.token.specs.declared.Token.{Token}
+use Rattle.rows.specs.First.{depthMost, rowFits}
 use Rattle.rows.specs.declared.Row.{Row}
+use Rattle.state.specs.Stack.{Agrees}
 use Rattle.state.specs.declared.Lexer.{Lexer}
 use Rattle.state.specs.declared.State.{State}
 use Rattle.lexer.specs.Step.{step}
@@ -20,7 +29,16 @@ use Rattle.stepping.specs.InvariantLaws.{step-ok}
 use Rattle.stepping.specs.ReadsLaws.{token-reads}
 use Rattle.lexer.specs.declared.What.{What}
 use Rattle.lexer.specs.declared.What.the-variants as what
-use Rattle.reading.specs.Reading.{stuck, Reading, afterStep, readIn, readFrom}
+use Rattle.reading.specs.Reading.{rowOf, stuck, Reading, afterStep, readIn, readFrom}
+
+pub depth-low : (st : State) → Agrees st → st .lexer .depth ≤ depthMost
+depth-low st a = omega (arith, a .depth, a .most)
+
+pub row-fits : (u : Token) (before after : Lexer) → before .depth ≤ depthMost → fits (u .kind) (u .detail) ≡ true
+    → rowFits (rowOf u before after) ≡ true
+unfolding rowFits
+row-fits u before after h e =
+    and-eq-true-iff (leb (before .depth) depthMost) (fits (u .kind) (u .detail)) .1 (le-leb (before .depth) depthMost h, e)
 
 -- each of these may be shown
 unfoldable AllShown : List Row → Type 0
@@ -40,9 +58,10 @@ module _ (s table : List ℕ) (edition : ℕ) (fit : FitTable table) where
   -- after a step, if what is read on from there may be shown
   after-shown : (go : State → Reading) (st : State) → Ok s st → (w : What) → step (propertiesAt table) edition s st .what ≡ w
       → AllShown (go (next st) .rows) → AllShown (afterStep go (st .lexer) (next st) w .rows)
-  unfolding AllShown rowFits
-  after-shown go st ok (what.Token u) e a = (token-reads s table edition fit st ok u e .shown, a)
-  after-shown go st ok what.Stuck e a = (refl, tt)
+  unfolding AllShown
+  after-shown go st ok (what.Token u) e a =
+      (row-fits u (st .lexer) (next st .lexer) (depth-low st (ok .agrees)) (token-reads s table edition fit st ok u e .shown), a)
+  after-shown go st ok what.Stuck e a = (row-fits (tokenOf error) (st .lexer) (next st .lexer) (depth-low st (ok .agrees)) refl, tt)
   after-shown go st ok what.ModesFull e a = tt
   after-shown go st ok what.End e a = tt
 

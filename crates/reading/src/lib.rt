@@ -6,6 +6,7 @@ pub mod answer;
 ghost use mathlib.Core.Path.{_≡_};
 ghost use Prim.Native.Nat.{_≤_};
 ghost use Rattle.base.specs.Refusal.{sourceMost};
+ghost use Rattle.rows.specs.First.{depthMost};
 ghost use Rattle.reading.specs.Reading.{rowOf};
 use input::Refusal;
 use rows::Row;
@@ -27,9 +28,10 @@ pub enum Scanned {
     ModesFull { count: usize, byte: usize },
 }
 
-// The record of a token, from the lexer before it and after it (lexer.rs `LexedToken`). Today it tells nothing of the one before.
+// The record of a token, from the lexer after it (lexer.rs `LexedToken`); the depth is that of the lexer before it.
 pub fn row_of(token: Token, before: Lexer, after: Lexer) -> Row
     requires { ⌜ (after .place .«previous_byte» .0 ≤ sourceMost) × (after .place .«current_byte» .0 ≤ sourceMost) ⌝ }
+    requires { ⌜ before .depth ≤ depthMost ⌝ }
     ensures { λ r. ⌜ r ≡ rowOf token before after ⌝ }
 {
     let place = after.place;
@@ -45,5 +47,6 @@ pub fn row_of(token: Token, before: Lexer, after: Lexer) -> Row
         end_line: end.line,
         end_column: end.column.0,
         indent: after.indent,
+        depth: before.depth as u32,
     }
 }

@@ -1,5 +1,5 @@
 // What the programs that replay a scan share: the list that they lend to it, and whether a scan answered and wrote what a line of recorded
-// answers has, `STATUS COUNT BYTE` and the nine numbers of each record (tools/README.md). It knows nothing of how a scan comes about, and
+// answers has, `STATUS COUNT BYTE` and the ten numbers of each record (tools/README.md). It knows nothing of how a scan comes about, and
 // nothing of a record's words.
 use lines::same;
 use reading::Scanned;
@@ -46,12 +46,12 @@ fn status_of(said: Scanned) -> usize {
     }
 }
 
-// The nine numbers of a record; answers the place after them, or 0 where one differs, or where the place is 0.
+// The ten numbers of a record; answers the place after them, or 0 where one differs, or where the place is 0.
 pub fn same_fields(text: &[u8], at: usize, row: Row) -> usize
     ensures { λ r. ⌜ (at ≡ 0 → r ≡ 0) ⌝ }
 {
-    let nine = printing::numbers(row);
-    lines::same_all(text, at, &nine)
+    let ten = printing::numbers(row);
+    lines::same_all(text, at, &ten)
 }
 
 // The same of record i of a list. One that may not be shown differs from every line.

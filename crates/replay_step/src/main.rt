@@ -1,5 +1,5 @@
 // Replays the read step over recorded answers of the Rust (data/steps.txt; tools/README.md says how it was made), with the full table: kind,
-// detail, range, span and indent of every token, and how the reading ends. Then a file with one wrong line, so that a difference is seen
+// detail, range, span, indent and depth of every token, and how the reading ends. Then a file with one wrong line, so that a difference is seen
 // to be reported. The table is fit, since it was read; what else the step requires holds at the start of a source, and each step keeps it.
 use lexer::What;
 use state::State;
@@ -9,8 +9,8 @@ ghost use Rattle.fitness.specs.Fit.{FitTable};
 ghost use Rattle.state.specs.State.{startState};
 ghost use Rattle.stepping.specs.Invariant.{Ok};
 
-// The nine numbers of a record; answers the place after them, or 0 where one differs.
-fn same_record(text: &[u8], at: usize, token: token::Token, state: State) -> usize {
+// The ten numbers of a record, of a token that was found at this depth; answers the place after them, or 0 where one differs.
+fn same_record(text: &[u8], at: usize, token: token::Token, depth: usize, state: State) -> usize {
     let place = state.lexer.place;
     let start = place.span.start;
     let end = place.span.end;
@@ -25,7 +25,8 @@ fn same_record(text: &[u8], at: usize, token: token::Token, state: State) -> usi
         end.column.0,
         state.lexer.indent,
     ];
-    lines::same_all(text, at, &others)
+    let at = lines::same_all(text, at, &others);
+    lines::same(text, at, depth)
 }
 
 // How a reading ended: the line's status after so many records at this byte. A record that differed, at place 0, stays a difference.
@@ -45,13 +46,20 @@ fn same_end(
     lines::same(text, at, state.lexer.place.current_byte.0) != 0
 }
 
-// The status is 0 at the end, 1 where stuck, and 105 where there is no room for a mode; the Error that stands still has a record.
+// The status is 0 at the end, 1 where stuck, and 105 where there is no room for a mode; the Error that stands still has a record, and leaves the
+// modes.
 fn ends(text: &[u8], at: usize, record_at: usize, what: What, count: u32, state: State) -> bool
     requires { ⌜ count ≤ 4097 ⌝ }
 {
     match what {
         What::Stuck => {
-            let last = same_record(text, record_at, token::token_of(0), state);
+            let last = same_record(
+                text,
+                record_at,
+                token::token_of(0),
+                state.lexer.depth,
+                state,
+            );
             same_end(text, at, last, 1, count + 1, state)
         }
         What::ModesFull => same_end(text, at, record_at, 105, count, state),
@@ -68,12 +76,13 @@ fn steps_agree(text: &[u8], at: usize, source: &[u8], table: &[u32]) -> bool
     let mut record_at = lines::past(text, byte_at, b' ');
     let mut state = State::new();
     for k in 0..4097 {
+        let depth = state.lexer.depth;
         let step = lexer::read_token(source, table, 2, state);
         let what = step.what;
         state = step.state;
         match what {
             What::Token(token) => {
-                record_at = same_record(text, record_at, token, state);
+                record_at = same_record(text, record_at, token, depth, state);
             }
             _ => {
                 return ends(text, at, record_at, what, k, state);

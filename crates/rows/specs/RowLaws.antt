@@ -11,24 +11,22 @@
 --     rows-of-length, rows-of-at        the records of a list, one by one
 --     rows-back                         those that were put
 --     shown-fit, shown-unfit            what is shown at an index, by the test
---     fits-packs, rows-shown            a record that may be shown can be put, and is then shown
+--     rows-shown                        a record that was put and may be shown is shown
 -- Assumes nothing.
 use mathlib.Core.Path.{_≡_, refl, sym, ap, _∙_}
-use mathlib.Core.Bool.{true, false, and-eq-true-iff}
+use mathlib.Core.Bool.{true, false}
 use mathlib.Core.List.{List, [], _∷_, _++_}
-use Prim.Native.Nat.{ℕ, zero, suc, _+_, _*_, _/_, _%_, _≤_, _<_}
+use Prim.Native.Nat.{ℕ, zero, suc, _+_, _*_, _/_, _≤_, _<_}
 use native.Mathlib.Nat.{add-zero}
 use native.Mathlib.Omega.{arith}
-use lib.Dec.{leb, lit<}
-use borrow.Author.Tests.{leb-true}
+use lib.Dec.{lit<}
 use lib.ListN.{length, getD, drop}
 use lib.Seq.{getD-drop, ext-getD, sets}
-use Rattle.token.specs.Kind.{kindMost}
-use Rattle.token.specs.Detail.{detailAllowed}
-use Rattle.token.specs.DetailLaws.{allowed-most}
+use Rattle.rows.specs.First.{firstOf, Packs, kindIn, detailIn, depthIn, aboveIn, rowFits, fitsBelow}
+use Rattle.rows.specs.FirstLaws.{kind-back, detail-back, depth-back, above-back, nothing-above, fits-packs, fits-first, below-fit, below-unfit}
 use Rattle.rows.specs.Store.{wordsAll}
 use Rattle.rows.specs.StoreLaws as store
-use Rattle.rows.specs.Row.{rowWords, kindRoom, room, wordsOf, Packs, rowFrom, firstRow, rowAt, putRow, putRows, putRowsAt, rowsOf, rowFits, shownAt}
+use Rattle.rows.specs.Row.{rowWords, room, wordsOf, rowFrom, firstRow, rowAt, putRow, putRows, putRowsAt, rowsOf, aboveAt, fitsAt, shownAt}
 use Rattle.rows.specs.declared.Row.{Row}
 use Rattle.rows.specs.declared.RowAt.the-variants.{Fit, Unfit}
 
@@ -43,13 +41,14 @@ from-drop : (l : List ℕ) (n : ℕ) → rowFrom l n ≡ firstRow (drop n l)
 unfolding firstRow
 from-drop l n = from-agree l (drop n l) n 0 (λ k h. sym (getD-drop n l (0 + k) 0 ∙ ap (λ (x : ℕ). getD l (n + x) 0) (omega arith)))
 
--- the first number keeps kind and detail apart
+-- the first number keeps kind, detail and depth apart
 pub row-back : (r : Row) (l : List ℕ) → Packs r → firstRow (wordsOf r ++ l) ≡ r
 unfolding firstRow
 row-back r l p =
-    let k : (r .kind + kindRoom * r .detail) % kindRoom ≡ r .kind = omega (arith, p .kind-fits) in
-    let d : (r .kind + kindRoom * r .detail) / kindRoom ≡ r .detail = omega (arith, p .kind-fits) in
-    simp (k, d)
+    let k : kindIn (firstOf r) ≡ r .kind = kind-back r p (firstOf r) 0 (nothing-above r) in
+    let d : detailIn (firstOf r) ≡ r .detail = detail-back r p (firstOf r) 0 (nothing-above r) in
+    let n : depthIn (firstOf r) ≡ r .depth = depth-back r p (firstOf r) 0 (nothing-above r) in
+    simp (k, d, n)
 
 -- ---- one record put
 
@@ -156,24 +155,30 @@ rows-back l rows d p =
 
 -- ---- what may be shown
 
-pub fits-packs : (r : Row) → rowFits r ≡ true → Packs r
-unfolding rowFits
-fits-packs r e =
-    let tests = and-eq-true-iff (leb (r .kind) kindMost) (detailAllowed (r .kind) (r .detail)) .0 e in
-    record {
-      kind-fits = omega (arith, leb-true (r .kind) kindMost (tests .0));
-      detail-fits = omega (arith, allowed-most (r .kind) (r .detail) (tests .1));
-    }
+pub shown-fit : (l : List ℕ) (i : ℕ) → fitsAt l i ≡ true → shownAt l i ≡ Fit (rowAt l i)
+unfolding shownAt fitsAt
+shown-fit l i e = below-fit (aboveAt l i) (rowAt l i) e
 
-pub shown-fit : (l : List ℕ) (i : ℕ) → rowFits (rowAt l i) ≡ true → shownAt l i ≡ Fit (rowAt l i)
-unfolding shownAt
-shown-fit l i e = rw e
+pub shown-unfit : (l : List ℕ) (i : ℕ) → fitsAt l i ≡ false → shownAt l i ≡ Unfit
+unfolding shownAt fitsAt
+shown-unfit l i e = below-unfit (aboveAt l i) (rowAt l i) e
 
-pub shown-unfit : (l : List ℕ) (i : ℕ) → rowFits (rowAt l i) ≡ false → shownAt l i ≡ Unfit
-unfolding shownAt
-shown-unfit l i e = rw e
+-- a record that was put has nothing above its depth
+above-none : (l : List ℕ) (rows : List Row) (i : ℕ) (d : Row) → i < length rows → Packs (getD rows i d) → aboveAt (putRows l rows) i ≡ 0
+unfolding putRows
+above-none l rows i d h p =
+    let there : getD (putRows l rows) (rowWords * i) 0 ≡ firstOf (getD rows i d) =
+    rw (add-zero (rowWords * i)) at (sym (getD-drop (rowWords * i) (putRows l rows) 0 0) ∙ ap (λ (m : List ℕ). getD m 0 0) (store.all-there rowWords wordsOf eight l rows i d h)) in
+    ap aboveIn there ∙ above-back (getD rows i d) p (firstOf (getD rows i d)) 0 (nothing-above (getD rows i d))
 
--- a record that was put and may be shown is shown
+-- so it may be shown, if it fits, and is shown
+pub rows-fit : (l : List ℕ) (rows : List Row) (i : ℕ) (d : Row) → i < length rows → rowFits (getD rows i d) ≡ true → fitsAt (putRows l rows) i ≡ true
+unfolding fitsAt
+rows-fit l rows i d h e =
+    let p = fits-packs (getD rows i d) e in
+    ap (fitsBelow (aboveAt (putRows l rows) i)) (rows-at l rows i d h p)
+    ∙ fits-first (getD rows i d) (aboveAt (putRows l rows) i) (above-none l rows i d h p) e
+
 pub rows-shown : (l : List ℕ) (rows : List Row) (i : ℕ) (d : Row) → i < length rows → rowFits (getD rows i d) ≡ true → shownAt (putRows l rows) i ≡ Fit (getD rows i d)
-unfolding shownAt
-rows-shown l rows i d h e = rw (rows-at l rows i d h (fits-packs (getD rows i d) e), e)
+rows-shown l rows i d h e =
+    shown-fit (putRows l rows) i (rows-fit l rows i d h e) ∙ ap Fit (rows-at l rows i d h (fits-packs (getD rows i d) e))

@@ -4,9 +4,17 @@
 // records have room are known here alone. It knows no source, no state and no scan.
 ghost use mathlib.Core.Path.{_≡_};
 ghost use Prim.Native.Nat.{_*_, _<_};
-ghost use Rattle.rows.specs.Row.{rowWords, room, Packs, putRow, rowFrom, shownAt};
-use token::detail_allowed;
-use token::kinds::KIND_MOST;
+ghost use Rattle.rows.specs.First.{Packs};
+ghost use Rattle.rows.specs.Row.{rowWords, room, putRow, rowFrom, shownAt};
+use crate::first::ABOVE_UNIT;
+use crate::first::DEPTH_ROOM;
+use crate::first::DEPTH_UNIT;
+use crate::first::DETAIL_ROOM;
+use crate::first::KIND_ROOM;
+use crate::first::first_of;
+use crate::first::shown_below;
+
+pub mod first;
 
 // How many numbers a record has.
 pub const ROW_WORDS: usize = 8;
@@ -25,12 +33,15 @@ pub struct Row {
     pub end_column: u32,
     // The indent of its line.
     pub indent: u32,
+    // How many modes the lexer had before it.
+    pub depth: u32,
 }
 
 // What stands at an index of a list.
 pub enum RowAt {
     Fit(Row),
-    // The kind is over 80, or the detail is none that this kind may have. Nothing else of the record is tested.
+    // The kind is over 80, the detail is none that this kind may have, the depth is over 64, or a bit above the depth is set. Nothing else of
+    // the record is tested.
     Unfit,
 }
 
@@ -47,7 +58,7 @@ pub fn put_row(list: &mut [u32], i: usize, row: Row)
     ensures { λ _. ⌜ now (list .exit) ≡ putRow (now (list .entry)) i row ⌝ }
 {
     let at = ROW_WORDS * i;
-    list[at] = row.kind + 128 * row.detail;
+    list[at] = first_of(row);
     list[at + 1] = row.start;
     list[at + 2] = row.end;
     list[at + 3] = row.start_line;
@@ -65,8 +76,8 @@ fn read_row(list: &[u32], i: usize) -> Row
     let at = ROW_WORDS * i;
     let first = list[at];
     Row {
-        kind: first % 128,
-        detail: first / 128,
+        kind: first % KIND_ROOM,
+        detail: first / KIND_ROOM % DETAIL_ROOM,
         start: list[at + 1],
         end: list[at + 2],
         start_line: list[at + 3],
@@ -74,6 +85,7 @@ fn read_row(list: &[u32], i: usize) -> Row
         end_line: list[at + 5],
         end_column: list[at + 6],
         indent: list[at + 7],
+        depth: first / DEPTH_UNIT % DEPTH_ROOM,
     }
 }
 
@@ -82,12 +94,6 @@ pub fn row_at(list: &[u32], i: usize) -> RowAt
     requires { ⌜ i < room (now list) ⌝ }
     ensures { λ r. ⌜ r ≡ shownAt (now (list .entry)) i ⌝ }
 {
-    let row = read_row(list, i);
-    if KIND_MOST < row.kind {
-        return RowAt::Unfit;
-    }
-    if detail_allowed(row.kind, row.detail) {
-        return RowAt::Fit(row);
-    }
-    RowAt::Unfit
+    let at = ROW_WORDS * i;
+    shown_below(list[at] / ABOVE_UNIT, read_row(list, i))
 }

@@ -15,7 +15,6 @@ use lib.ListN.{length}
 use borrow.Author.Tests.{eqb-true, eq-eqb}
 use Rattle.base.specs.PickLaws.{split-lt}
 use Rattle.base.specs.Refusal.{sourceMost}
-use Rattle.position.specs.declared.Place.{Place}
 use Rattle.utf8.specs.Encode.{WellFormed}
 use Rattle.property.specs.Table.{propertiesAt}
 use Rattle.fitness.specs.Fit.{FitTable}
@@ -23,18 +22,16 @@ use Rattle.token.specs.Kind.{error}
 use Rattle.token.specs.declared.Token.{Token}
 use Rattle.rows.specs.declared.Row.{Row}
 use Rattle.token.specs.Token.{tokenOf}
-use Rattle.state.specs.Lexer.{settled, remembered, atPlace}
+use Rattle.state.specs.Lexer.{settled, remembered}
 use Rattle.state.specs.State.{startState}
-use Rattle.state.specs.Stack.{top, changed, codesOf, stackOf, Agrees}
-use Rattle.state.specs.declared.Change.{Change}
-use Rattle.state.specs.declared.Change.the-variants.{Keep, Push, Pop, Replace}
+use Rattle.state.specs.Stack.{top, codesOf, stackOf, Agrees}
 use Rattle.state.specs.declared.Lexer.{Lexer}
 use Rattle.state.specs.declared.State.{State}
 use Rattle.state.specs.declared.Taken.{Taken}
 use Rattle.lexer.specs.GetNextToken.{takeToken, remainingAt}
 use Rattle.lexer.specs.Step.{step, modesMost, stoodStill, whatOf}
 use Rattle.stepping.specs.Mirrors.{Same, Follows, modesAfter}
-use Rattle.stepping.specs.MirrorsLaws.{length-codes, length-rest, step-follows, step-ends}
+use Rattle.stepping.specs.MirrorsLaws.{length-codes, step-follows, step-ends}
 use Rattle.stepping.specs.Invariant.{Ok, measure}
 use Rattle.stepping.specs.InvariantLaws.{step-ok, start-ok}
 use Rattle.stepping.specs.MeasureLaws.{step-falls}
@@ -43,6 +40,7 @@ use Rattle.lexer.specs.declared.What.the-variants as what
 use Rattle.reading.specs.Reading.{Reading, rowOf, onto, stuckReading, stopped, afterStep, readFrom, reading}
 use Rattle.reading.specs.Reading as stop
 use Rattle.reading.specs.ReadingLaws.{reading-step}
+use Rattle.reading.specs.GoingLaws.{row-same}
 use Rattle.cursor.specs.Cursor.{recordAt}
 use Rattle.cursor.specs.CursorLaws.{record-at}
 use Rattle.cursor.specs.declared.Status.the-variants.{End, Stuck}
@@ -52,6 +50,7 @@ use Rattle.queue.specs.StreamLaws.{get-past}
 use Rattle.rust.specs.TokenLexer.{TokenLexer, newTokenLexer, viewOf, withFields, Given, given, givenAt, getNextToken, lexedOf, lexed, stateAt, handed, streamOf, StandsStill}
 use Rattle.rust.specs.StillLaws.{some-is, still-again, still-token, for-ever, none-for-ever}
 use Rattle.rust.specs.Hands.{Sticks, Overflows, Hands}
+use Rattle.rust.specs.DepthLaws.{change-near}
 
 -- ---- the machine beside a state of the code
 
@@ -89,14 +88,6 @@ beside-is st a t modes q e =
           (a .depth ∙ sym (length-codes (st .modes .codes) (st .modes .depth)) ∙ ap length e) (a .mode ∙ ap top e));
       stack = sym e;
     }
-
--- ---- a call adds at most one mode
-
-change-grows : (c : Change) (ms : List ℕ) → length (changed c ms) ≤ suc (length ms)
-change-grows Keep ms = omega arith
-change-grows (Push m) ms = omega arith
-change-grows Pop ms = omega (arith, length-rest ms)
-change-grows (Replace m) ms = omega (arith, length-rest ms)
 
 -- ---- the four ways of a reading
 
@@ -228,12 +219,6 @@ module _ (look : ℕ → ℕ) (edition : ℕ) (s : List ℕ) where
 
 -- ---- the reading
 
--- a record goes by place and indent alone
-row-same : (u : Token) (b l m : Lexer) → Same l m → rowOf u b l ≡ rowOf u b m
-row-same u b l m q =
-    ap (λ (p : Place). rowOf u b (atPlace p l)) (q .place)
-    ∙ ap (λ (n : ℕ). rowOf u b (record { place = m .place; indent = n; «previous_token» = l .«previous_token»; depth = l .depth; mode = l .mode })) (q .indent)
-
 module _ (s table : List ℕ) (edition : ℕ) (fit : FitTable table) where
   abbrev look : ℕ → ℕ
   look = propertiesAt table
@@ -319,7 +304,7 @@ module _ (s table : List ℕ) (edition : ℕ) (fit : FitTable table) where
       taken-hands =
           split-lt modesMost (length (modesAfter st t))
           (λ h. let most : length (modesAfter st t) ≤ suc (length (x .«string_mode_stack»)) =
-          omega (arith, change-grows (t .change) (stackOf (st .modes)), ap length (b .stack)) in
+          omega (arith, change-near (t .change) (stackOf (st .modes)) .up, ap length (b .stack)) in
           subst Goal (sym (f .full h .0))
           (deep-hands look edition s x low (rowOf (t .token) (st .lexer) (t .lexer)) answered (omega (arith, low)) (omega (arith, taller, low))))
           (λ h. subst Goal (sym (f .found h)) (found h (stoodStill (st .lexer) t) refl))

@@ -34,6 +34,7 @@ use Rattle.text.specs.Follow.{nextIs, Followed, Closed, Open, Stopped, follow, 
 use Rattle.state.specs.Modes.{literal, templateExprFormat, rawStart, rawEnd, tagOf, delimiterOf, quoteOf}
 use Rattle.token.specs.Token.{tokenOf}
 use Rattle.state.specs.Lexer.{reachOf, stuckAt, settled, remembered}
+use Rattle.state.specs.Stack.{changed}
 use Rattle.state.specs.declared.Lexer.{Lexer}
 use Rattle.state.specs.declared.Taken.{Taken}
 use Rattle.newlines.specs.ConsumeNewline.{lineFeed, consumeNewline}
@@ -49,6 +50,7 @@ use Rattle.names.specs.declared.RawStart.the-variants.{Opens, Nothing}
 use Rattle.symbol_tokens.specs.ConsumeSymbol.{symbolToken}
 use Rattle.stepping.specs.FallsLaws.{From, follow-from}
 use Rattle.lexer.specs.GetNextToken.{nextChar, inLiteral, inCode, takeToken, remainingAt}
+use Rattle.reading.specs.Reading.{rowOf}
 use Rattle.rust.specs.TokenLexer.{TokenLexer, viewOf, withFields, Given, given, givenAt, getNextToken, lexedOf, lexed, stateAt, handed, StandsStill}
 
 -- two picks by one test
@@ -194,9 +196,10 @@ module _ (look : ℕ → ℕ) (edition : ℕ) (s : List ℕ) where
   abbrev next : TokenLexer → Given
   next x = getNextToken look edition s x
 
-  -- the call after the next answers what that does, and leaves the state that it left
-  abbrev pub Repeats : TokenLexer → Type 0
-  Repeats x = next (next x .after) ≡ next x
+  -- the call after the next answers what that does, and leaves the state that it left; the modes are those before both
+  pub record Repeats (x : TokenLexer) : Type 0 where
+    pub again : next (next x .after) ≡ next x
+    pub modes : next x .after .«string_mode_stack» ≡ x .«string_mode_stack»
 
   -- a token was taken that is an Error and passes no byte
   module _ (x : TokenLexer) (c : ℕ) (cs : List ℕ) (e : remainingAt s (x .«current_byte» .0) ≡ c ∷ cs) where
@@ -208,7 +211,7 @@ module _ (look : ℕ → ℕ) (edition : ℕ) (s : List ℕ) where
 
     taken-again : Again l t (takeToken look edition (c ∷ cs) (remembered error l)) → t .token .kind ≡ error
         → t .lexer .place .«current_byte» .0 ≡ x .«current_byte» .0
-        → (next (given t (x .«string_mode_stack») .after) ≡ given t (x .«string_mode_stack»)) × (t .token ≡ tokenOf error)
+        → (next (given t (x .«string_mode_stack») .after) ≡ given t (x .«string_mode_stack»)) × (t ≡ stuckAt l)
     taken-again (Other n) k b = absurd (n k)
     taken-again (On h) k b = absurd (omega arith)
     taken-again (Still q r) k b = (
@@ -216,35 +219,45 @@ module _ (look : ℕ → ℕ) (edition : ℕ) (s : List ℕ) where
           ∙ ap (λ (a : List ℕ). givenAt look edition a (withFields l (some (tokenOf error)) (x .«string_mode_stack»))) e
           ∙ ap (λ (v : Taken). given v (x .«string_mode_stack»)) r
           ∙ ap (λ (v : Taken). given v (x .«string_mode_stack»)) (sym q),
-      ap (λ (v : Taken). v .token) q,
+      q,
     )
 
+  -- what the next call gave is given again, it is the Error, and the modes stay
+  record Stood (x : TokenLexer) (g : Given) : Type 0 where
+    again : next (g .after) ≡ g
+    token : g .token ≡ some (tokenOf error)
+    modes : g .after .«string_mode_stack» ≡ x .«string_mode_stack»
+
   at-again : (x : TokenLexer) (cs : List ℕ) → remainingAt s (x .«current_byte» .0) ≡ cs → (u : Token) → givenAt look edition cs x .token ≡ some u
-      → u .kind ≡ error → givenAt look edition cs x .after .«current_byte» .0 ≡ x .«current_byte» .0
-      → (next (givenAt look edition cs x .after) ≡ givenAt look edition cs x) × (givenAt look edition cs x .token ≡ some (tokenOf error))
+      → u .kind ≡ error → givenAt look edition cs x .after .«current_byte» .0 ≡ x .«current_byte» .0 → Stood x (givenAt look edition cs x)
   at-again x [] e u a k b = absurd (let z : _≡_ {A = ℕ} 0 1 = cc in omega arith)
   at-again x (c ∷ cs) e u a k b =
       let q = some-is (t x c cs e .token) u a in
       let p = taken-again x c cs e (take-again (l x c cs e) look edition (c ∷ cs)) (ap (λ (v : Token). v .kind) q ∙ k) b in
-      (p .0, ap some (p .1))
+      record {
+        again = p .0;
+        token = ap (λ (v : Taken). some (v .token)) (p .1);
+        modes = ap (λ (v : Taken). changed (v .change) (x .«string_mode_stack»)) (p .1);
+      }
 
   module _ (x : TokenLexer) (h : StandsStill look edition s x) where
-    both : (next (next x .after) ≡ next x) × (next x .token ≡ some (tokenOf error))
-    both = at-again x (remainingAt s (x .«current_byte» .0)) refl (h .token) (h .answered) (h .kind) (h .byte)
+    stood : Stood x (next x)
+    stood = at-again x (remainingAt s (x .«current_byte» .0)) refl (h .token) (h .answered) (h .kind) (h .byte)
 
     pub still-again : Repeats x
-    still-again = both .0
+    still-again = record { again = stood .again; modes = stood .modes }
 
     pub still-token : next x .token ≡ some (tokenOf error)
-    still-token = both .1
+    still-token = stood .token
 
   at-none : (x : TokenLexer) (cs : List ℕ) → remainingAt s (x .«current_byte» .0) ≡ cs → givenAt look edition cs x .token ≡ none
-      → next (givenAt look edition cs x .after) ≡ givenAt look edition cs x
-  at-none x [] e a = ap (λ (cs : List ℕ). givenAt look edition cs (givenAt look edition [] x .after)) e
+      → (next (givenAt look edition cs x .after) ≡ givenAt look edition cs x)
+      × (givenAt look edition cs x .after .«string_mode_stack» ≡ x .«string_mode_stack»)
+  at-none x [] e a = (ap (λ (cs : List ℕ). givenAt look edition cs (givenAt look edition [] x .after)) e, refl)
   at-none x (c ∷ cs) e a = absurd (let z : _≡_ {A = ℕ} 0 1 = cc in omega arith)
 
   pub none-again : (x : TokenLexer) → next x .token ≡ none → Repeats x
-  none-again x a = at-none x (remainingAt s (x .«current_byte» .0)) refl a
+  none-again x a = let p = at-none x (remainingAt s (x .«current_byte» .0)) refl a in record { again = p .0; modes = p .1 }
 
   -- a state that a call leaves as it is stays
   stays : (n : ℕ) (y : TokenLexer) → next y .after ≡ y → stateAt look edition s n y ≡ y
@@ -252,18 +265,19 @@ module _ (look : ℕ → ℕ) (edition : ℕ) (s : List ℕ) where
   stays zero y e = refl
   stays (suc n) y e = ap (stateAt look edition s n) e ∙ stays n y e
 
-  -- a `LexedToken` tells nothing of the state before it
-  any-before : (x y : TokenLexer) (o : Option Token) (after : TokenLexer) → lexedOf x o after ≡ lexedOf y o after
-  any-before x y none after = refl
-  any-before x y (some t) after = refl
+  -- of the state before it, a `LexedToken` tells the depth alone
+  by-modes : (x y : TokenLexer) (o : Option Token) (after : TokenLexer) → x .«string_mode_stack» ≡ y .«string_mode_stack»
+      → lexedOf x o after ≡ lexedOf y o after
+  by-modes x y none after e = refl
+  by-modes x y (some t) after e = ap (λ (ms : List ℕ). some (rowOf t (viewOf (withFields (viewOf x) none ms)) (viewOf after))) e
 
   pub for-ever : (x : TokenLexer) → Repeats x → (n : ℕ) → handed look edition s n x ≡ lexed look edition s x
   unfolding handed stateAt
   for-ever x e zero = refl
   for-ever x e (suc n) =
-      ap (lexed look edition s) (stays n (next x .after) (ap (λ (g : Given). g .after) e))
-      ∙ ap (λ (g : Given). lexedOf (next x .after) (g .token) (g .after)) e
-      ∙ any-before (next x .after) x (next x .token) (next x .after)
+      ap (lexed look edition s) (stays n (next x .after) (ap (λ (g : Given). g .after) (e .again)))
+      ∙ ap (λ (g : Given). lexedOf (next x .after) (g .token) (g .after)) (e .again)
+      ∙ by-modes (next x .after) x (next x .token) (next x .after) (e .modes)
 
   pub still-for-ever : (x : TokenLexer) → StandsStill look edition s x → (n : ℕ) → handed look edition s n x ≡ handed look edition s 0 x
   still-for-ever x h n = for-ever x (still-again x h) n ∙ sym (for-ever x (still-again x h) 0)

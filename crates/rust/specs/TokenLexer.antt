@@ -91,7 +91,8 @@ getNextToken look edition s x = givenAt look edition (remainingAt s (x .«curren
 
 -- ---- the tokens, one after the other
 
--- `LexedToken`: the token, if there is one, with the bytes, the span and the indent of the state after it
+-- `LexedToken`: the token, if there is one, with the bytes, the span and the indent of the state after it, and with the length of
+-- `string_mode_stack` before it (`viewOf`), which the Rust does not hand out (document 02, C-4)
 abbrev pub lexedOf : TokenLexer → Option Token → TokenLexer → Option Row
 lexedOf before none after = none
 lexedOf before (some t) after = some (rowOf t (viewOf before) (viewOf after))

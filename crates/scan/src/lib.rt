@@ -10,6 +10,7 @@ ghost use Rattle.base.specs.Pick.{pick};
 ghost use Rattle.base.specs.Refusal.{sourceMost};
 ghost use Rattle.property.specs.Table.{propertiesAt};
 ghost use Rattle.fitness.specs.Fit.{FitTable};
+ghost use Rattle.rows.specs.First.{depthMost};
 ghost use Rattle.rows.specs.Row.{room};
 ghost use Rattle.state.specs.Lexer.{reachOf};
 ghost use Rattle.stepping.specs.Invariant.{Ok};
@@ -40,7 +41,7 @@ fn full(room: usize, count: usize, byte: usize) -> Scanned
 // An Error stands still: its record is the last, if it has room.
 fn stuck(list: &mut [u32], count: usize, before: Lexer, after: Lexer) -> Scanned
     requires { ⌜ (after .place .«previous_byte» .0 ≤ sourceMost) × (after .place .«current_byte» .0 ≤ sourceMost) ⌝ }
-    requires { ⌜ count ≤ room (now list) ⌝ }
+    requires { ⌜ (before .depth ≤ depthMost) × (count ≤ room (now list)) ⌝ }
     ensures { λ r. ⌜ Fills (now (list .entry)) count (reachOf after .byte .0) (stuckReading before after) r (now (list .exit)) ⌝ }
 {
     let byte = after.place.current_byte.0;

@@ -1,39 +1,39 @@
--- `rows::row_at` meets its contract: what `read_row` answers is record i, and the two tests are those of `rowFits`. Assumes nothing.
-use mathlib.Core.Path.{_≡_, sym}
+-- `rows::row_at` meets its contract: what `read_row` answers is record i, and `shown_below` says whether it may be shown. Assumes nothing.
+use mathlib.Core.Path.{_≡_, ap, _∙_}
 use mathlib.Core.List.{List}
 use Prim.Native.Nat.{ℕ, _*_}
 use borrow.Author.Needs.{needs}
-use Rattle.base.specs.CasesLaws.{cases}
-use Rattle.base.specs.Pick.{pick}
-use Rattle.rows.specs.Row.{rowWords, rowFrom, rowAt, rowFits, shownAt}
+use Rattle.rows.specs.First.{shownBelow}
+use Rattle.rows.specs.Row.{rowWords, rowFrom, rowAt, aboveAt, shownAt}
 use Rattle.rows.specs.declared.Row.{Row}
 use Rattle.rows.specs.declared.RowAt.{RowAt}
-use Rattle.rows.specs.declared.RowAt.the-variants.{Fit, Unfit}
 use Rattle.rows.proofs.row_at.Statement.{statement}
 use Rattle.rows.proofs.row_at.Tie as tie
 
--- what is answered of record i, by the row that was read
-shown : (l : List ℕ) (i : ℕ) {row : Row} {v : RowAt} → row ≡ rowFrom l (rowWords * i) → v ≡ pick (rowFits row) (Fit row) Unfit → v ≡ shownAt l i
-unfolding shownAt rowAt
-shown l i e p = rw (← e) p
+mul-at : tie.Need-mul-at
+mul-at c = search needs
+
+mul-shown-below : tie.Need-mul-shown-below
+mul-shown-below c = search needs
+
+shared-slice-read-shown-below : tie.Need-shared-slice-read-shown-below
+shared-slice-read-shown-below c = search needs
 
 read-row-requires : tie.Need-read-row-requires
 read-row-requires c κs = search needs
 
+shown-below-requires : tie.Need-shown-below-requires
+shown-below-requires c κs = search needs
+
+-- what is answered of record i, by the row that was read
+shown : (l : List ℕ) (i : ℕ) {row : Row} {v : RowAt} → row ≡ rowFrom l (rowWords * i) → v ≡ shownBelow (aboveAt l i) row → v ≡ shownAt l i
+unfolding shownAt rowAt
+shown l i e p = p ∙ ap (shownBelow (aboveAt l i)) e
+
 returns : tie.Need-returns
-unfolding rowFits
-returns c = shown _ _ (c .before .before .read-row .ensures) (sym (search cases))
-
-detail-allowed-requires : tie.Need-detail-allowed-requires
-detail-allowed-requires c κs = search needs
-
-returns-2 : tie.Need-returns-2
-unfolding rowFits
-returns-2 c = shown _ _ (c .before .before .before .before .read-row .ensures) (sym (search cases))
-
-returns-3 : tie.Need-returns-3
-unfolding rowFits
-returns-3 c = shown _ _ (c .before .before .before .before .read-row .ensures) (sym (search cases))
+returns c = shown _ _ (c .before .read-row .ensures) (c .shown-below .ensures)
 
 pub row-at-spec : {M : Type 1} → statement M
-row-at-spec = tie.close (tie.spec read-row-requires returns detail-allowed-requires returns-2 returns-3)
+row-at-spec =
+    tie.close
+    (tie.spec mul-at mul-shown-below shared-slice-read-shown-below read-row-requires shown-below-requires returns)

@@ -7,7 +7,7 @@ use Rattle.lexer.specs.StepLaws.{fits-codes}
 use Rattle.stepping.specs.Invariant.{measure}
 use Rattle.lexer.specs.declared.Half.{Half}
 use Rattle.lexer.specs.declared.What.{What}
-use Rattle.reading.specs.GoingLaws.{Going, begins, from-start, at-end, at-modes, at-full, at-stuck, keeps-is, changes-is, made, bounds, packs, falls, again}
+use Rattle.reading.specs.GoingLaws.{Going, begins, from-start, at-end, at-modes, at-full, at-stuck, keeps-is, changes-is, made, low, bounds, packs, falls, again}
 use Rattle.scan.proofs.read_on.Statement.{statement}
 use Rattle.scan.proofs.read_on.Tie as tie
 
@@ -71,7 +71,7 @@ returns c =
 row-of-requires : tie.Need-row-of-requires Inv-loop μ-loop
 row-of-requires c κs =
     let h = at-half (at-token (c .before)) in
-    rw (h .read-half .ensures) (bounds (h .before .loop .inv))
+    (rw (h .read-half .ensures) (bounds (h .before .loop .inv)), low (h .before .loop .inv))
 
 put-row-requires : tie.Need-put-row-requires Inv-loop μ-loop
 put-row-requires c κs =
@@ -138,7 +138,7 @@ stuck-requires : tie.Need-stuck-requires Inv-loop μ-loop
 stuck-requires c κs =
     let h = c .before .before .before .before in
     let b = bounds (h .before .loop .inv) in
-    (rw (h .read-half .ensures) (omega (arith, b .0, b .1), omega (arith, b .1)), h .before .loop .inv .within)
+    (rw (h .read-half .ensures) (omega (arith, b .0, b .1), omega (arith, b .1)), (low (h .before .loop .inv), h .before .loop .inv .within))
 
 same-length-2 : tie.Need-same-length-2 Inv-loop μ-loop
 same-length-2 c = c .before .before .stuck .kept .0 ∙ c .before .before .before .before .before .before .before .before .loop .inv .long

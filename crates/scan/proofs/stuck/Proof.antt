@@ -18,7 +18,7 @@ row-of-requires c κs = search needs
 put-row-requires : tie.Need-put-row-requires
 put-row-requires c κs = (
   omega (arith, c .before .before .before .if1 .taken, c .before .before .before .before .room .ensures),
-  error-packs (c .before .before .before .before .before .before .before .args .before) (c .before .before .before .before .before .before .before .args .after) (c .before .token-of .ensures) (c .row-of .ensures),
+  error-packs (c .before .before .before .before .before .before .before .args .before) (c .before .before .before .before .before .before .before .args .after) (c .before .before .before .before .before .before .before .pre .1 .0) (c .before .token-of .ensures) (c .row-of .ensures),
 )
 
 add-t15 : tie.Need-add-t15
