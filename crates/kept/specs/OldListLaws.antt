@@ -18,8 +18,10 @@ use Rattle.input.specs.Input.{inputCheck, Readable, onInput}
 use Rattle.input.specs.InputLaws.{fine-of}
 use Rattle.input.specs.declared.Input.{Input}
 use Rattle.input.specs.declared.Input.the-variants as input
-use Rattle.rows.specs.Row.{room, putRows, rowsOf, rowFits}
-use Rattle.rows.specs.RowLaws.{rows-back, fits-packs}
+use Rattle.rows.specs.First.{rowFits}
+use Rattle.rows.specs.FirstLaws.{fits-packs}
+use Rattle.rows.specs.Row.{room, putRows, rowsOf}
+use Rattle.rows.specs.RowLaws.{rows-back}
 use Rattle.rows.specs.declared.Row.{Row}
 use Rattle.state.specs.State.{startState}
 use Rattle.stepping.specs.InvariantLaws.{start-ok}

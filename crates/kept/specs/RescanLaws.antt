@@ -43,7 +43,7 @@ use Rattle.kept.specs.ResumeLaws.{resumed-agrees, resume, resume-ok}
 
 pub fills-rows : (rows : List Row) (l : List ℕ) (k b : ℕ) (r : Reading) (x : Scanned) (new : List ℕ) → k + length rows ≤ room l
     → Fills (putRowsAt l k rows) (k + length rows) (endOf b rows) r x new → Fills l k b (ontoAll rows r) x new
-unfolding putRowsAt endOf
+unfolding putRowsAt putRow endOf
 fills-rows [] l k b r x new h f = let e : k + 0 ≡ k = omega arith in subst (λ (n : ℕ). Fills l n b r x new) e f
 fills-rows (row ∷ rows) l k b r x new h f =
     let same : room (putRow l k row) ≡ room l = put-room l k row (omega arith) in
@@ -55,7 +55,7 @@ fills-rows (row ∷ rows) l k b r x new h f =
 -- records that do not all have room
 pub fills-short : (rows : List Row) (l : List ℕ) (k b : ℕ) (r : Reading) → k ≤ room l → room l < k + length rows
     → Fills l k b (ontoAll rows r) (ListFull (room l) (endOf b (take (room l - k) rows))) (putRowsAt l k (take (room l - k) rows))
-unfolding putRowsAt endOf
+unfolding putRowsAt putRow endOf
 fills-short [] l k b r h o = absurd (omega arith)
 fills-short (row ∷ rows) l k b r h o =
     let Short : ℕ → Type 0 =
