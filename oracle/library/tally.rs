@@ -20,11 +20,16 @@ const WANTED: [(&str, &[u32]); 11] = [
 
 const SHOWN_MOST: usize = 10;
 
+/// Each depth up to this must have been the greatest of some scan
+const DEPTH_MOST: u32 = 64;
+
 #[derive(Default)]
 pub struct Tally {
     answers: BTreeMap<(&'static str, u32), u64>,
     /// How many of what were judged by whom
     judged: BTreeMap<(&'static str, &'static str), u64>,
+    /// How many sources were scanned whose deepest record has this depth
+    depths: BTreeMap<u32, u64>,
     seen: HashSet<u64>,
     differences: usize,
 }
@@ -39,6 +44,13 @@ impl Tally {
 
     pub fn count(&mut self, what: &'static str, host: &'static str) {
         *self.judged.entry((what, host)).or_default() += 1;
+    }
+
+    /// Notes the depth of a source's deepest record, if it has one.
+    pub fn deepest(&mut self, depth: Option<u32>) {
+        if let Some(depth) = depth {
+            *self.depths.entry(depth).or_default() += 1;
+        }
     }
 
     /// Notes a call's answer, and whether all of it is as wanted.
@@ -86,6 +98,9 @@ impl Tally {
         for ((what, host), count) in &self.judged {
             println!("{what}, {host}: {count}");
         }
+        let depths: Vec<String> = self.depths.iter().map(|(depth, count)| format!("{depth}: {count}")).collect();
+        println!("scans by the depth of their deepest record: {}", depths.join(", "));
+        fine &= (0..=DEPTH_MOST).all(|depth| self.depths.contains_key(&depth));
         let calls: u64 = self.answers.values().sum();
         println!("{calls} calls, {}", if fine { "no difference" } else { "DIFFERENT" });
         fine

@@ -57,8 +57,34 @@ fn a_record_has_its_lines_columns_and_indent() {
         end_line: 1,
         end_column: 5,
         indent: 2,
+        depth: 0,
     };
     assert_eq!(next(&list, &mut cursor), Given::Token(wanted));
+}
+
+#[test]
+fn a_record_has_the_depth_before_its_token() {
+    let source = b"'a{ {b: \"{c:>3}\"} }' r'x'";
+    let mut list = vec![0; room_for(source.len())];
+    let mut cursor = scan(source, &full_table(), WITH, &mut list).cursor().unwrap();
+    let mut depths = vec![];
+    while let Given::Token(record) = next(&list, &mut cursor) {
+        depths.push((record.kind, record.depth));
+    }
+    let code = [(7, 0), (9, 1), (20, 1), (1, 2), (20, 2), (6, 3), (11, 3), (1, 3), (7, 3), (20, 4), (6, 5), (11, 5), (9, 6), (21, 5), (8, 4)];
+    let closed = [(21, 3), (1, 2), (21, 2), (8, 1), (1, 0), (7, 0), (9, 1), (8, 1)];
+    assert_eq!(depths, [code.as_slice(), &closed].concat());
+}
+
+#[test]
+fn a_record_with_another_depth_is_refused() {
+    for (first, is_shown) in [(6 + (64 << 20), true), (6 + (65 << 20), false), (6 + (1 << 28), false), (6 + (1 << 31), false)] {
+        let list = [first, 0, 1, 0, 0, 0, 1, 0];
+        let mut cursor = Cursor { taken: 0, queued: 0, count: 1, status: Status::End };
+        let given = next(&list, &mut cursor);
+        assert_eq!(matches!(given, Given::Token(Record { kind: 6, depth: 64, .. })), is_shown, "{first}");
+        assert_eq!(given == Given::BadRecord(0), !is_shown, "{first}");
+    }
 }
 
 #[test]
