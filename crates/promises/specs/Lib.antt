@@ -12,6 +12,7 @@ pub mod Lookahead
 pub mod Look
 pub mod Parse
 pub mod Pad
+pub mod SmallTables
 pub mod Utf8Laws
 pub mod PropertyLaws
 pub mod ClusterLaws
@@ -25,4 +26,5 @@ pub mod LookaheadLaws
 pub mod LookLaws
 pub mod ParseLaws
 pub mod PadLaws
+pub mod SmallTablesLaws
 pub mod LentLaws

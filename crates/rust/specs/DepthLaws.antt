@@ -76,7 +76,7 @@ module _ (look : ℕ → ℕ) (edition : ℕ) (s : List ℕ) where
   -- ---- call after call
 
   -- the state after one call more
-  state-next : (i : ℕ) (x : TokenLexer) → stateAt look edition s (suc i) x ≡ next (stateAt look edition s i x)
+  pub state-next : (i : ℕ) (x : TokenLexer) → stateAt look edition s (suc i) x ≡ next (stateAt look edition s i x)
   unfolding stateAt
   state-next zero x = refl
   state-next (suc i) x = state-next i (next x)

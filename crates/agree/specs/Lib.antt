@@ -1,0 +1,4 @@
+pub mod TokenLaws
+pub mod StepLaws
+pub mod ReadingLaws
+pub mod ScanLaws

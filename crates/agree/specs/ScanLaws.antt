@@ -1,0 +1,75 @@
+-- C-14, of the calls over a source: fit tables that agree on its code points give the same scan in every respect.
+--     inputs-agree     the refusals before any work
+--     scan-agrees      answer and words of a scan
+-- Assumes nothing.
+use Prim.Native.Nat.{ℕ}
+use mathlib.Core.Path.{_≡_, refl, sym, ap, _∙_}
+use mathlib.Core.List.{List, []}
+use lib.ListN.{take}
+use Rattle.base.specs.Refusal.{sourceMost}
+use Rattle.utf8.specs.Chars.{chars}
+use Rattle.property.specs.Table.{propertiesAt}
+use Rattle.fitness.specs.Fit.{tableCheck}
+use Rattle.fitness.specs.declared.TableCheck.the-variants.{Fit}
+use Rattle.input.specs.Input.{inputCheck, onInput}
+use Rattle.input.specs.InputLaws.{fine-of}
+use Rattle.input.specs.declared.Refusal.{Refusal}
+use Rattle.input.specs.declared.Input.{Input}
+use Rattle.input.specs.declared.Input.the-variants as input
+use Rattle.cluster.specs.FirstLaws.{Agree}
+use Rattle.rows.specs.Row.{room, putRows}
+use Rattle.rows.specs.declared.Row.{Row}
+use Rattle.reading.specs.Scan.{byRoom, readingOf, scanned, writtenBy, written, Scans}
+use Rattle.reading.specs.declared.Scanned.{Scanned}
+use Rattle.reading.specs.declared.Scanned.the-variants.{Refused}
+use Rattle.agree.specs.ReadingLaws.{reading-agrees}
+
+-- of a table the refusals ask only whether it is fit
+pub inputs-agree : (most : ℕ) (bytes t u : List ℕ) (edition : ℕ) → tableCheck t ≡ Fit → tableCheck u ≡ Fit
+    → inputCheck most bytes t edition ≡ inputCheck most bytes u edition
+unfolding inputCheck
+inputs-agree most bytes t u edition e f = rw (e, f)
+
+module _ (source t u : List ℕ) (edition : ℕ) (fit : tableCheck t ≡ Fit) (also : tableCheck u ≡ Fit)
+    (agree : Agree (propertiesAt t) (propertiesAt u) (chars source)) where
+  same-input : inputCheck sourceMost source t edition ≡ inputCheck sourceMost source u edition
+  same-input = inputs-agree sourceMost source t u edition fit also
+
+  -- where none of the refusals is given
+  readings : inputCheck sourceMost source t edition ≡ input.Fine → readingOf source t edition ≡ readingOf source u edition
+  readings e = reading-agrees (propertiesAt t) (propertiesAt u) edition source (fine-of sourceMost source t edition e .well) agree
+
+  pub scanned-agrees : (n : ℕ) → scanned source t edition n ≡ scanned source u edition n
+  unfolding scanned
+  scanned-agrees n = go (inputCheck sourceMost source t edition) refl
+    where
+      go : (c : Input) → inputCheck sourceMost source t edition ≡ c
+          → onInput Refused (inputCheck sourceMost source t edition) (byRoom n 0 0 (readingOf source t edition))
+          ≡ onInput Refused (inputCheck sourceMost source u edition) (byRoom n 0 0 (readingOf source u edition))
+      go input.Fine e = λ i. onInput Refused (same-input i) (byRoom n 0 0 (readings e i))
+      go (input.Refused x) e = rw (e, sym same-input ∙ e)
+
+  -- nothing is written where a refusal comes before any work
+  none-written : (v : List ℕ) (n : ℕ) {x : Refusal} → inputCheck sourceMost source v edition ≡ input.Refused x → (rows : List Row)
+      → writtenBy (scanned source v edition n) rows ≡ []
+  unfolding scanned
+  none-written v n e rows = rw e
+
+  pub written-agrees : (n : ℕ) → written source t edition n ≡ written source u edition n
+  unfolding written
+  written-agrees n = go (inputCheck sourceMost source t edition) refl
+    where
+      go : (c : Input) → inputCheck sourceMost source t edition ≡ c
+          → writtenBy (scanned source t edition n) (take n (readingOf source t edition .rows))
+          ≡ writtenBy (scanned source u edition n) (take n (readingOf source u edition .rows))
+      go input.Fine e = λ i. writtenBy (scanned-agrees n i) (take n (readings e i .rows))
+      go (input.Refused x) e =
+          none-written t n e (take n (readingOf source t edition .rows))
+          ∙ sym (none-written u n (sym same-input ∙ e) (take n (readingOf source u edition .rows)))
+
+  pub scan-agrees : {old new : List ℕ} {r : Scanned} → Scans source t edition old r new → Scans source u edition old r new
+  scan-agrees {old} p =
+      record {
+        answer = p .answer ∙ scanned-agrees (room old);
+        words = p .words ∙ ap (putRows old) (written-agrees (room old));
+      }

@@ -1,0 +1,9 @@
+pub mod Line
+pub mod Past
+pub mod LineLaws
+pub mod PastLaws
+pub mod StringLaws
+pub mod NameLaws
+pub mod OptionLaws
+pub mod StepLaws
+pub mod SourceLaws

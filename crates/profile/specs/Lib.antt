@@ -1,0 +1,5 @@
+pub mod Profile
+pub mod Pass
+pub mod PassLaws
+pub mod LoopLaws
+pub mod ProfileLaws
