@@ -26,7 +26,7 @@
 #include <stddef.h>
 #include <stdint.h>
 
-#define KOTO_LEXER_VERSION "0.6.0"
+#define KOTO_LEXER_VERSION "0.10.0"
 
 #ifdef __cplusplus
 extern "C" {
@@ -60,6 +60,7 @@ extern "C" {
  *   17 BAD_EDITION                 a number that is no edition of the cluster rules
  *   18 NO_SUCH_FORMAT              options that no format string has
  *   19 NO_ROOM                     a buffer that is shorter than the result
+ *   21 NOT_IN_PROFILE              a source with a token that the site profile forbids. Place: the index of the first such record
  */
 
 #define KOTO_NO_REFUSAL 0u
@@ -81,6 +82,7 @@ extern "C" {
 #define KOTO_BAD_EDITION 17u
 #define KOTO_NO_SUCH_FORMAT 18u
 #define KOTO_NO_ROOM 19u
+#define KOTO_NOT_IN_PROFILE 21u
 
 /* ---- How a scan ends: the status, which a cursor over its list carries ----
  *
@@ -331,6 +333,18 @@ uint32_t koto_first_cluster(const uint8_t *source, size_t source_len, const uint
  */
 uint32_t koto_scan(const uint8_t *source, size_t source_len, const uint32_t *table, size_t table_len, uint32_t edition,
                    uint32_t *list, size_t list_len, uint32_t *status, size_t *count, size_t *byte);
+
+/* Scans as koto_scan does, and then refuses a source that is not in the site profile: one with a raw string, or with a template inside a
+ * template. The token that is forbidden is the start of the raw string, or the "{" that opens the inner template. A "{" that opens a map in a
+ * template, or stands in that map, is allowed.
+ *
+ * in       as koto_scan
+ * out      as koto_scan
+ * refused  as koto_scan, and then, where it is not refused, with status KOTO_REFUSED
+ *          21 NOT_IN_PROFILE. byte: the index of the first record whose token is forbidden; list and count have the whole scan
+ */
+uint32_t koto_scan_profile(const uint8_t *source, size_t source_len, const uint32_t *table, size_t table_len, uint32_t edition,
+                           uint32_t *list, size_t list_len, uint32_t *status, size_t *count, size_t *byte);
 
 /* Hands out the next token of a scan, and moves the cursor on.
  *

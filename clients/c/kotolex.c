@@ -37,7 +37,7 @@ enum {
 #define PATH_ROOM 4096
 
 static const char HELP[] =
-    "usage: kotolex FILE [--table FILE] [--edition N]\n"
+    "usage: kotolex FILE [--profile] [--table FILE] [--edition N]\n"
     "       kotolex FILE --pad WIDTH [--align default|left|center|right] [--fill CLUSTER] [--table FILE] [--edition N]\n"
     "\n"
     "Lists the tokens of a Koto script of at most 1,048,576 bytes, one on a line, by ten numbers: kind, detail, the bytes where it starts\n"
@@ -48,6 +48,7 @@ static const char HELP[] =
     "With --pad it prints each line of the file padded to so many clusters, the line's own and the fills, and stops with refused at the first\n"
     "line that is refused; the place is one of that line, or of the fill.\n"
     "\n"
+    "  --profile      refuse raw strings and templates inside templates too: refused 21 and the index of the first such token, from 0\n"
     "  --table FILE   the property table; without it, " TABLE_FILE " beside the program\n"
     "  --edition N    the edition of Unicode's cluster rules: 1 as before Unicode 15.1, without GB9c; 2, with it, if none is given\n"
     "  --pad WIDTH    0 to 4294967295; a longer line is printed as it is\n"
@@ -67,6 +68,7 @@ typedef struct {
     const char *align;
     const char *fill;
     const char *edition;
+    bool profile;
     bool help;
 } options;
 
@@ -123,6 +125,8 @@ static bool read_options(int argc, char **argv, options *to) {
         const char **place = option_of(argv[i], to);
         if (strcmp(argv[i], "--help") == 0) {
             to->help = true;
+        } else if (strcmp(argv[i], "--profile") == 0) {
+            to->profile = true;
         } else if (place != NULL) {
             i++;
             if (i == argc || *place != NULL) {
@@ -135,7 +139,7 @@ static bool read_options(int argc, char **argv, options *to) {
             to->script = argv[i];
         }
     }
-    bool pads = to->width != NULL || (to->align == NULL && to->fill == NULL);
+    bool pads = to->width != NULL ? !to->profile : to->align == NULL && to->fill == NULL;
     return to->help || (to->script != NULL && pads);
 }
 
@@ -214,8 +218,8 @@ static void print_records(words list, size_t count) {
     }
 }
 
-/* Scans the script and prints what was written and how it ended. */
-static int list_tokens(bytes script, words table, uint32_t edition) {
+/* Scans the script, by the site profile or not, and prints what was written and how it ended. */
+static int list_tokens(bytes script, words table, uint32_t edition, bool profile) {
     /* A script of n bytes has at most n + n/3 records (docs/PROMISES.md, `never-full`). */
     words list = {NULL, KOTO_RECORD_WORDS * (script.len + script.len / 3)};
     /* malloc may answer a request for nothing by nothing. */
@@ -225,7 +229,8 @@ static int list_tokens(bytes script, words table, uint32_t edition) {
     }
     uint32_t end;
     size_t count, byte;
-    uint32_t refused = koto_scan(script.at, script.len, table.at, table.len, edition, list.at, list.len, &end, &count, &byte);
+    uint32_t refused = (profile ? koto_scan_profile : koto_scan)(script.at, script.len, table.at, table.len, edition, list.at, list.len,
+                                                                 &end, &count, &byte);
     print_records(list, count);
     free(list.at);
     if (refused != 0) {
@@ -315,7 +320,7 @@ static int run(const options *asked, uint32_t edition, const char *program) {
         status = read_table(asked->table != NULL ? asked->table : beside, &table);
     }
     if (status == FINE) {
-        status = asked->width != NULL ? pad_lines(script, table, edition, &by) : list_tokens(script, table, edition);
+        status = asked->width != NULL ? pad_lines(script, table, edition, &by) : list_tokens(script, table, edition, asked->profile);
     }
     free(script.at);
     free(table.at);
@@ -323,7 +328,7 @@ static int run(const options *asked, uint32_t edition, const char *program) {
 }
 
 int main(int argc, char **argv) {
-    options asked = {NULL, NULL, NULL, NULL, NULL, NULL, false};
+    options asked = {NULL, NULL, NULL, NULL, NULL, NULL, false, false};
     uint32_t edition = KOTO_WITH_GB9C;
     int status = FINE;
     if (!read_options(argc, argv, &asked) || (asked.edition != NULL && !read_edition(asked.edition, &edition))) {

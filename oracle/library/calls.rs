@@ -127,12 +127,21 @@ impl Library {
 
     /// status, count, byte
     pub fn scan(&mut self, which: Table, edition: u32) -> Said<(u32, usize, usize)> {
+        self.scan_by(raw::koto_scan, which, edition)
+    }
+
+    /// as of `scan`, with the record's index in the place of the byte where the profile refuses
+    pub fn scan_profile(&mut self, which: Table, edition: u32) -> Said<(u32, usize, usize)> {
+        self.scan_by(raw::koto_scan_profile, which, edition)
+    }
+
+    fn scan_by(&mut self, call: raw::Scan, which: Table, edition: u32) -> Said<(u32, usize, usize)> {
         let mut said = Answers::new();
         let list = self.list.get_mut();
         let (list_at, list_len) = (list.as_mut_ptr(), list.len());
         let (source, table) = (self.source.get(), self.table(which));
         let number = unsafe {
-            raw::koto_scan(
+            call(
                 source.as_ptr(),
                 source.len(),
                 table.as_ptr(),

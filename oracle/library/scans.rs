@@ -1,6 +1,6 @@
 //! Sources: the scan, a walk over its list, the first cluster, and the UTF-8 of each.
 
-use crate::calls::{Cursor, SOURCE_MOST};
+use crate::calls::{Cursor, SOURCE_MOST, Said};
 use crate::damage::damaged;
 use crate::hosts::{self, Host};
 use crate::rich::Dice;
@@ -84,36 +84,54 @@ fn put(list: &mut [u32], records: &[answers::Record]) {
     }
 }
 
-/// The list that a host has
+/// The list that a host has, by the scan and by the profile's
 fn scan(run: &mut Run, source: &[u8], room: usize, host: &Host, dice: &mut Dice) -> Vec<u32> {
     let mut list = vec![OLD; room];
-    run.library.list.fill(&list);
-    let said = run.library.scan(host.table, host.edition);
-    let wanted = match host.text(run, source, SOURCE_MOST) {
-        Err((number, place)) => (number, (2, 0, place)),
+    let (wanted, forbidden) = match host.text(run, source, SOURCE_MOST) {
+        Err((number, place)) => ((number, (2, 0, place)), None),
         Ok(text) => {
             let scan = (host.judge.scan)(text, room / 8);
             run.tally.deepest(scan.records.iter().map(|record| record[9]).max());
             put(&mut list, &scan.records);
-            match scan.status {
+            let said = match scan.status {
                 Status::End => (0, (0, scan.records.len(), scan.place)),
                 Status::Stuck => (0, (1, scan.records.len(), scan.place)),
                 Status::Refused(number) => (number, (2, scan.records.len(), scan.place)),
-            }
+            };
+            (said, scan.forbidden)
         }
     };
-    run.tally.note("scan", said.number, &(said.number, said.answer), &wanted, source);
-    if !said.whole || run.library.source.get() != source {
-        run.tally.spoiled("scan", source);
-    }
-    if run.library.list.get() != list {
-        run.tally.note("scan", said.number, &"another list", &"the records, and the rest as before", source);
-    }
-    let (status, count, _) = said.answer;
-    if said.number == 0 && (source.len() < 10_000 && dice.below(3) == 0) {
+    // Record `forbidden` is the first that the profile refuses, by koto's own stack of modes.
+    let by_profile = forbidden.map_or(wanted, |index| (21, (2, wanted.1.1, index)));
+    run.library.list.fill(&vec![OLD; room]);
+    let said = run.library.scan_profile(host.table, host.edition);
+    scanned(run, "scan_profile", said, by_profile, source, &list);
+    run.library.list.fill(&vec![OLD; room]);
+    let said = run.library.scan(host.table, host.edition);
+    let (number, (status, count, _)) = (said.number, said.answer);
+    scanned(run, "scan", said, wanted, source, &list);
+    if number == 0 && (source.len() < 10_000 && dice.below(3) == 0) {
         walk(run, source, Cursor { taken: 0, queued: 0, count, status }, host, dice);
     }
     list
+}
+
+/// Notes what a scan said, and the list that it left.
+fn scanned(
+    run: &mut Run,
+    call: &'static str,
+    said: Said<(u32, usize, usize)>,
+    wanted: (u32, (u32, usize, usize)),
+    source: &[u8],
+    list: &[u32],
+) {
+    run.tally.note(call, said.number, &(said.number, said.answer), &wanted, source);
+    if !said.whole || run.library.source.get() != source {
+        run.tally.spoiled(call, source);
+    }
+    if run.library.list.get() != list {
+        run.tally.note(call, said.number, &"another list", &"the records, and the rest as before", source);
+    }
 }
 
 fn record_of(record: answers::Record) -> Record {

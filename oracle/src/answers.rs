@@ -24,6 +24,8 @@ pub struct Scan {
     pub records: Vec<Record>,
     /// The current byte, or the place of the refusal
     pub place: usize,
+    /// The first record whose token the site profile forbids (document 02, C-14); none where the scan is refused
+    pub forbidden: Option<usize>,
 }
 
 #[derive(Clone, Copy)]

@@ -101,11 +101,12 @@ fn record(lexed: &LexedToken, depth: u32) -> Record {
 
 fn scan(source: &str, room: usize) -> Scan {
     let mut lexer = KotoLexer::new(source);
-    let mut records = vec![];
+    let (mut records, mut forbidden) = (vec![], None);
     let status = loop {
         let place = lexer.current_byte();
         let depth = lexer.mode_depth() as u32;
-        let refused = |number, records| Scan { status: Status::Refused(number), records, place };
+        let is_within_template = lexer.is_within_template();
+        let refused = |number, records| Scan { status: Status::Refused(number), records, place, forbidden: None };
         let Some(lexed) = lexer.next() else {
             break Status::End;
         };
@@ -115,12 +116,24 @@ fn scan(source: &str, room: usize) -> Scan {
         if lexer.mode_depth() > MODES {
             return refused(5, records);
         }
+        if forbidden.is_none() && is_forbidden(&lexed.token, is_within_template) {
+            forbidden = Some(records.len());
+        }
         records.push(record(&lexed, depth));
         if lexed.token == Token::Error && lexer.current_byte() == place {
             break Status::Stuck;
         }
     };
-    Scan { status, records, place: lexer.current_byte() }
+    Scan { status, records, place: lexer.current_byte(), forbidden }
+}
+
+// Document 02, C-14: the start of a raw string, and the "{" of a template inside a template.
+fn is_forbidden(token: &Token, is_within_template: bool) -> bool {
+    match token {
+        Token::StringStart(StringType::Raw(_)) => true,
+        Token::CurlyOpen => is_within_template,
+        _ => false,
+    }
 }
 
 fn walk(source: &str, calls: &[Call]) -> (Vec<Shown>, usize) {

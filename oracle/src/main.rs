@@ -198,7 +198,7 @@ fn text<'a>(asked: &Asked, bytes: &'a [u8], most: usize) -> Result<&'a str, (u32
 fn tokens(asked: &Asked, source: &[u8]) -> Scan {
     match text(asked, source, SOURCE_MOST) {
         Ok(source) => (asked.judge.scan)(source, asked.room),
-        Err((number, place)) => Scan { status: Status::Refused(number), records: vec![], place },
+        Err((number, place)) => Scan { status: Status::Refused(number), records: vec![], place, forbidden: None },
     }
 }
 

@@ -9,7 +9,9 @@ pub mod raw;
 mod texts;
 
 pub use formats::{add_string, parse, Added, Alignment, Fill, Options, Parsed, Pool, Representation};
-pub use lists::{look_ahead, next, peek, room_for, scan, Cursor, Given, Peeked, Scanned, Status, RECORD_WORDS};
+pub use lists::{
+    look_ahead, next, peek, room_for, scan, scan_profile, Cursor, Given, Peeked, Profiled, Scanned, Status, RECORD_WORDS,
+};
 pub use padding::{pad, Padded, Padding};
 pub use raw::{Counts, Entry, Record};
 pub use texts::{

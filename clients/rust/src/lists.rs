@@ -48,6 +48,15 @@ pub enum Scanned {
     },
 }
 
+/// What a scan by the site profile answers
+#[derive(Clone, Copy, Debug, PartialEq, Eq)]
+pub enum Profiled {
+    /// What the scan answers: no token is forbidden, or the scan was refused.
+    Base(Scanned),
+    /// Refusal 21: of so many records, the first whose token is forbidden: a raw string's start, or the "{" of a template inside a template
+    NotInProfile { count: usize, index: usize },
+}
+
 /// Where a user of a list stands
 #[derive(Clone, Copy, Debug, PartialEq, Eq)]
 pub struct Cursor {
@@ -92,10 +101,31 @@ pub const fn room_for(source_len: usize) -> usize {
 
 /// Writes the records of a source at the start of the list.
 pub fn scan(source: &[u8], table: &[u32], edition: Edition, list: &mut [u32]) -> Scanned {
+    scanned(&scan_by(raw::koto_scan, source, table, edition, list))
+}
+
+/// Scans as [`scan`] does, and then refuses a source that is not in the site profile; the list keeps the whole scan.
+pub fn scan_profile(source: &[u8], table: &[u32], edition: Edition, list: &mut [u32]) -> Profiled {
+    let said = scan_by(raw::koto_scan_profile, source, table, edition, list);
+    match said.refused {
+        21 => Profiled::NotInProfile { count: said.count, index: said.byte },
+        _ => Profiled::Base(scanned(&said)),
+    }
+}
+
+/// The words of a call that scans
+struct Said {
+    refused: u32,
+    status: u32,
+    count: usize,
+    byte: usize,
+}
+
+fn scan_by(call: raw::Scan, source: &[u8], table: &[u32], edition: Edition, list: &mut [u32]) -> Said {
     let (mut status, mut count, mut byte) = (0, 0, 0);
     // SAFETY: the slices are lent for the call, the list to be written, and each answer word is a local.
     let refused = unsafe {
-        raw::koto_scan(
+        call(
             source.as_ptr(),
             source.len(),
             table.as_ptr(),
@@ -108,8 +138,13 @@ pub fn scan(source: &[u8], table: &[u32], edition: Edition, list: &mut [u32]) ->
             &mut byte,
         )
     };
-    match refused {
-        0 if status == raw::STUCK => Scanned::Stuck { count, byte },
+    Said { refused, status, count, byte }
+}
+
+fn scanned(said: &Said) -> Scanned {
+    let Said { count, byte, .. } = *said;
+    match said.refused {
+        0 if said.status == raw::STUCK => Scanned::Stuck { count, byte },
         0 => Scanned::End { count, byte },
         1 => Scanned::TooLong,
         2 => Scanned::BadTable(byte),

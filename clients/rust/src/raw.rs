@@ -63,6 +63,20 @@ pub type Look = unsafe extern "C" fn(
     place: *mut usize,
 ) -> u32;
 
+/// A call that scans: [`koto_scan`] or [`koto_scan_profile`]
+pub type Scan = unsafe extern "C" fn(
+    source: *const u8,
+    source_len: usize,
+    table: *const u32,
+    table_len: usize,
+    edition: u32,
+    list: *mut u32,
+    list_len: usize,
+    status: *mut u32,
+    count: *mut usize,
+    byte: *mut usize,
+) -> u32;
+
 extern "C" {
     pub fn koto_read_char(bytes: *const u8, bytes_len: usize, at: usize, code: *mut u32, len: *mut usize) -> u32;
     pub fn koto_check_utf8(bytes: *const u8, bytes_len: usize, place: *mut usize) -> u32;
@@ -85,6 +99,18 @@ extern "C" {
         place: *mut usize,
     ) -> u32;
     pub fn koto_scan(
+        source: *const u8,
+        source_len: usize,
+        table: *const u32,
+        table_len: usize,
+        edition: u32,
+        list: *mut u32,
+        list_len: usize,
+        status: *mut u32,
+        count: *mut usize,
+        byte: *mut usize,
+    ) -> u32;
+    pub fn koto_scan_profile(
         source: *const u8,
         source_len: usize,
         table: *const u32,

@@ -106,6 +106,40 @@ fn refusals_of_a_scan() {
 }
 
 #[test]
+fn the_site_profile() {
+    let table = full_table();
+    let by_profile = |source: &[u8]| {
+        let mut list = vec![0; room_for(source.len())];
+        let mut whole = list.clone();
+        let profiled = scan_profile(source, &table, WITH, &mut list);
+        let scanned = scan(source, &table, WITH, &mut whole);
+        assert_eq!(list, whole);
+        (profiled, scanned)
+    };
+    for source in ["", "a1 = 2.5", "'{x}' \"{ {y: 'z'} }\"", "'{ {a: 1, {b: 2}}'", "'{x:}<5}{y}'", "\"", "r r1 r.'x'"] {
+        let (profiled, scanned) = by_profile(source.as_bytes());
+        assert_eq!(profiled, Profiled::Base(scanned), "{source}");
+    }
+    for (source, index, count) in [
+        ("r'x'", 0, 3),
+        ("x = r##\"\"##", 4, 7),
+        ("'{r'x'}'", 2, 7),
+        ("'{\"{x}\"}'", 3, 8),
+        ("'{\"a{x}\"}'", 4, 9),
+        ("'{ {a: \"{", 9, 10),
+        ("'{\"{", 3, 4),
+        ("'{x}{'y'}{\"{z}\"}'", 11, 16),
+    ] {
+        let (profiled, scanned) = by_profile(source.as_bytes());
+        assert_eq!(profiled, Profiled::NotInProfile { count, index }, "{source}");
+        assert!(scanned.cursor().is_some_and(|cursor| cursor.count == count), "{source}");
+    }
+    let mut list = [7; 8];
+    assert_eq!(scan_profile(b"r''", &table, WITH, &mut list), Profiled::Base(Scanned::ListFull { count: 1, byte: 2 }));
+    assert_eq!(scan_profile(b"r''", &[], WITH, &mut list), Profiled::Base(Scanned::BadTable(0)));
+}
+
+#[test]
 fn a_scan_of_one_mebibyte() {
     let source = vec![b'a'; SOURCE_MOST];
     assert_eq!(records(&source), (vec![[6, 0, 0, SOURCE_MOST as u32]], end(1, SOURCE_MOST)));

@@ -1,6 +1,8 @@
 -- Laws of the call.
 --     end-room, stuck-room              a scan that is not refused leaves a list with room for its records
---     profiles-end, profiles-stuck      the pass over its list gives the profile's answer
+--     end-first, stuck-first            the pass over its list finds the first forbidden record
+--     profiles-end, profiles-stuck      so it gives the profile's answer
+--     profiled-same                     which is the same for tables that scan alike
 --     profiles-by                       from a scan's answer: one that is refused is the answer as it is
 --     judged-out, judged-in             with a forbidden record, and without
 --     one-answer                        no second answer and no second list fits
@@ -27,7 +29,7 @@ use Rattle.reading.specs.Scan.{readingOf, Scans}
 use Rattle.reading.specs.ShownLaws.{reading-shown}
 use Rattle.reading.specs.WholeLaws.{ReadWhole, end-whole, stuck-whole}
 use Rattle.reading.specs.declared.Scanned.{Scanned}
-use Rattle.reading.specs.declared.Scanned.the-variants.{End, Stuck}
+use Rattle.reading.specs.declared.Scanned.the-variants.{End, Stuck, Refused, ListFull, ModesFull}
 use Rattle.rust.specs.TokenLexer.{newTokenLexer}
 use Rattle.rust.specs.HandsLaws.{reading-hands}
 use Rattle.profile.specs.Profile.{firstForbidden, judged, profiledBy, Profiles}
@@ -80,17 +82,31 @@ module _ (source table : List ℕ) (edition : ℕ) (old new : List ℕ) where
     pub stuck-room : {n b : ℕ} → x ≡ Stuck n b → n ≤ room new
     stuck-room {n} {b} e = let w = stuck-whole source table edition old new n b (is e) in has-room n _ (w .0) (w .1)
 
+    -- the first forbidden record, by the list
+    pub end-first : {n b : ℕ} → x ≡ End n b → passFrom (shownAt new) 0 0 n ≡ firstForbidden source table edition
+    end-first {n} {b} e = let w = end-whole source table edition old new n b (is e) in found n _ (w .0) (w .1)
+
+    pub stuck-first : {n b : ℕ} → x ≡ Stuck n b → passFrom (shownAt new) 0 0 n ≡ firstForbidden source table edition
+    stuck-first {n} {b} e = let w = stuck-whole source table edition old new n b (is e) in found n _ (w .0) (w .1)
+
     pub profiles-end : {n b : ℕ} {r : Profiled} → x ≡ End n b → r ≡ judged (passFrom (shownAt new) 0 0 n) n (End n b)
         → Profiles source table edition old r new
-    profiles-end {n} {b} e q =
-        let w = end-whole source table edition old new n b (is e) in
-        profiles-by e (q ∙ ap (λ (first : ℕ). judged first n (End n b)) (found n _ (w .0) (w .1)))
+    profiles-end {n} {b} e q = profiles-by e (q ∙ ap (λ (first : ℕ). judged first n (End n b)) (end-first e))
 
     pub profiles-stuck : {n b : ℕ} {r : Profiled} → x ≡ Stuck n b → r ≡ judged (passFrom (shownAt new) 0 0 n) n (Stuck n b)
         → Profiles source table edition old r new
-    profiles-stuck {n} {b} e q =
-        let w = stuck-whole source table edition old new n b (is e) in
-        profiles-by e (q ∙ ap (λ (first : ℕ). judged first n (Stuck n b)) (found n _ (w .0) (w .1)))
+    profiles-stuck {n} {b} e q = profiles-by e (q ∙ ap (λ (first : ℕ). judged first n (Stuck n b)) (stuck-first e))
+
+-- two tables whose scans of a source are the same have the same answer by the profile
+pub profiled-same : (source t u : List ℕ) (edition : ℕ) (old new : List ℕ) (x : Scanned) → Scans source t edition old x new
+    → Scans source u edition old x new → profiledBy (firstForbidden source t edition) x ≡ profiledBy (firstForbidden source u edition) x
+profiled-same source t u edition old new (End n b) p q =
+    ap (λ (first : ℕ). judged first n (End n b)) (sym (end-first source t edition old new p refl) ∙ end-first source u edition old new q refl)
+profiled-same source t u edition old new (Stuck n b) p q =
+    ap (λ (first : ℕ). judged first n (Stuck n b)) (sym (stuck-first source t edition old new p refl) ∙ stuck-first source u edition old new q refl)
+profiled-same source t u edition old new (Refused y) p q = refl
+profiled-same source t u edition old new (ListFull n b) p q = refl
+profiled-same source t u edition old new (ModesFull n b) p q = refl
 
 -- ---- how a scan that was not refused is judged
 

@@ -12,6 +12,7 @@ pub mod Lookahead
 pub mod Look
 pub mod Parse
 pub mod Pad
+pub mod Profile
 pub mod SmallTables
 pub mod Utf8Laws
 pub mod PropertyLaws
@@ -26,5 +27,6 @@ pub mod LookaheadLaws
 pub mod LookLaws
 pub mod ParseLaws
 pub mod PadLaws
+pub mod ProfileLaws
 pub mod SmallTablesLaws
 pub mod LentLaws

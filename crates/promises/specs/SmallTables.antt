@@ -13,6 +13,8 @@ use Rattle.fitness.specs.declared.TableCheck.the-variants.{Fit}
 use Rattle.cluster.specs.declared.Cluster.{Cluster}
 use Rattle.reading.specs.Scan.{Scans}
 use Rattle.reading.specs.declared.Scanned.{Scanned}
+use Rattle.profile.specs.Profile.{Profiles}
+use Rattle.profile.specs.declared.Profiled.{Profiled}
 use Rattle.pool_rows.specs.declared.Counts.{Counts}
 use Rattle.parse.specs.Call.{Parses}
 use Rattle.parse.specs.declared.After.{After}
@@ -33,6 +35,8 @@ BothFit t u = (tableCheck t ≡ Fit) × (tableCheck u ≡ Fit)
 pub record SmallTablesPromise (bytes t u : List ℕ) (edition : ℕ) : Type 0 where
   pub same-cluster : (r q : Cluster) → FirstClusterEnsures bytes t edition r → FirstClusterEnsures bytes u edition q → r ≡ q
   pub same-scan : (old new other : List ℕ) (r q : Scanned) → Scans bytes t edition old r new → Scans bytes u edition old q other
+      → (r ≡ q) × (new ≡ other)
+  pub same-profile : (old new other : List ℕ) (r q : Profiled) → Profiles bytes t edition old r new → Profiles bytes u edition old q other
       → (r ≡ q) × (new ≡ other)
   pub same-parse :
       (pool entries newPool newEntries otherPool otherEntries : List ℕ) (counts : Counts) (r q : After)

@@ -2,14 +2,20 @@
 -- Assumes nothing.
 use Prim.Native.Nat.{ℕ, zero, suc, _<_}
 use native.Mathlib.Omega.{arith}
-use mathlib.Core.Path.{_≡_, sym, _∙_}
+use mathlib.Core.Path.{_≡_, refl, sym, ap, _∙_}
 use mathlib.Core.List.{List, [], _∷_}
 use lib.ListN.{length, getD}
 use Rattle.utf8.specs.Chars.{chars}
 use Rattle.property.specs.Table.{propertiesAt}
 use Rattle.cluster.specs.FirstLaws.{Agree}
 use Rattle.cluster.specs.CallLaws.{same-call}
+use Rattle.rows.specs.Row.{room}
+use Rattle.reading.specs.Scan.{scanned, Scans}
 use Rattle.reading.specs.ScanLaws as scan
+use Rattle.profile.specs.Profile.{firstForbidden, profiledBy, Profiles}
+use Rattle.profile.specs.ProfileLaws as profile
+use Rattle.profile.specs.ProfileLaws.{profiled-same}
+use Rattle.profile.specs.declared.Profiled.{Profiled}
 use Rattle.parse.specs.CallLaws as parse
 use Rattle.agree.specs.ScanLaws.{scan-agrees}
 use Rattle.agree_text.specs.ParseLaws.{parses-agree}
@@ -25,11 +31,24 @@ module _ (bytes t u : List ℕ) (edition : ℕ) (fit : BothFit t u) (same : Same
   agree : Agree (propertiesAt t) (propertiesAt u) (chars bytes)
   agree = agree-of (propertiesAt t) (propertiesAt u) (chars bytes) same
 
+  -- the profile's answer is made of the scan's, and of the list that it leaves
+  profile-agrees : (old new : List ℕ) (r : Profiled) → Profiles bytes t edition old r new → Profiles bytes u edition old r new
+  profile-agrees old new r p =
+      let n = room old in
+      let s = scanned bytes t edition n in
+      let one : Scans bytes t edition old s new = record { answer = refl; words = p .words } in
+      let two : Scans bytes u edition old s new = scan-agrees bytes t u edition (fit .0) (fit .1) agree one in
+      record {
+        answer = p .answer ∙ profiled-same bytes t u edition old new s one two ∙ ap (profiledBy (firstForbidden bytes u edition)) (two .answer);
+        words = two .words;
+      }
+
   pub small-tables-promise : SmallTablesPromise bytes t u edition
   small-tables-promise =
       record {
         same-cluster = λ r q e f. e ∙ same-call bytes t u edition (fit .0) (fit .1) agree ∙ sym f;
         same-scan = λ old new other r q a b. scan.one-answer bytes u edition old r q new other (scan-agrees bytes t u edition (fit .0) (fit .1) agree a) b;
+        same-profile = λ old new other r q a b. profile.one-answer bytes u edition old r q new other (profile-agrees old new r a) b;
         same-parse = λ _ _ _ _ _ _ _ _ _ a b. parse.one-answer (parses-agree bytes t u edition (fit .0) (fit .1) agree a) b;
       }
 
