@@ -59,9 +59,10 @@ sharedAfter which s string r =
 abbrev pub addFor : Which → Shared → List ℕ → Shared
 addFor which s string = sharedAfter which s string (addedFor which s string)
 
--- what `add_string` ensures: its answer, which carries the counts, both desks, and every word of the rows after it
+-- what `add_string` ensures: its answer, and the counts, the desks and every word of the rows after it
 pub record AddsFor (string : List ℕ) (which : Which) (s : Shared) (newBytes newEntries newOwners : List ℕ) (r : AddedFor) : Type 0 where
   pub answer : r .added ≡ addedFor which s string
+  pub counts-left : r .counts ≡ addFor which s string .counts
   pub desks-left : r .desks ≡ addFor which s string .desks
   pub bytes-left : newBytes ≡ addFor which s string .bytes
   pub entries-left : newEntries ≡ addFor which s string .entries

@@ -1,6 +1,7 @@
 -- Laws of an addition for a desk.
 --     unfit, fitting          the answer where the desks are unfit, and where they are fit
---     unwritten               a refusal of the state or of the string hands out no new index
+--     unwritten, uncounted    a refusal of the state or of the string hands out no new index, and leaves the counts
+--     Counted                 what an answer does to the counts
 --     fills-pool              what is in use does not pass the desk's room
 --     has-room                a new string has room there
 --     charge-fits             and can be charged
@@ -10,18 +11,18 @@
 -- Assumes nothing.
 use Prim.Native.Nat.{ℕ, _+_, _*_, _-_, _/_, _<_, _≤_}
 use native.Mathlib.Omega.{arith}
-use mathlib.Core.Path.{_≡_, refl, sym, ap, _∙_}
+use mathlib.Core.Path.{_≡_, refl, sym, ap, subst, _∙_}
 use mathlib.Core.Bool.{Bool, true, false}
 use mathlib.Core.List.{List, _++_}
 use lib.ListN.{length, take, drop}
-use borrow.Author.Tests.{eqb-true}
+use borrow.Author.Tests.{eqb-true, eq-eqb}
 use Rattle.base.specs.Pick.{pick}
 use Rattle.base.specs.PickLaws.{by-lt}
 use Rattle.utf8.specs.Chars.{checkFrom}
 use Rattle.utf8.specs.declared.Utf8Check.{Utf8Check}
 use Rattle.utf8.specs.declared.Utf8Check.the-variants as utf8
 use Rattle.pool_rows.specs.Rows.{stringsOf, indexOf, roomMost, byteRoom, entryRoom}
-use Rattle.pool.specs.Pool.{placed, onUtf8, isNew, bytesAfter, entriesAfter, AddsString}
+use Rattle.pool.specs.Pool.{oneMore, placed, onUtf8, isNew, bytesAfter, entriesAfter, countsAfter, AddsString}
 use Rattle.pool_rows.specs.FitLaws as pool
 use Rattle.pool_rows.specs.declared.Counts.{Counts}
 use Rattle.pool.specs.declared.Added.{Added}
@@ -41,6 +42,33 @@ pub unwritten : (counts : Counts) (u : Utf8Check) → isNew counts (onUtf8 u Bad
 unwritten counts utf8.Fine = refl
 unwritten counts (utf8.BadAt i) = refl
 unwritten counts (utf8.CutAt i) = refl
+
+pub uncounted : (counts : Counts) (u : Utf8Check) → countsAfter counts (onUtf8 u BadState) ≡ counts
+uncounted counts utf8.Fine = refl
+uncounted counts (utf8.BadAt i) = refl
+uncounted counts (utf8.CutAt i) = refl
+
+-- the counts after an answer are those before, or have one string more where its index is new
+abbrev pub Counted : Counts → ℕ → Added → Type 0
+Counted counts long r = (isNew counts r ≡ false → countsAfter counts r ≡ counts) × (isNew counts r ≡ true → countsAfter counts r ≡ oneMore counts long)
+
+counted : (counts : Counts) (u : Utf8Check) (long found re rb : ℕ) → Counted counts long (onUtf8 u (placed long found counts re rb))
+unfolding placed
+counted counts (utf8.BadAt i) long found re rb = (λ _. refl, λ e. let z : _≡_ {A = ℕ} 0 1 = cc in absurd (omega arith))
+counted counts (utf8.CutAt i) long found re rb = (λ _. refl, λ e. let z : _≡_ {A = ℕ} 0 1 = cc in absurd (omega arith))
+counted counts utf8.Fine long found re rb =
+    by-lt (Counted counts long) found (counts .entries)
+    (λ h. (λ _. refl, λ f. absurd (omega (arith, eqb-true found (counts .entries) f))))
+    (λ h. by-lt (Counted counts long) re (counts .entries + 1)
+    (λ l. (λ _. refl, λ e. let z : _≡_ {A = ℕ} 0 1 = cc in absurd (omega arith)))
+    (λ l. by-lt (Counted counts long) rb (counts .bytes + long)
+    (λ m. (λ _. refl, λ e. let z : _≡_ {A = ℕ} 0 1 = cc in absurd (omega arith)))
+    (λ m. (
+      λ e.
+          let y : true ≡ false = sym (eq-eqb (counts .entries) (counts .entries) refl) ∙ e in
+          let z : _≡_ {A = ℕ} 0 1 = cc in absurd (omega arith),
+      λ _. refl,
+    ))))
 
 -- a new string has room
 pub has-room : (counts : Counts) (u : Utf8Check) (long found re rb : ℕ) → isNew counts (onUtf8 u (placed long found counts re rb)) ≡ true
@@ -122,9 +150,11 @@ pub record OnParts (string : List ℕ) (which : Which) (s : Shared) (n m : ℕ) 
   pub answer : r ≡ addedFor which s string
   pub bytes-left : newBytes ++ drop n (s .bytes) ≡ bytesAfter string (s .counts) r (s .bytes)
   pub entries-left : newEntries ++ drop (2 * m) (s .entries) ≡ entriesAfter string (s .counts) r (s .entries)
+  pub counted : Counted (s .counts) (length string) r
   pub free : isNew (s .counts) r ≡ true → (s .counts .bytes + length string ≤ n) × (s .counts .entries + 1 ≤ m)
   pub entry-free : isNew (s .counts) r ≡ true → s .counts .entries < entryRoom (s .entries)
   pub small : isNew (s .counts) r ≡ true → length string ≤ roomMost
+  pub countable : isNew (s .counts) r ≡ true → (s .counts .entries < 4294967295) × (s .counts .bytes + length string ≤ 4294967295)
   pub chargeable : isNew (s .counts) r ≡ true
       → (deskOf which (s .desks) .charged .entries < 4294967295) × (deskOf which (s .desks) .charged .bytes + length string ≤ 4294967295)
 
@@ -156,21 +186,28 @@ on-parts string which s n m newBytes newEntries r fits em en a =
           ap (λ (l : List ℕ). l ++ drop (2 * m) entries)
           (a .entries-left ∙ ap (λ (q : Added). entriesAfter string counts q (take (2 * m) entries)) (sym (a .answer)))
           ∙ part-entries bytes entries counts m n he hb fill string r free;
+      counted = subst (Counted counts (length string)) (sym on) (counted counts (checkFrom 0 string) (length string) found m n);
       free = free;
       entry-free = λ e. omega (arith, free e .1);
       small = λ e. omega (arith, free e .0, pool.room-within (length bytes) .1);
+      countable =
+          λ e. (
+            omega (arith, free e .1, pool.room-within (length entries / 2) .1),
+            omega (arith, free e .0, pool.room-within (length bytes) .1),
+          );
       chargeable = λ e. charge-fits s which f (length string) (omega (arith, free e .0), omega (arith, free e .1));
     }
 
 -- a return, from the answer
 pub settled : (string : List ℕ) (which : Which) (s : Shared) (newBytes newEntries newOwners : List ℕ) (r : AddedFor)
-    → r .added ≡ addedFor which s string → r .desks ≡ sharedAfter which s string (r .added) .desks
+    → r .added ≡ addedFor which s string → r .counts ≡ sharedAfter which s string (r .added) .counts → r .desks ≡ sharedAfter which s string (r .added) .desks
     → newBytes ≡ sharedAfter which s string (r .added) .bytes → newEntries ≡ sharedAfter which s string (r .added) .entries
     → newOwners ≡ sharedAfter which s string (r .added) .owners → AddsFor string which s newBytes newEntries newOwners r
-settled string which s newBytes newEntries newOwners r e d b n o =
+settled string which s newBytes newEntries newOwners r e c d b n o =
     let then : (x : Added) → Shared = sharedAfter which s string in
     record {
       answer = e;
+      counts-left = c ∙ ap (λ (x : Added). then x .counts) e;
       desks-left = d ∙ ap (λ (x : Added). then x .desks) e;
       bytes-left = b ∙ ap (λ (x : Added). then x .bytes) e;
       entries-left = n ∙ ap (λ (x : Added). then x .entries) e;
@@ -179,9 +216,10 @@ settled string which s newBytes newEntries newOwners r e d b n o =
 
 pub one-answer : {string newBytes newEntries newOwners newBytes′ newEntries′ newOwners′ : List ℕ} {which : Which} {s : Shared} {r q : AddedFor}
     → AddsFor string which s newBytes newEntries newOwners r → AddsFor string which s newBytes′ newEntries′ newOwners′ q
-    → (r .added ≡ q .added) × (r .desks ≡ q .desks) × (newBytes ≡ newBytes′) × (newEntries ≡ newEntries′) × (newOwners ≡ newOwners′)
+    → (r .added ≡ q .added) × (r .counts ≡ q .counts) × (r .desks ≡ q .desks) × (newBytes ≡ newBytes′) × (newEntries ≡ newEntries′) × (newOwners ≡ newOwners′)
 one-answer v w = (
   v .answer ∙ sym (w .answer),
+  v .counts-left ∙ sym (w .counts-left),
   v .desks-left ∙ sym (w .desks-left),
   v .bytes-left ∙ sym (w .bytes-left),
   v .entries-left ∙ sym (w .entries-left),

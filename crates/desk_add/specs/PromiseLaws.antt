@@ -235,7 +235,7 @@ by-placed P long found counts e b quiet fresh =
 
 -- the numbers of a row of entries with one more
 module _ (entries : List ℕ) (n start long : ℕ) (h : 2 * n + 1 < length entries) where
-  pub entered-long : length (entered entries n start long) ≡ length entries
+  entered-long : length (entered entries n start long) ≡ length entries
   entered-long = simp length-set
 
   entered-new : lengthOf (entered entries n start long) n ≡ long
@@ -310,7 +310,7 @@ module _ (which : Which) (s : Shared) (string : List ℕ) (f : Fit s) where
   abbrev newIndex : Added
   newIndex = Index n (oneMore (s .counts) (length string))
 
-  pub is-new : isNew (s .counts) newIndex ≡ true
+  is-new : isNew (s .counts) newIndex ≡ true
   is-new = eq-eqb n n refl
 
   module _ (he : n + 1 ≤ entriesFor (entryRoom (s .entries)) which (s .desks))

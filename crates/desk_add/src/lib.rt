@@ -15,9 +15,10 @@ use desks::Which;
 use pool::Added;
 use pool_rows::Counts;
 
-// What adding a string for a desk answers, with both desks after it.
+// What adding a string for a desk answers, with the counts and both desks after it.
 pub struct AddedFor {
     pub added: Added,
+    pub counts: Counts,
     pub desks: Desks,
 }
 
@@ -27,13 +28,9 @@ fn charge(desk: Desk, long: u32) -> Desk
     ensures { λ r. ⌜ r ≡ chargedMore desk long ⌝ }
 {
     let guaranteed = desk.guaranteed;
-    let charged = desk.charged;
     Desk {
         guaranteed,
-        charged: Counts {
-            entries: charged.entries + 1,
-            bytes: charged.bytes + long,
-        },
+        charged: desks::one_more(desk.charged, long),
     }
 }
 
@@ -86,6 +83,7 @@ pub fn add_string(
     if !desks::is_fit(bytes, entries, owners, counts, desks) {
         return AddedFor {
             added: refuse(string),
+            counts,
             desks,
         };
     }
@@ -101,11 +99,17 @@ pub fn add_string(
         counts,
     );
     if !pool::is_new(counts, added) {
-        return AddedFor { added, desks };
+        return AddedFor {
+            added,
+            counts,
+            desks,
+        };
     }
     owners[counts.entries as usize] = desks::owner_of(which);
+    let long = string.len() as u32;
     AddedFor {
         added,
-        desks: charge_to(which, desks, string.len() as u32),
+        counts: desks::one_more(counts, long),
+        desks: charge_to(which, desks, long),
     }
 }

@@ -25,7 +25,7 @@ use Rattle.desks.specs.declared.Which.{Which}
 use Rattle.desks.specs.declared.Which.the-variants.{First, Second}
 use Rattle.desk_add.specs.Add.{addedFor, withMore, sharedAfter}
 use Rattle.desk_add.specs.AddLaws.{less-entries, less-bytes, OnParts, on-parts}
-use Rattle.desk_add.specs.PromiseLaws.{is-new, by-added, written-long, fit-kept, other-kept}
+use Rattle.desk_add.specs.PromiseLaws.{written-long, fit-kept, other-kept}
 use Rattle.desk_add.specs.PromiseLaws as add
 use Rattle.desk_parse.specs.Own.{ownedUp, desksUp}
 use Rattle.desk_parse.specs.OwnLaws.{owned-none, owned-more}
@@ -65,22 +65,7 @@ desks-more Second desks before c long h k =
     ap (λ (d : Counts). record { first = desks .first; second = record { guaranteed = desks .second .guaranteed; charged = d } })
     (one-charge (desks .second .charged) c before long h k)
 
--- ---- what an answer does to the counts
-
--- the counts after an answer are those before, or have one string more where its index is new
-Counted : Counts → List ℕ → Added → Type 0
-Counted counts x r =
-    (isNew counts r ≡ false → countsAfter counts r ≡ counts) × (isNew counts r ≡ true → countsAfter counts r ≡ oneMore counts (length x))
-
-counted : (which : Which) (t : Shared) (x : List ℕ) → Fit t → Counted (t .counts) x (addedFor which t x)
-unfolding Counted
-counted which t x f =
-    by-added which t x f (Counted (t .counts) x)
-    (λ r e q. (λ _. q, λ g. let y : true ≡ false = sym g ∙ e in let z : _≡_ {A = ℕ} 0 1 = cc in absurd (omega arith)))
-    (λ h k a. (
-      λ e. let y : true ≡ false = sym (is-new which t x f) ∙ e in let z : _≡_ {A = ℕ} 0 1 = cc in absurd (omega arith),
-      λ _. refl,
-    ))
+-- ---- what an answer does to the rows
 
 -- a row that a new string is written into keeps its length
 bytes-long : (x : List ℕ) (counts : Counts) (r : Added) (row : List ℕ) → (isNew counts r ≡ true → counts .bytes + length x ≤ length row)
@@ -188,10 +173,6 @@ module _ (which : Which) (s : Shared) (b e : ℕ) where
     owner-free : isNew (t .counts) said ≡ true → t .counts .entries < length (t .owners)
     owner-free q = omega (arith, parts .entry-free q, fit-of t (n .fits) .owned)
 
-    after-counts : Counted (t .counts) x said
-    after-counts =
-        subst (Counted (t .counts) x) (sym same-answer) (counted which t x (fit-of t (n .fits)))
-
     -- what is owned and charged, by whether the index is new
     pub record Owned : Type 0 where
       pub more-entries : s .counts .entries ≤ then .counts .entries
@@ -201,9 +182,8 @@ module _ (which : Which) (s : Shared) (b e : ℕ) where
       pub desks-are : then .desks ≡ desksUp which (s .desks) (s .counts) (then .counts)
 
     owned : (new : Bool) → isNew (t .counts) said ≡ new → Owned
-    unfolding Counted
     owned true q =
-        let c : countsAfter (t .counts) said ≡ oneMore (t .counts) (length x) = after-counts .1 q in
+        let c : countsAfter (t .counts) said ≡ oneMore (t .counts) (length x) = parts .counted .1 q in
         record {
           more-entries = rw c (omega (arith, n .more-entries));
           more-bytes = rw c (omega (arith, n .more-bytes));
@@ -219,7 +199,7 @@ module _ (which : Which) (s : Shared) (b e : ℕ) where
               ∙ desks-more which (s .desks) (s .counts) (t .counts) (length x) (n .more-entries) (n .more-bytes));
         }
     owned false q =
-        let c : countsAfter (t .counts) said ≡ t .counts = after-counts .0 q in
+        let c : countsAfter (t .counts) said ≡ t .counts = parts .counted .0 q in
         record {
           more-entries = rw c (n .more-entries);
           more-bytes = rw c (n .more-bytes);

@@ -42,16 +42,24 @@ pub fn owner_of(which: Which) -> u8
     }
 }
 
+// Counts with one entry more, of so many bytes.
+pub fn one_more(counts: Counts, long: u32) -> Counts
+    requires { ⌜ (counts .entries < 4294967295) × (counts .bytes + long ≤ 4294967295) ⌝ }
+    ensures { λ r. ⌜ r ≡ oneMore counts long ⌝ }
+{
+    Counts {
+        entries: counts.entries + 1,
+        bytes: counts.bytes + long,
+    }
+}
+
 // What an owner holds, with one entry more of so many bytes that somebody owns.
 fn one_held(held: Counts, its: u8, owner: u8, long: u32) -> Counts
     requires { ⌜ (held .entries < 4294967295) × (held .bytes + long ≤ 4294967295) ⌝ }
     ensures { λ r. ⌜ r ≡ pick (eqb its owner) (oneMore held long) held ⌝ }
 {
     if its == owner {
-        return Counts {
-            entries: held.entries + 1,
-            bytes: held.bytes + long,
-        };
+        return one_more(held, long);
     }
     held
 }

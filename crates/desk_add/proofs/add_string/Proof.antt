@@ -9,14 +9,14 @@ use lib.ListN.{length, set}
 use lib.Seq.{length-take-le}
 use borrow.Author.Tests.{not-true, not-false}
 use Rattle.pool_rows.specs.Rows.{entryRoom, byteRoom}
-use Rattle.pool.specs.Pool.{isNew}
+use Rattle.pool.specs.Pool.{isNew, countsAfter}
 use Rattle.pool_rows.specs.FitLaws.{entry-room, room-within}
 use Rattle.pool.specs.PoolLaws.{old-bytes, old-entries}
 use Rattle.utf8.specs.Chars.{checkFrom}
 use Rattle.pool_rows.specs.declared.Counts.{Counts}
 use Rattle.desks.specs.Desks.{Shared, shared, fitDesks, entriesFor, bytesFor}
 use Rattle.desks.specs.FitLaws.{fit-of}
-use Rattle.desk_add.specs.AddLaws.{unfit, unwritten, on-parts, OnParts, settled}
+use Rattle.desk_add.specs.AddLaws.{unfit, unwritten, uncounted, on-parts, OnParts, settled}
 use borrow.Author.Needs.{needs}
 use Rattle.desk_add.proofs.add_string.Statement.{statement}
 use Rattle.desk_add.proofs.add_string.Tie as tie
@@ -24,6 +24,7 @@ use Rattle.desk_add.proofs.add_string.Reads as reads
 use Rattle.desk_add.proofs.add_string.Lts as lts
 use Rattle.desk_add.proofs.charge_to.Reads as charge-to-reads
 use Rattle.desks.proofs.is_fit.Reads as is-fit-reads
+use Rattle.desks.proofs.one_more.Reads as one-more-reads
 use Rattle.desks.proofs.owner_of.Reads as owner-of-reads
 use Rattle.desk_add.proofs.refuse.Reads as refuse-reads
 use Rattle.desks.proofs.room_for.Reads as room-for-reads
@@ -96,7 +97,8 @@ returns c =
     let no = sym (c .before .before .is-fit .ensures) ∙ not-true _ (c .before .if1 .taken) in
     let r = c .refuse .ensures in
     let old = ap (isNew (a .counts)) r ∙ unwritten (a .counts) (checkFrom 0 (now (a .string))) in
-    settled _ _ _ _ _ _ _ (r ∙ sym (unfit _ _ _ no)) (rw old) (sym (old-bytes _ _ _ old _)) (sym (old-entries _ _ _ old _)) (rw old)
+    let kept = sym (ap (countsAfter (a .counts)) r ∙ uncounted (a .counts) (checkFrom 0 (now (a .string)))) in
+    settled _ _ _ _ _ _ _ (r ∙ sym (unfit _ _ _ no)) kept (rw old) (sym (old-bytes _ _ _ old _)) (sym (old-entries _ _ _ old _)) (rw old)
 
 room-of-requires : tie.Need-room-of-requires
 room-of-requires c κs = search needs
@@ -148,7 +150,7 @@ returns-2 c =
     let s = c .before .before .before .before .before .before in
     let p = said s in
     let old = sym (c .before .is-new .ensures) ∙ not-true _ (c .if2 .taken) in
-    settled _ _ _ _ _ _ _ (p .answer) (rw old) (p .bytes-left) (p .entries-left) (rw old)
+    settled _ _ _ _ _ _ _ (p .answer) (sym (p .counted .0 old)) (rw old) (p .bytes-left) (p .entries-left) (rw old)
 
 owner-of-requires : tie.Need-owner-of-requires
 owner-of-requires c κs = search needs
@@ -166,11 +168,18 @@ slice-write-owners c =
     let s = c .before .before .before .before .before .before .before .before in
     omega (arith, fit-of (lent (roomy s)) (fits (roomy s)) .owned, said s .entry-free (new c))
 
-cast-charge-to : tie.Need-cast-charge-to
-cast-charge-to c = omega (arith, said (c .before .before .before .before .before .before .before .before) .small (new c))
+-- the addition to the part
+abbrev new-string : tie.After-struct-known3 → tie.After-add-string
+new-string k = k .before .before .before .before .before .before .before .before
+
+cast-long : tie.Need-cast-long
+cast-long c = omega (arith, said (new-string c) .small (new c))
+
+one-more-requires : tie.Need-one-more-requires
+one-more-requires c κs = said (new-string c) .countable (new c)
 
 charge-to-requires : tie.Need-charge-to-requires
-charge-to-requires c κs = said (c .before .before .before .before .before .before .before .before) .chargeable (new c)
+charge-to-requires c κs = said (new-string (c .before)) .chargeable (new (c .before))
 
 same-length-7 : tie.Need-same-length-7
 same-length-7 c = search needs
@@ -183,10 +192,13 @@ same-length-9 c = search needs
 
 returns-3 : tie.Need-returns-3
 returns-3 c =
-    let k = c .before in
-    let p = said (k .before .before .before .before .before .before .before .before) in
+    let k = c .before .before in
+    let q = roomy (new-string k) in
+    let p = said (new-string k) in
     let e = new k in
-    settled _ _ _ _ _ _ _ (p .answer) (c .charge-to .ensures ∙ rw e) (p .bytes-left) (p .entries-left) (rw (e, k .before .owner-of .ensures))
+    settled _ _ _ _ _ _ _ (p .answer) (c .before .one-more .ensures ∙ sym (p .counted .1 e)) (c .charge-to .ensures ∙ rw e) (p .bytes-left)
+    (p .entries-left)
+    (ap (λ (o : ℕ). set (lent q .owners) (lent q .counts .entries) o) (k .before .owner-of .ensures) ∙ rw e)
 
 pub add-string-spec : {M : Type 1} → statement M
 add-string-spec =
@@ -217,7 +229,8 @@ add-string-spec =
     owner-of-requires
     cast-owners
     slice-write-owners
-    cast-charge-to
+    cast-long
+    one-more-requires
     charge-to-requires
     same-length-7
     same-length-8
