@@ -33,16 +33,7 @@ fn parse_from(
         };
     }
     let which = words::which_of(desk);
-    desk_parse::parse(
-        format,
-        table,
-        bytes,
-        entries,
-        owners,
-        terms,
-        desks,
-        which,
-    )
+    desk_parse::parse(format, table, bytes, entries, owners, terms, desks, which)
 }
 
 // Parses a format string for a desk, by the cluster rules of an edition, and adds its fill to the pool that is lent. Refused are a format string

@@ -18,7 +18,7 @@ fn add_from(
     counts: Counts,
     desks: Desks,
 ) -> AddedFor
-    ensures { λ r. ⌜ AddedFrom desk (now (string .entry)) 
+    ensures { λ r. ⌜ AddedFrom desk (now (string .entry))
         (shared (now (bytes .entry)) (now (entries .entry)) (now (owners .entry)) counts desks)
         (now (bytes .exit)) (now (entries .exit)) (now (owners .exit)) r ⌝ }
 {
