@@ -1,0 +1,41 @@
+-- `desk_add::refuse` meets its contract. Assumes nothing.
+use mathlib.Core.Path.{sym, _∙_}
+use borrow.Author.Needs.{needs}
+use Rattle.desk_add.proofs.refuse.Statement.{statement}
+use Rattle.desk_add.proofs.refuse.Tie as tie
+use Rattle.desk_add.proofs.refuse.Reads as reads
+use Rattle.desk_add.proofs.refuse.Lts as lts
+use Rattle.utf8.proofs.check_utf8.Reads as check-utf8-reads
+
+check-utf8-requires : tie.Need-check-utf8-requires
+check-utf8-requires c κs = search needs
+
+enum-known-i : tie.Need-enum-known-i
+enum-known-i c = search needs
+
+enum-known-i-2 : tie.Need-enum-known-i-2
+enum-known-i-2 c = search needs
+
+enum-told : tie.Need-enum-told
+enum-told c = search needs
+
+returns : tie.Need-returns
+returns c = rw (sym (c .before .before .before .check-utf8 .ensures) ∙ c .before .i .given .1)
+
+returns-2 : tie.Need-returns-2
+returns-2 c = rw (sym (c .before .before .before .check-utf8 .ensures) ∙ c .before .i2 .given .1)
+
+returns-3 : tie.Need-returns-3
+returns-3 c = rw (sym (c .before .before .check-utf8 .ensures) ∙ c .enum-told .given .1)
+
+pub refuse-spec : {M : Type 1} → statement M
+refuse-spec =
+    tie.close
+    (tie.spec
+    check-utf8-requires
+    enum-known-i
+    enum-known-i-2
+    enum-told
+    returns
+    returns-2
+    returns-3)

@@ -1,0 +1,4 @@
+pub mod Add
+pub mod PartsLaws
+pub mod AddLaws
+pub mod PromiseLaws
