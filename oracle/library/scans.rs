@@ -28,8 +28,8 @@ pub fn compare(run: &mut Run, dice: &mut Dice, count: usize) {
     }
     while done.iter().sum::<usize>() < count {
         let source = match dice.below(10) {
-            0 | 1 => run.kinds.text(dice, 200).into_bytes(),
-            2 => [
+            0 => run.kinds.text(dice, 200).into_bytes(),
+            1 => [
                 b"x = '".as_slice(),
                 run.kinds.text(dice, 60).as_bytes(),
                 b"{y:",
@@ -37,7 +37,7 @@ pub fn compare(run: &mut Run, dice: &mut Dice, count: usize) {
                 b"}'",
             ]
             .concat(),
-            3..6 => scripts::script(dice),
+            2..4 => scripts::script(dice),
             _ => scripts::nested(dice),
         };
         done[3] += one(run, dice, &source);
@@ -91,7 +91,9 @@ fn scan(run: &mut Run, source: &[u8], room: usize, host: &Host, dice: &mut Dice)
         Err((number, place)) => ((number, (2, 0, place)), None),
         Ok(text) => {
             let scan = (host.judge.scan)(text, room / 8);
-            run.tally.deepest(scan.records.iter().map(|record| record[9]).max());
+            if host.name == hosts::NEWER.name {
+                run.tally.deepest(scan.records.iter().map(|record| record[9]).max());
+            }
             put(&mut list, &scan.records);
             let said = match scan.status {
                 Status::End => (0, (0, scan.records.len(), scan.place)),

@@ -21,8 +21,11 @@ const WANTED: [(&str, &[u32]); 12] = [
 
 const SHOWN_MOST: usize = 10;
 
-/// Each depth up to this must have been the greatest of some scan
+/// Each depth up to this must have been the greatest of some source
 const DEPTH_MOST: u32 = 64;
+
+/// In the code of a template that stands in another there are so many modes
+const NESTED: u32 = 4;
 
 #[derive(Default)]
 pub struct Tally {
@@ -100,7 +103,9 @@ impl Tally {
             println!("{what}, {host}: {count}");
         }
         let depths: Vec<String> = self.depths.iter().map(|(depth, count)| format!("{depth}: {count}")).collect();
-        println!("scans by the depth of their deepest record: {}", depths.join(", "));
+        println!("sources by the depth of their deepest record: {}", depths.join(", "));
+        let nested: u64 = self.depths.range(NESTED..).map(|(_, count)| count).sum();
+        println!("sources with a template in a template, or deeper: {nested}");
         fine &= (0..=DEPTH_MOST).all(|depth| self.depths.contains_key(&depth));
         let calls: u64 = self.answers.values().sum();
         println!("{calls} calls, {}", if fine { "no difference" } else { "DIFFERENT" });
