@@ -5,7 +5,8 @@ use mathlib.Core.Path.{_≡_}
 use mathlib.Core.List.{List}
 use Rattle.rows.specs.Row.{room, putRows}
 use Rattle.reading.specs.Scan.{scanned, written}
-use Rattle.profile.specs.Profile.{firstForbidden, profiledBy, numberOf, placeOf, countOf, statusOf}
+use Rattle.forbidden.specs.Forbidden.{firstForbidden}
+use Rattle.profile.specs.Profile.{profiledBy, numberOf, placeOf, countOf, statusOf}
 use Rattle.profile.specs.declared.Profiled.{Profiled}
 
 module _ (source table : List ℕ) (edition : ℕ) where

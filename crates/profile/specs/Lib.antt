@@ -1,5 +1,3 @@
 pub mod Profile
-pub mod Pass
-pub mod PassLaws
 pub mod LoopLaws
 pub mod ProfileLaws

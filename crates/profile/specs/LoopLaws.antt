@@ -8,7 +8,7 @@ use native.Mathlib.Numerals.{add-one}
 use mathlib.Core.Path.{_≡_, refl, sym, ap, _∙_}
 use mathlib.Core.Bool.{true, false}
 use Rattle.rows.specs.declared.RowAt.{RowAt}
-use Rattle.profile.specs.Pass.{forbiddenAt, openerAt, passFrom}
+use Rattle.forbidden.specs.Pass.{forbiddenAt, openerAt, passFrom}
 
 pub record Going (at : ℕ → RowAt) (count opener i : ℕ) : Type 0 where
   pub within : i ≤ count

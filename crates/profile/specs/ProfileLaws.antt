@@ -32,9 +32,10 @@ use Rattle.reading.specs.declared.Scanned.{Scanned}
 use Rattle.reading.specs.declared.Scanned.the-variants.{End, Stuck, Refused, ListFull, ModesFull}
 use Rattle.rust.specs.TokenLexer.{newTokenLexer}
 use Rattle.rust.specs.HandsLaws.{reading-hands}
-use Rattle.profile.specs.Profile.{firstForbidden, judged, profiledBy, Profiles}
-use Rattle.profile.specs.Pass.{passFrom}
-use Rattle.profile.specs.PassLaws.{pass-is}
+use Rattle.forbidden.specs.Forbidden.{firstForbidden}
+use Rattle.profile.specs.Profile.{judged, profiledBy, Profiles}
+use Rattle.forbidden.specs.Pass.{passFrom}
+use Rattle.forbidden.specs.PassLaws.{pass-is}
 use Rattle.profile.specs.declared.Profiled.{Profiled}
 use Rattle.profile.specs.declared.Profiled.the-variants.{Base, NotInProfile}
 

@@ -8,7 +8,7 @@ ghost use mathlib.Core.Path.{_≡_};
 ghost use Prim.Native.Nat.{_≤_};
 ghost use Rattle.rows.specs.Row.{room, shownAt};
 ghost use Rattle.profile.specs.Profile.{judged, Profiles};
-ghost use Rattle.profile.specs.Pass.{isInner, isForbiddenBy, openerAfter, forbiddenAt, openerAt, passFrom};
+ghost use Rattle.forbidden.specs.Pass.{isInner, isForbiddenBy, openerAfter, forbiddenAt, openerAt, passFrom};
 use reading::Scanned;
 use rows::Row;
 use rows::RowAt;

@@ -9,7 +9,8 @@ use Rattle.base.specs.Refusal.{none, notInProfile}
 use Rattle.reading.specs.Scan as scan
 use Rattle.reading.specs.Scan.{Scans}
 use Rattle.reading.specs.declared.Scanned.{Scanned}
-use Rattle.profile.specs.Profile.{forbiddenToken, modesBefore, tokenAt, numberOf, placeOf}
+use Rattle.forbidden.specs.Forbidden.{forbiddenToken, modesBefore, tokenAt}
+use Rattle.profile.specs.Profile.{numberOf, placeOf}
 use Rattle.profile.specs.declared.Profiled.{Profiled}
 use Rattle.profile.specs.declared.Profiled.the-variants.{Base, NotInProfile}
 

@@ -4,7 +4,7 @@
 use Prim.Native.Nat.{ℕ, _<_, _≤_}
 use native.Mathlib.Omega.{arith}
 use mathlib.Core.Path.{_≡_, refl, sym, ap, subst, _∙_}
-use mathlib.Core.Bool.{Bool, true, false, not}
+use mathlib.Core.Bool.{not}
 use mathlib.Core.List.{List}
 use lib.Dec.{ltb}
 use lib.ListN.{length}
@@ -22,20 +22,12 @@ use Rattle.reading.specs.Scan.{readingOf, scanned, Scans}
 use Rattle.reading.specs.WholeLaws.{end-whole, stuck-whole}
 use Rattle.reading.specs.declared.Scanned.{Scanned}
 use Rattle.reading.specs.declared.Scanned.the-variants as answer
-use Rattle.profile.specs.Profile.{isAllowed, firstForbidden, judged, profiledBy, Profiles, numberOf, placeOf}
+use Rattle.forbidden.specs.Forbidden.{isAllowed, firstForbidden}
+use Rattle.profile.specs.Profile.{judged, profiledBy, Profiles, numberOf, placeOf}
 use Rattle.profile.specs.ProfileLaws.{one-answer}
 use Rattle.profile.specs.declared.Profiled.{Profiled}
 use Rattle.profile.specs.declared.Profiled.the-variants.{Base, NotInProfile}
 use Rattle.promises.specs.Profile.{Forbidden, Allowed, First, ProfilePromise}
-
--- a test and its opposite
-was-false : {b : Bool} → not b ≡ true → b ≡ false
-was-false {true} e = let z : _≡_ {A = ℕ} 0 1 = cc in absurd (omega arith)
-was-false {false} e = refl
-
-was-true : {b : Bool} → not b ≡ false → b ≡ true
-was-true {true} e = refl
-was-true {false} e = let z : _≡_ {A = ℕ} 0 1 = cc in absurd (omega arith)
 
 -- a refusal before any work is neither none nor 21
 no : (x : Refusal) → input.numberOf x ≡ none → ⊥
@@ -63,8 +55,8 @@ module _ (source table : List ℕ) (edition : ℕ) where
     found h =
         record {
           within = h;
-          forbidden = was-true (bad-there (isAllowed source table edition) 0 (length (readingOf source table edition .rows)) (omega arith));
-          none-before = λ j k. was-false (good-before (isAllowed source table edition) 0 (length (readingOf source table edition .rows)) j (omega arith) k);
+          forbidden = not-false _ (bad-there (isAllowed source table edition) 0 (length (readingOf source table edition .rows)) (omega arith));
+          none-before = λ j k. not-true _ (good-before (isAllowed source table edition) 0 (length (readingOf source table edition .rows)) j (omega arith) k);
         }
 
     is-it : (i : ℕ) → First source table edition n i → first ≡ i

@@ -12,7 +12,8 @@ use Rattle.cluster.specs.CallLaws.{same-call}
 use Rattle.rows.specs.Row.{room}
 use Rattle.reading.specs.Scan.{scanned, Scans}
 use Rattle.reading.specs.ScanLaws as scan
-use Rattle.profile.specs.Profile.{firstForbidden, profiledBy, Profiles}
+use Rattle.forbidden.specs.Forbidden.{firstForbidden}
+use Rattle.profile.specs.Profile.{profiledBy, Profiles}
 use Rattle.profile.specs.ProfileLaws as profile
 use Rattle.profile.specs.ProfileLaws.{profiled-same}
 use Rattle.profile.specs.declared.Profiled.{Profiled}

@@ -1,7 +1,7 @@
 -- How the code finds the first forbidden token: by one pass over the records alone. Up to it there is no raw string and no template inside a
 -- template, so the modes are, from the bottom: a string, its template, then a string or a map or format options in that, then a string in the
 -- map. So a "{" opens a second template at depth 4, and at depth 3 where what opened depth 3 was a string: that is the last record of depth 2.
--- That this is what `Profile` says is `PassLaws`.
+-- That this is what `Forbidden` says is `PassLaws`.
 -- Assumes nothing.
 use Prim.Native.Nat.{ℕ, zero, suc}
 use mathlib.Core.Bool.{Bool, false}
@@ -11,7 +11,7 @@ use Rattle.token.specs.Kind.{stringStart, curlyOpen}
 use Rattle.rows.specs.declared.Row.{Row}
 use Rattle.rows.specs.declared.RowAt.{RowAt}
 use Rattle.rows.specs.declared.RowAt.the-variants.{Fit, Unfit}
-use Rattle.profile.specs.Profile.{isRaw}
+use Rattle.forbidden.specs.Forbidden.{isRaw}
 
 -- the kind of the last record of depth 2
 abbrev pub openerAfter : ℕ → Row → ℕ

@@ -37,8 +37,8 @@ use Rattle.queue.specs.StreamLaws.{get-in}
 use Rattle.rust.specs.TokenLexer.{TokenLexer, viewOf, givenAt, getNextToken, lexedOf, lexed, newTokenLexer, stateAt, handed}
 use Rattle.rust.specs.Hands.{Hands}
 use Rattle.rust.specs.DepthLaws.{state-next, hands-depth}
-use Rattle.profile.specs.Profile.{isRaw, hasTemplate, opensInner, isForbidden, forbiddenToken}
-use Rattle.profile.specs.Pass.{openerAfter, isInner, isForbiddenBy, forbiddenAt, openerAt, passFrom}
+use Rattle.forbidden.specs.Forbidden.{isRaw, hasTemplate, opensInner, isForbidden, forbiddenToken}
+use Rattle.forbidden.specs.Pass.{openerAfter, isInner, isForbiddenBy, forbiddenAt, openerAt, passFrom}
 
 -- ---- the modes up to the first forbidden token
 

@@ -1,0 +1,3 @@
+pub mod Forbidden
+pub mod Pass
+pub mod PassLaws
