@@ -26,3 +26,5 @@ pub mod LookLaws
 pub mod ParseLaws
 pub mod PadLaws
 pub mod LentLaws
+pub mod Desks
+pub mod DesksLaws
