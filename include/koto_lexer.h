@@ -26,7 +26,7 @@
 #include <stddef.h>
 #include <stdint.h>
 
-#define KOTO_LEXER_VERSION "0.10.0"
+#define KOTO_LEXER_VERSION "0.12.0"
 
 #ifdef __cplusplus
 extern "C" {
@@ -46,7 +46,7 @@ extern "C" {
  *    5 MODES_FULL                  a token would push a 65th mode. Place: the current byte
  *    6 PEEK_TOO_FAR                n is over queued + 1
  *    7 QUEUE_FULL                  a token must be queued, and KOTO_QUEUE_MOST are
- *    8 BAD_STATE                   a cursor or a pool that is unfit
+ *    8 BAD_STATE                   a cursor or a pool that is unfit, or desks that are (see koto_desk_add_string)
  *    9 BAD_RECORD                  a record that may not be shown: its kind is over 80, it may not have its detail, its depth is over 64, or
  *                                  bits 28 to 31 of its first word are not 0. Place: its index
  *   10 EXPECTED_NUMBER             a precision has no digit. Value: the code point that stands there
@@ -218,6 +218,11 @@ extern "C" {
 #define KOTO_REPRESENTATION_EXP_LOWER 5u
 #define KOTO_REPRESENTATION_EXP_UPPER 6u
 
+/* ---- The two desks that may share a pool ---- */
+
+#define KOTO_DESK_FIRST 0u
+#define KOTO_DESK_SECOND 1u
+
 /* ---- Structs ---- */
 
 /* A token of a scan, as koto_next, koto_peek and koto_look_ahead show it: its kind and detail, its bytes from start to before end, its span (lines
@@ -259,6 +264,30 @@ typedef struct koto_counts {
     uint32_t entries;
     uint32_t bytes;
 } koto_counts;
+
+/* A desk of a pool that two share: what it is guaranteed, which the caller sets once and no call changes, and what it is charged, 0 and 0 in an
+ * empty pool. */
+typedef struct koto_desk {
+    koto_counts guaranteed;
+    koto_counts charged;
+} koto_desk;
+
+/* Both desks: KOTO_DESK_FIRST and KOTO_DESK_SECOND. */
+typedef struct koto_desks {
+    koto_desk first;
+    koto_desk second;
+} koto_desks;
+
+/* ---- Behind calls below: what the archive has in their place, with a row of entries as its numbers, two for each ---- */
+
+uint32_t koto_desk_add_string_flat(uint32_t desk, const uint8_t *string, size_t string_len, uint8_t *bytes, size_t bytes_len,
+                                   uint32_t *entries, size_t entries_len, uint8_t *owners, size_t owners_len, koto_counts *counts,
+                                   koto_desks *desks, uint32_t *index, size_t *place);
+
+uint32_t koto_desk_parse_flat(uint32_t desk, const uint8_t *format, size_t format_len, const uint32_t *table, size_t table_len,
+                              uint32_t edition, uint8_t *bytes, size_t bytes_len, uint32_t *entries, size_t entries_len,
+                              uint8_t *owners, size_t owners_len, koto_counts *counts, koto_desks *desks, koto_options *options,
+                              uint64_t *value);
 
 /* ---- Calls ---- */
 
@@ -420,6 +449,47 @@ uint32_t koto_add_string(const uint8_t *string, size_t string_len, uint8_t *byte
 uint32_t koto_parse(const uint8_t *format, size_t format_len, const uint32_t *table, size_t table_len, uint32_t edition,
                     uint8_t *bytes, size_t bytes_len, koto_entry *entries, size_t entries_len, koto_counts *counts,
                     koto_options *options, uint64_t *value);
+
+/* Adds a string for a desk to a pool that two desks share, or finds it there.
+ *
+ * The pool is that of koto_add_string, with a row of owners: of each entry in use the number of the desk that added it. Each desk has the room
+ * that it is guaranteed, whatever the other one adds; the rest is common. A string that is there costs nobody; a new one is charged to the
+ * desk that adds it. The state is unfit where koto_add_string calls the pool unfit, the row of owners is shorter than the room for entries, a
+ * desk's charges are not the entries and bytes that it owns, the charges do not add up to the counts, the guarantees together exceed the
+ * room, or what both desks hold beyond their guarantees exceeds the common room. So after koto_add_string or koto_parse on such a pool, which
+ * charge nobody, the next call for a desk is refused with 8.
+ *
+ * in       the desk; the string; the pool; the owners; the desks
+ * out      index: the string's. place: 0. Where it was not there: its bytes, its entry and its owner behind those in use, and counts and the
+ *            desk's charges with one entry and so many bytes more; all else stays
+ * refused  in this order, each with index 0; pool, owners and desks stay
+ *          3 BAD_UTF8 or 15 CUT_UTF8, with its place
+ *          8 BAD_STATE: also a number that is no desk. place: 0
+ *          13 POOL_FULL: the string is not there, and its entry or its bytes would pass what is left of the common room and of the desk's
+ *            guarantee together. place: 0
+ */
+static inline uint32_t koto_desk_add_string(uint32_t desk, const uint8_t *string, size_t string_len, uint8_t *bytes,
+                                            size_t bytes_len, koto_entry *entries, size_t entries_len, uint8_t *owners,
+                                            size_t owners_len, koto_counts *counts, koto_desks *desks, uint32_t *index,
+                                            size_t *place) {
+    return koto_desk_add_string_flat(desk, string, string_len, bytes, bytes_len, (uint32_t *)entries, 2 * entries_len, owners,
+                                     owners_len, counts, desks, index, place);
+}
+
+/* Parses the format options of a string template, and adds their fill for a desk to a pool that two desks share (see koto_parse and
+ * koto_desk_add_string). Each string that it adds is an addition for the desk.
+ *
+ * in       as koto_parse, with the desk, the owners and the desks
+ * out      as koto_parse; the pool, the owners and the desk's charges grow with the strings that are added
+ * refused  as koto_parse, with 8 BAD_STATE and 13 POOL_FULL as koto_desk_add_string has them
+ */
+static inline uint32_t koto_desk_parse(uint32_t desk, const uint8_t *format, size_t format_len, const uint32_t *table,
+                                       size_t table_len, uint32_t edition, uint8_t *bytes, size_t bytes_len, koto_entry *entries,
+                                       size_t entries_len, uint8_t *owners, size_t owners_len, koto_counts *counts,
+                                       koto_desks *desks, koto_options *options, uint64_t *value) {
+    return koto_desk_parse_flat(desk, format, format_len, table, table_len, edition, bytes, bytes_len, (uint32_t *)entries,
+                                2 * entries_len, owners, owners_len, counts, desks, options, value);
+}
 
 /* Pads a text to a width: as many fills before and behind it as its clusters are too few. This is our rule, and not koto's.
  *

@@ -105,6 +105,10 @@ pub fn add_string(string: &[u8], pool: &mut Pool) -> Added {
             &mut place,
         )
     };
+    added_of(refused, index, place)
+}
+
+pub(crate) fn added_of(refused: u32, index: u32, place: usize) -> Added {
     match refused {
         0 => Added::Index(index),
         3 => Added::BadUtf8(place),
@@ -134,8 +138,12 @@ pub fn parse(format: &[u8], table: &[u32], edition: Edition, pool: &mut Pool) ->
             &mut value,
         )
     };
+    parsed_of(refused, &options, value)
+}
+
+pub(crate) fn parsed_of(refused: u32, options: &raw::Options, value: u64) -> Parsed {
     match refused {
-        0 => Parsed::Read(options_of(&options)),
+        0 => Parsed::Read(options_of(options)),
         1 => Parsed::TooLong,
         2 => Parsed::BadTable(value as usize),
         3 => Parsed::BadUtf8(value as usize),

@@ -2,18 +2,20 @@
 //!
 //! Every function takes every input. What is lent is written as docs/PROMISES.md says; a refusal before the work writes nothing.
 
+mod desks;
 mod formats;
 mod lists;
 mod padding;
 pub mod raw;
 mod texts;
 
+pub use desks::{desk_add_string, desk_parse, SharedPool, Which};
 pub use formats::{add_string, parse, Added, Alignment, Fill, Options, Parsed, Pool, Representation};
 pub use lists::{
     look_ahead, next, peek, room_for, scan, scan_profile, Cursor, Given, Peeked, Profiled, Scanned, Status, RECORD_WORDS,
 };
 pub use padding::{pad, Padded, Padding};
-pub use raw::{Counts, Entry, Record};
+pub use raw::{Counts, Desk, Desks, Entry, Record};
 pub use texts::{
     check_table, check_utf8, first_cluster, read_char, read_table, Cluster, Edition, Read, TableCheck, TableFile,
     Utf8Check,

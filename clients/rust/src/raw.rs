@@ -16,6 +16,22 @@ pub struct Counts {
     pub bytes: u32,
 }
 
+/// A desk of a shared pool: what it is guaranteed, and what it is charged
+#[repr(C)]
+#[derive(Clone, Copy, Debug, Default, PartialEq, Eq)]
+pub struct Desk {
+    pub guaranteed: Counts,
+    pub charged: Counts,
+}
+
+/// Both desks of a shared pool
+#[repr(C)]
+#[derive(Clone, Copy, Debug, Default, PartialEq, Eq)]
+pub struct Desks {
+    pub first: Desk,
+    pub second: Desk,
+}
+
 /// A record that is shown; its depth is how many modes of strings and templates are open before it
 #[repr(C)]
 #[derive(Clone, Copy, Debug, Default, PartialEq, Eq)]
@@ -179,6 +195,41 @@ extern "C" {
         entries: *mut Entry,
         entries_len: usize,
         counts: *mut Counts,
+        options: *mut Options,
+        value: *mut u64,
+    ) -> u32;
+    /// The row of entries is told in numbers, two for each.
+    pub fn koto_desk_add_string_flat(
+        desk: u32,
+        string: *const u8,
+        string_len: usize,
+        bytes: *mut u8,
+        bytes_len: usize,
+        entries: *mut u32,
+        entries_len: usize,
+        owners: *mut u8,
+        owners_len: usize,
+        counts: *mut Counts,
+        desks: *mut Desks,
+        index: *mut u32,
+        place: *mut usize,
+    ) -> u32;
+    /// The row of entries is told in numbers, two for each.
+    pub fn koto_desk_parse_flat(
+        desk: u32,
+        format: *const u8,
+        format_len: usize,
+        table: *const u32,
+        table_len: usize,
+        edition: u32,
+        bytes: *mut u8,
+        bytes_len: usize,
+        entries: *mut u32,
+        entries_len: usize,
+        owners: *mut u8,
+        owners_len: usize,
+        counts: *mut Counts,
+        desks: *mut Desks,
         options: *mut Options,
         value: *mut u64,
     ) -> u32;

@@ -1,9 +1,10 @@
 -- Document 02, C-12: an addition for a desk. A string that is there costs nobody; a new one is charged to the desk that adds it. Refusals 3 or 15,
 -- 8, 13 in this order.
 -- Assumes nothing.
-use Prim.Native.Nat.{ℕ}
+use Prim.Native.Nat.{ℕ, _+_}
 use mathlib.Core.Path.{_≡_}
-use mathlib.Core.List.{List, [], _∷_}
+use mathlib.Core.List.{List}
+use lib.Dec.{ltb}
 use lib.ListN.{length, set}
 use Rattle.base.specs.Pick.{pick}
 use Rattle.utf8.specs.Chars.{checkFrom}
@@ -11,8 +12,8 @@ use Rattle.pool_rows.specs.Rows.{stringsOf, indexOf, byteRoom, entryRoom}
 use Rattle.pool.specs.Pool.{oneMore, placed, onUtf8, isNew, bytesAfter, entriesAfter, countsAfter}
 use Rattle.pool_rows.specs.declared.Counts.{Counts}
 use Rattle.pool.specs.declared.Added.{Added}
-use Rattle.pool.specs.declared.Added.the-variants.{BadState}
-use Rattle.desks.specs.Desks.{Shared, ownerOf, fitDesks, entriesFor, bytesFor}
+use Rattle.pool.specs.declared.Added.the-variants.{Index, BadState, PoolFull}
+use Rattle.desks.specs.Desks.{Shared, deskOf, other, ownerOf, left, commonLeft, fitDesks, entriesFor, bytesFor}
 use Rattle.desks.specs.declared.Desk.{Desk}
 use Rattle.desks.specs.declared.Desks.{Desks}
 use Rattle.desks.specs.declared.Which.{Which}
@@ -68,7 +69,28 @@ pub record AddsFor (string : List ℕ) (which : Which) (s : Shared) (newBytes ne
   pub entries-left : newEntries ≡ addFor which s string .entries
   pub owners-left : newOwners ≡ addFor which s string .owners
 
--- any number of additions by a desk, one after the other, refused or not
-unfoldable pub addAll : Which → Shared → List (List ℕ) → Shared
-addAll which s [] = s
-addAll which s (string ∷ strings) = addAll which (addFor which s string) strings
+-- ---- the answer in document 02's words
+
+-- what is free for a desk, in entries and in bytes: what is left of the common room, and of its own guarantee
+abbrev pub freeEntries : Which → Shared → ℕ
+freeEntries which s =
+    let mine = deskOf which (s .desks) in
+    let others = deskOf (other which) (s .desks) in
+    commonLeft (entryRoom (s .entries)) (mine .guaranteed .entries) (mine .charged .entries) (others .guaranteed .entries)
+    (others .charged .entries)
+    + left (mine .guaranteed .entries) (mine .charged .entries)
+
+abbrev pub freeBytes : Which → Shared → ℕ
+freeBytes which s =
+    let mine = deskOf which (s .desks) in
+    let others = deskOf (other which) (s .desks) in
+    commonLeft (byteRoom (s .bytes)) (mine .guaranteed .bytes) (mine .charged .bytes) (others .guaranteed .bytes) (others .charged .bytes)
+    + left (mine .guaranteed .bytes) (mine .charged .bytes)
+
+-- the answer for a string of so many bytes that was found at an index, where so many entries and bytes are free
+abbrev pub inWords : ℕ → ℕ → Counts → ℕ → ℕ → Added
+inWords long found counts entries bytes =
+    pick (ltb found (counts .entries)) (Index found counts)
+    (pick (ltb entries 1) PoolFull
+    (pick (ltb bytes long) PoolFull
+    (Index (counts .entries) (oneMore counts long))))

@@ -1,5 +1,5 @@
 -- Laws of an addition for a desk.
---     unfit, fitting          the answer where the desks are unfit, and where they are fit
+--     wrong, cut, unfit, fitting      the answer where the string is wrong or cut, or else where the desks are unfit, and where they are fit
 --     unwritten, uncounted    a refusal of the state or of the string hands out no new index, and leaves the counts
 --     Counted                 what an answer does to the counts
 --     fills-pool              what is in use does not pass the desk's room
@@ -26,7 +26,7 @@ use Rattle.pool.specs.Pool.{oneMore, placed, onUtf8, isNew, bytesAfter, entries
 use Rattle.pool_rows.specs.FitLaws as pool
 use Rattle.pool_rows.specs.declared.Counts.{Counts}
 use Rattle.pool.specs.declared.Added.{Added}
-use Rattle.pool.specs.declared.Added.the-variants.{BadState}
+use Rattle.pool.specs.declared.Added.the-variants.{BadUtf8, CutUtf8, BadState}
 use Rattle.desks.specs.Desks.{Shared, deskOf, other, entriesFor, bytesFor, fitDesks}
 use Rattle.desks.specs.RoomLaws.{Out, out-of, fills, swap}
 use Rattle.desks.specs.FitLaws.{Fit, fit-of}
@@ -94,6 +94,14 @@ module _ (s : Shared) (which : Which) where
   rb = bytesFor (byteRoom (s .bytes)) which (s .desks)
 
   module _ (string : List ℕ) where
+    pub wrong : (i : ℕ) → checkFrom 0 string ≡ utf8.BadAt i → addedFor which s string ≡ BadUtf8 i
+    unfolding addedFor
+    wrong i e = rw e
+
+    pub cut : (i : ℕ) → checkFrom 0 string ≡ utf8.CutAt i → addedFor which s string ≡ CutUtf8 i
+    unfolding addedFor
+    cut i e = rw e
+
     pub unfit : fitDesks s ≡ false
         → addedFor which s string ≡ onUtf8 (checkFrom 0 string) BadState
     unfolding addedFor

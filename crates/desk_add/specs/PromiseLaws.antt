@@ -8,7 +8,6 @@
 --     answer-in-words     the answer with 13 in document 02's words
 --     within-guarantee    a desk that stays within its guarantee is not refused with 13
 --     alone               where the other desk is guaranteed nothing, the pool alone answers so
---     guaranteed          and that is so whatever the other desk adds
 -- Assumes nothing.
 use Prim.Native.Nat.{ℕ, zero, suc, _+_, _*_, _-_, _/_, _<_, _≤_}
 use native.Mathlib.Omega.{arith}
@@ -38,7 +37,7 @@ use Rattle.pool_rows.specs.declared.Counts.{Counts}
 use Rattle.pool.specs.declared.Added.{Added}
 use Rattle.pool.specs.declared.Added.the-variants.{Index, BadUtf8, CutUtf8, BadState, PoolFull}
 use Rattle.desks.specs.Desks.{Shared, shared, Fits, ownerOf, heldBy, left, commonLeft, deskOf, other, entriesFor, bytesFor, fitDesks, entriesShared, bytesShared}
-use Rattle.desk_add.specs.Add.{addedFor, withMore, sharedAfter, addFor, addAll}
+use Rattle.desk_add.specs.Add.{freeEntries, freeBytes, inWords, addedFor, withMore, sharedAfter, addFor}
 use Rattle.desks.specs.RoomLaws.{Out, out-of, out-by, in-words, owed, takes, swap}
 use Rattle.desks.specs.HeldLaws.{held-more, held-same}
 use Rattle.desks.specs.FitLaws.{Fit, fit-of, fit-by}
@@ -124,35 +123,6 @@ placed-full long found counts e b he hb =
     (λ l. by-lt (λ (r : Added). r ≡ PoolFull → ⊥) b (counts .bytes + long)
     (λ m q. omega arith)
     (λ m q. let z : _≡_ {A = ℕ} 0 1 = cc in omega arith)))
-
--- what is free for a desk, in entries or in bytes: what is left of the common room, and of its own guarantee
-abbrev pub freeEntries : Which → Shared → ℕ
-freeEntries First s =
-    commonLeft (entryRoom (s .entries)) (s .desks .first .guaranteed .entries) (s .desks .first .charged .entries)
-    (s .desks .second .guaranteed .entries) (s .desks .second .charged .entries)
-    + left (s .desks .first .guaranteed .entries) (s .desks .first .charged .entries)
-freeEntries Second s =
-    commonLeft (entryRoom (s .entries)) (s .desks .second .guaranteed .entries) (s .desks .second .charged .entries)
-    (s .desks .first .guaranteed .entries) (s .desks .first .charged .entries)
-    + left (s .desks .second .guaranteed .entries) (s .desks .second .charged .entries)
-
-abbrev pub freeBytes : Which → Shared → ℕ
-freeBytes First s =
-    commonLeft (byteRoom (s .bytes)) (s .desks .first .guaranteed .bytes) (s .desks .first .charged .bytes)
-    (s .desks .second .guaranteed .bytes) (s .desks .second .charged .bytes)
-    + left (s .desks .first .guaranteed .bytes) (s .desks .first .charged .bytes)
-freeBytes Second s =
-    commonLeft (byteRoom (s .bytes)) (s .desks .second .guaranteed .bytes) (s .desks .second .charged .bytes)
-    (s .desks .first .guaranteed .bytes) (s .desks .first .charged .bytes)
-    + left (s .desks .second .guaranteed .bytes) (s .desks .second .charged .bytes)
-
--- the answer where what is free is told by itself
-abbrev pub inWords : ℕ → ℕ → Counts → ℕ → ℕ → Added
-inWords long found counts entries bytes =
-    pick (ltb found (counts .entries)) (Index found counts)
-    (pick (ltb entries 1) PoolFull
-    (pick (ltb bytes long) PoolFull
-    (Index (counts .entries) (oneMore counts long))))
 
 words-placed : (long found : ℕ) (counts : Counts) (e b entries bytes : ℕ) → e ≡ counts .entries + entries → b ≡ counts .bytes + bytes
     → placed long found counts e b ≡ inWords long found counts entries bytes
@@ -412,32 +382,6 @@ other-kept which s string =
     go : (w : Which) → deskOf (other w) (withMore w (s .desks) (length string)) ≡ deskOf (other w) (s .desks)
     go First = refl
     go Second = refl
-
-back : (w : Which) → other (other w) ≡ w
-back First = refl
-back Second = refl
-
--- after any additions of the other desk the state is fit, and the desk is owed and charged what it was
-pub others-add : (which : Which) (strings : List (List ℕ)) (s : Shared) → Fits s
-    → Fits (addAll (other which) s strings) × (deskOf which (addAll (other which) s strings .desks) ≡ deskOf which (s .desks))
-unfolding addAll
-others-add which [] s f = (f, refl)
-others-add which (string ∷ strings) s f =
-    let k = fit-kept (other which) s string (fit-of s f) in
-    let t = addFor (other which) s string in
-    let r = others-add which strings t (fit-by t k) in
-    (r .0, r .1 ∙ (rw (back which) at (other-kept (other which) s string)))
-
--- whatever the other desk adds, a desk gets its guaranteed room
-pub guaranteed : (which : Which) (s : Shared) → Fits s → (strings : List (List ℕ)) (string : List ℕ)
-    → deskOf which (s .desks) .charged .entries + 1 ≤ deskOf which (s .desks) .guaranteed .entries
-    → deskOf which (s .desks) .charged .bytes + length string ≤ deskOf which (s .desks) .guaranteed .bytes
-    → addedFor which (addAll (other which) s strings) string ≡ PoolFull → ⊥
-guaranteed which s f strings string h k =
-    let r = others-add which strings s f in
-    let t = addAll (other which) s strings in
-    within-guarantee t (fit-of t (r .0)) which string
-    (rw (r .1) h) (rw (r .1) k)
 
 -- ---- one desk alone
 

@@ -1,4 +1,5 @@
 -- Laws of the call.
+--     refused-is, bad-state-is, reads-is      what the call comes to
 --     settled-unfit       a return where the desks are unfit
 --     Follows, follows    the call for a desk follows the parse in the part of the rows that the desk may fill: b bytes and e entries
 --     InPart, in-part       what that says of how much is in use after it
@@ -50,6 +51,22 @@ use Rattle.desk_parse.specs.BesideLaws.{Beside, beside-at-first, same-an
 use Rattle.desk_parse.specs.declared.ParsedFor.{ParsedFor}
 
 module _ (format table : List ℕ) (edition : ℕ) (which : Which) (s : Shared) where
+  -- ---- the answer, by what is checked first
+
+  pub refused-is : {x : Refusal} → inputCheck formatMost format table edition ≡ input.Refused x
+      → call format table edition which s ≡ comes (parse.refusedAs x) s
+  unfolding call
+  refused-is e = rw e
+
+  module _ (e : inputCheck formatMost format table edition ≡ input.Fine) where
+    pub bad-state-is : fitDesks s ≡ false → call format table edition which s ≡ comes said.BadState s
+    unfolding call
+    bad-state-is f = rw (e, f)
+
+    pub reads-is : fitDesks s ≡ true → call format table edition which s ≡ ended (parsed format table edition which s)
+    unfolding call
+    reads-is f = rw (e, f)
+
   -- ---- where the desks are unfit
 
   unfit-is : fitDesks s ≡ false → call format table edition which s ≡ comes (unfitAnswer (inputOf format table edition false)) s

@@ -30,3 +30,5 @@ pub mod PadLaws
 pub mod ProfileLaws
 pub mod SmallTablesLaws
 pub mod LentLaws
+pub mod Desks
+pub mod DesksLaws

@@ -64,14 +64,14 @@ module _ (string bytes entries : List ℕ) (counts : Counts) where
   taken t = unrefused string bytes entries counts (fine-of-well 0 string (t .well)) (t .fit)
 
   -- the index that the search answers, by what stands in the pool
-  first-is : (k : ℕ) → StandsAt string bytes entries counts k → ((j : ℕ) → j < k → StandsAt string bytes entries counts j → ⊥)
+  pub first-is : (k : ℕ) → StandsAt string bytes entries counts k → ((j : ℕ) → j < k → StandsAt string bytes entries counts j → ⊥)
       → indexOf string strings ≡ k
   first-is k s before =
       let long = strings-long bytes entries 0 (counts .entries) in
       index-at string strings k (omega (arith, s .in-use)) (s .is)
       (λ j h e. before j h record { in-use = omega (arith, s .in-use); is = e })
 
-  none-is : Absent string bytes entries counts → counts .entries ≤ indexOf string strings
+  pub none-is : Absent string bytes entries counts → counts .entries ≤ indexOf string strings
   none-is absent =
       let long = strings-long bytes entries 0 (counts .entries) in
       omega (arith, index-none string strings (λ k h e. absent k record { in-use = omega arith; is = e }))
