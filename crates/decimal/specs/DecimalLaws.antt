@@ -1,8 +1,8 @@
 -- Laws of `digits`.
 --     digits-small, digits-more       its two equations: use these, and not the definition's text
---     digit-is, is-digit              a digit is one of ten characters
+--     one-more, few-digits, some-digits    how many there are
+--     is-digit                        each of ten characters is a digit
 --     Taken, number-taken             whatever `consume_u32` reads as n is the digits of n, or longer
---     wrong-is                        an error of `consume_u32` is one
 --     Spelled, spelled, number-read   `consume_u32` reads the digits of n as n, where no digit follows
 -- Assumes nothing.
 use Prim.Native.Nat.{ℕ, zero, suc, _+_, _-_, _*_, _/_, _%_, _<_, _≤_}
@@ -56,6 +56,26 @@ digits-more zero h = absurd (omega arith)
 digits-more (suc m) h =
     in-more m (suc m) h
     ∙ ap (λ (ds : List ℕ). ds ++ (zeroDigit + suc m % 10) ∷ []) (in-same m (suc m / 10) (suc m / 10) (omega arith) (omega arith))
+
+-- ---- how many
+
+pub one-more : (n : ℕ) → 10 ≤ n → length (digits n) ≡ length (digits (n / 10)) + 1
+one-more n h = omega (arith, ap length (digits-more n h), length-append (digits (n / 10)) ((zeroDigit + n % 10) ∷ []))
+
+few : (most n : ℕ) → n ≤ most → length (digits n) ≤ n + 1
+few zero n h = omega (arith, ap length (digits-small n (omega arith)))
+few (suc most) n h =
+    split-lt n 10 (λ l. omega (arith, ap length (digits-small n l))) (λ l. omega (arith, one-more n l, few most (n / 10) (omega arith)))
+
+pub few-digits : (n : ℕ) → length (digits n) ≤ n + 1
+few-digits n = few n n (omega arith)
+
+some : (most n : ℕ) → n ≤ most → 0 < length (digits n)
+some zero n h = omega (arith, ap length (digits-small n (omega arith)))
+some (suc most) n h = split-lt n 10 (λ l. omega (arith, ap length (digits-small n l))) (λ l. omega (arith, one-more n l))
+
+pub some-digits : (n : ℕ) → 0 < length (digits n)
+some-digits n = some n n (omega arith)
 
 -- ---- a digit
 

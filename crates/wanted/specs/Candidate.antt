@@ -102,9 +102,12 @@ isDefault alignment.Left = false
 isDefault alignment.Center = false
 isDefault alignment.Right = false
 
--- nothing stands after the sign
+-- something stands after the sign
+abbrev pub hasTail : OptionalNumber → OptionalNumber → Shown → Bool
+hasTail width precision shown = isGiven width || (isGiven precision || isShown shown)
+
 abbrev pub isBare : Wanted → Bool
-isBare w = not (isGiven (w .width) || (isGiven (w .precision) || isShown (w .representation)))
+isBare w = not (hasTail (w .width) (w .precision) (w .representation))
 
 -- an arm before that of a cluster takes c, whatever follows
 abbrev pub isTaken : ℕ → Bool
@@ -116,11 +119,11 @@ onFine utf8.Fine b = b
 onFine (utf8.BadAt i) b = false
 onFine (utf8.CutAt i) b = false
 
-module _ (look : ℕ → ℕ) (edition : ℕ) (w : Wanted) where
-  -- a fill of one character: before a sign, any. Alone, one that the arm of a cluster gets. "0" before a width
-  abbrev pub oneFits : ℕ → Bool
-  oneFits c = pick (isDefault (w .alignment)) (pick (eqb c zeroDigit) (isGiven (w .width)) (isBare w && not (isTaken c))) true
+-- a fill of one character: before a sign, any; "0" before a width; alone, one that the arm of a cluster gets
+abbrev pub oneFits : Wanted → ℕ → Bool
+oneFits w c = pick (isDefault (w .alignment)) (pick (eqb c zeroDigit) (isGiven (w .width)) (isBare w && not (isTaken c))) true
 
+module _ (look : ℕ → ℕ) (edition : ℕ) (w : Wanted) where
   -- a fill of the characters c, d and those of cs: the arm of a cluster gets it, and it is the first cluster of what is written
   abbrev pub manyFits : ℕ → ℕ → List ℕ → Bool
   manyFits c d cs =
@@ -130,7 +133,7 @@ module _ (look : ℕ → ℕ) (edition : ℕ) (w : Wanted) where
 
   abbrev pub charsFit : List ℕ → Bool
   charsFit [] = false
-  charsFit (c ∷ []) = oneFits c
+  charsFit (c ∷ []) = oneFits w c
   charsFit (c ∷ d ∷ cs) = manyFits c d cs
 
   abbrev pub fillFits : Filled → Bool

@@ -5,4 +5,3 @@ pub mod TailLaws
 pub mod StartLaws
 pub mod BackLaws
 pub mod WriteLaws
-pub mod ApartLaws

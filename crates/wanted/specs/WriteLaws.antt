@@ -51,7 +51,7 @@ use Rattle.asked.specs.FieldsLaws.{Small, fields-small, HasNumbers, has-numbers
 use Rattle.asked.specs.declared.Fields.{Fields}
 use Rattle.wanted.specs.Wanted.{Filled, Bytes, Unfilled, Asked, ReadsBack, First, NoSuch, NotAfter, equal, smaller, Before, shorter, level}
 use Rattle.wanted.specs.Candidate.{Wanted, wantedBy, wantedFor, letterPart, precisionPart, widthPart, signPart, tailFor, candidate}
-use Rattle.wanted.specs.Candidate.{isGiven, isShown, isDefault, isTaken, charsFit, fillFits, writable, canWrite}
+use Rattle.wanted.specs.Candidate.{isGiven, isShown, isDefault, hasTail, isTaken, charsFit, fillFits, writable, canWrite}
 use Rattle.wanted.specs.TailLaws.{and-no, turn, arm-start, arm-alignment}
 use Rattle.wanted.specs.SmallLaws.{parse-small}
 use Rattle.wanted.specs.StartLaws.{wantedOf, ReadsAs, one-low, tail-low, letter-low, own-chars, Sign, sign-is, least}
@@ -347,7 +347,7 @@ module _ (look : ℕ → ℕ) (edition : ℕ) where
         (many-arm c d (ds ++ b ∷ tailFor w g x) (not-is _ (and-left (not (isTaken c || (eqb c dot || isSign d))) _ e))) n h
 
   -- alone
-  lone-chars : (w g : OptionalNumber) (x : Shown) (c : ℕ) (cs : List ℕ) → not (isGiven w || (isGiven g || isShown x)) ≡ true → Scalars (c ∷ cs)
+  lone-chars : (w g : OptionalNumber) (x : Shown) (c : ℕ) (cs : List ℕ) → not (hasTail w g x) ≡ true → Scalars (c ∷ cs)
       → armOf c (peeked cs) start ≡ arm.FillCluster → firstSize look edition (c ∷ cs) ≡ length (c ∷ cs) → Back align.Default w g x (Bytes (encodeAll (c ∷ cs)))
   lone-chars (Number n) g x c cs e sc a s h = absurd (let z : _≡_ {A = ℕ} 0 1 = cc in omega arith)
   lone-chars Nothing (Number n) x c cs e sc a s h = absurd (let z : _≡_ {A = ℕ} 0 1 = cc in omega arith)
@@ -367,7 +367,7 @@ module _ (look : ℕ → ℕ) (edition : ℕ) where
   one-size c = refl
 
   default-one : (w g : OptionalNumber) (x : Shown) → Small w → Small g → (c : ℕ) → Scalar c
-      → pick (eqb c zeroDigit) (isGiven w) (not (isGiven w || (isGiven g || isShown x)) && not (isTaken c)) ≡ true
+      → pick (eqb c zeroDigit) (isGiven w) (not (hasTail w g x) && not (isTaken c)) ≡ true
       → Back align.Default w g x (Bytes (encodeAll (c ∷ [])))
   default-one w g x sw sg c sc e = go (eqb c zeroDigit) refl
     where
@@ -377,9 +377,9 @@ module _ (look : ℕ → ℕ) (edition : ℕ) where
           let q : zeroDigit ∷ [] ≡ encodeAll (c ∷ []) = sym (one-low zeroDigit (omega arith)) ∙ ap (λ (y : ℕ). encodeAll (y ∷ [])) (sym (eqb-true c zeroDigit t)) in
           subst (λ (f : List ℕ). Back align.Default w g x (Bytes f)) q (zero-back look edition w g x sw sg (n .0) (n .1))
       go false t =
-          let y : (not (isGiven w || (isGiven g || isShown x)) && not (isTaken c)) ≡ true = rw t at e in
-          lone-chars w g x c [] (and-left (not (isGiven w || (isGiven g || isShown x))) _ y) (sc, tt)
-          (one-arm c (not-is _ (and-right (not (isGiven w || (isGiven g || isShown x))) _ y))) (one-size c)
+          let y : (not (hasTail w g x) && not (isTaken c)) ≡ true = rw t at e in
+          lone-chars w g x c [] (and-left (not (hasTail w g x)) _ y) (sc, tt)
+          (one-arm c (not-is _ (and-right (not (hasTail w g x)) _ y))) (one-size c)
 
   default-chars : (w g : OptionalNumber) (x : Shown) → Small w → Small g → (fs : List ℕ) → Scalars fs
       → charsFit look edition (askedFor align.Default w g x (Bytes (encodeAll fs))) fs ≡ true → Back align.Default w g x (Bytes (encodeAll fs))
