@@ -1,6 +1,6 @@
 -- For the code, which has the fill alone: whether the fill before a sign is still one cluster.
 --     plain-joins     a plain character is joined to Prepend, and to nothing else (GB9b)
---     apart-by        fs is the first cluster of fs and a sign exactly if fs is one cluster and does not end in Prepend
+--     apart-by        fs is the first cluster of fs and a sign exactly if fs is one cluster and the sign is not joined to its last character
 -- Assumes nothing.
 use Prim.Native.Nat.{ℕ, zero, suc, _+_, _<_, _≤_}
 use native.Mathlib.Omega.{arith}
@@ -18,13 +18,10 @@ use Rattle.property.specs.Parts.{classOf, isPict, incbOf, prepend}
 use Rattle.uax29.specs.Uax29.{isControl, gb3, gb6, gb7, gb8, gb9, pairRule, gb9c, gb11, gb12, endsPictZwj, endsOdd, endsLinked, onOpen, joined}
 use Rattle.cluster.specs.First.{goOn, firstSize}
 use Rattle.cluster.specs.FirstLaws.{plain, first-within}
+use Rattle.format_options.specs.Letters.{less}
 use Rattle.wanted.specs.TailLaws.{and-no}
 use Rattle.wanted.specs.StartLaws.{goes-prefix}
-
--- the last of c and cs
-abbrev pub lastOf : ℕ → List ℕ → ℕ
-lastOf c [] = c
-lastOf c (d ∷ ds) = lastOf d ds
+use Rattle.fill_fits.specs.Apart.{lastOf, joinsSign}
 
 -- the second of two tests that do not both hold, told by an answer of three cases
 second-of : {X : Type 0} (f : X → Bool) (joins breaks opens : X) (t u : Bool) → (t ≡ true → u ≡ true → ⊥) → f joins ≡ true → f breaks ≡ false → f opens ≡ false
@@ -70,9 +67,9 @@ module _ (edition : ℕ) where
             rw t (omega (arith, ih (omega arith)))
         go false t ih = absurd (let i : 0 ≡ suc (length ds) = rw t at h in omega arith)
 
-    pub apart-by : (c : ℕ) (cs : List ℕ) → eqb (firstSize look edition ((c ∷ cs) ++ g ∷ [])) (length (c ∷ cs))
+    by-prepend : (c : ℕ) (cs : List ℕ) → eqb (firstSize look edition ((c ∷ cs) ++ g ∷ [])) (length (c ∷ cs))
         ≡ (eqb (firstSize look edition (c ∷ cs)) (length (c ∷ cs)) && not (eqb (classOf (look (lastOf c cs))) prepend))
-    apart-by c cs = split-eq n (length cs) whole (λ q. ne-eqb (suc m) (suc (length cs)) (λ x. q (part (omega arith))) ∙ sym (rw (ne-eqb (suc n) (suc (length cs)) (λ x. q (omega arith)))))
+    by-prepend c cs = split-eq n (length cs) whole (λ q. ne-eqb (suc m) (suc (length cs)) (λ x. q (part (omega arith))) ∙ sym (rw (ne-eqb (suc n) (suc (length cs)) (λ x. q (omega arith)))))
       where
         n : ℕ
         n = goOn look edition (look c ∷ []) cs
@@ -97,3 +94,11 @@ module _ (edition : ℕ) where
 
         whole : n ≡ length cs → eqb (suc m) (suc (length cs)) ≡ (eqb (suc n) (suc (length cs)) && not (eqb (classOf (look (lastOf c cs))) prepend))
         whole q = rw (eq-eqb (suc n) (suc (length cs)) (omega arith)) (by-last q (eqb (classOf (look (lastOf c cs))) prepend) refl)
+
+    pub apart-by : look less ≡ plain → (c : ℕ) (cs : List ℕ) → eqb (firstSize look edition ((c ∷ cs) ++ g ∷ [])) (length (c ∷ cs))
+        ≡ (eqb (firstSize look edition (c ∷ cs)) (length (c ∷ cs)) && not (joinsSign look edition (c ∷ cs)))
+    apart-by f c cs =
+        let last = look (lastOf c cs) in
+        let same : eqb (classOf last) prepend ≡ joinsSign look edition (c ∷ cs) =
+        sym (plain-joins (last ∷ [])) ∙ ap (λ (p : ℕ). joined edition (last ∷ []) p) (sym f) in
+        by-prepend c cs ∙ ap (λ (t : Bool). eqb (firstSize look edition (c ∷ cs)) (length (c ∷ cs)) && not t) same

@@ -90,7 +90,6 @@ fn one_fits(c: u32, fields: Fields) -> bool
 
 // The last character of a fill, or 0 where there is none.
 fn last_code(fill: &[u8]) -> u32
-    requires { ⌜ WellFormed (now fill) ⌝ }
     ensures { λ r. ⌜ r ≡ lastOf 0 (chars (now (fill .entry))) ⌝ }
 {
     let mut at = 0;
@@ -106,7 +105,7 @@ fn last_code(fill: &[u8]) -> u32
 
 // Whether a sign behind the fill would be joined to it: of what stands before a sign, the rules ask the last character alone (GB9b).
 fn joins_sign(fill: &[u8], table: &[u32], edition: u32) -> bool
-    requires { ⌜ WellFormed (now fill) × Rises (now table) ⌝ }
+    requires { ⌜ Rises (now table) ⌝ }
     ensures { λ r. ⌜ r ≡ joinsSign (propertiesAt (now (table .entry))) edition (chars (now (fill .entry))) ⌝ }
 {
     let last = property::lookup(table, last_code(fill));

@@ -111,7 +111,7 @@ tail-low g h x =
     both-low (widthPart g) (precisionPart h ++ letterPart x) (width-low g) (both-low (precisionPart h) (letterPart x) (precision-low h) (shown-low x))
 
 -- there are no more characters than bytes
-many-bytes : (cs : List ℕ) → length cs ≤ length (encodeAll cs)
+pub many-bytes : (cs : List ℕ) → length cs ≤ length (encodeAll cs)
 unfolding encodeAll
 many-bytes [] = omega arith
 many-bytes (c ∷ cs) = omega (arith, many-bytes cs, encode-some c, length-append (encode c) (encodeAll cs))

@@ -54,7 +54,7 @@ pub and-no : (b : Bool) → (b && false) ≡ false
 and-no true = refl
 and-no false = refl
 
-and-yes : (b : Bool) → (b && true) ≡ b
+pub and-yes : (b : Bool) → (b && true) ≡ b
 and-yes true = refl
 and-yes false = refl
 
