@@ -1,0 +1,3 @@
+pub mod Apart
+pub mod ApartLaws
+pub mod FitsLaws

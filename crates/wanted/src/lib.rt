@@ -1,0 +1,1 @@
+// Which format string is written for options (document 02, C-10).
