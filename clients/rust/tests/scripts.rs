@@ -124,11 +124,11 @@ fn the_site_profile() {
         ("r'x'", 0, 3),
         ("x = r##\"\"##", 4, 7),
         ("'{r'x'}'", 2, 7),
-        ("'{\"{x}\"}'", 3, 8),
-        ("'{\"a{x}\"}'", 4, 9),
-        ("'{ {a: \"{", 9, 10),
+        ("'{\"{x}\"}'", 3, 9),
+        ("'{\"a{x}\"}'", 4, 10),
+        ("'{ {a: \"{", 8, 9),
         ("'{\"{", 3, 4),
-        ("'{x}{'y'}{\"{z}\"}'", 11, 16),
+        ("'{x}{'y'}{\"{z}\"}'", 11, 17),
     ] {
         let (profiled, scanned) = by_profile(source.as_bytes());
         assert_eq!(profiled, Profiled::NotInProfile { count, index }, "{source}");
