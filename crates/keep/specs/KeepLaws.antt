@@ -2,7 +2,7 @@
 --     keeps-of, kept-of     k + 1 records are kept exactly where `Keeps` says so of k
 --     keeps-within          no more than there are
 --     last-is               the last of them, part by part
---     kept-step, kept-stop  for the loop that asks: one record more, and none more
+--     link-forward          a record that links does not end before it starts
 -- Assumes nothing.
 use Prim.Native.Nat.{ℕ, zero, suc, _+_, _-_, _%_, _≤_, _<_}
 use native.Mathlib.Omega.{arith}
@@ -65,7 +65,7 @@ module _ (t : List ℕ) (line : ℕ) (list : List ℕ) where
       split-lt j i (p j) (λ le. let m : i ≡ j = omega arith in subst (λ (x : ℕ). (links list x ≡ true) × (rowAt list x .end < line)) m (e, h))
 
   from-keeps : (left i k : ℕ) → Passed i → keptFrom t line list left i ≡ suc k → Keeps t line list (i + left) k
-  from-keeps zero i k p e = absurd (omega arith)
+  from-keeps zero i k p = λ e. absurd (omega arith)
   from-keeps (suc left) i k p =
       by-test (λ (n : ℕ). n ≡ suc k → Keeps t line list (i + suc left) k) (links list i)
       (λ ok. by-lt (λ (n : ℕ). n ≡ suc k → Keeps t line list (i + suc left) k) (rowAt list i .end) line
