@@ -1,6 +1,7 @@
 -- What callers use of an edit and of a line's start.
 --     lengths-of                  what the test of the lengths says
 --     edit-of, fits-of            the test is exactly that the edit leads from s to t
+--     edit-inside                 an edit's place is one of the new source
 --     same-start                  both sources begin with the same bytes, up to any place at or before the edit's
 --     line-within, line-newline   a line starts at or before the place, and behind a "\n" if not at 0
 --     line-last                   there is no "\n" between
@@ -91,6 +92,10 @@ module _ (s : List ℕ) (m : Edit) (t : List ℕ) where
       same-run s (p + r) t (p + q) n
       (λ k h. sym (getD-drop (p + r) s k 0) ∙ ap (λ (l : List ℕ). getD l k 0) (e .behind) ∙ getD-drop (p + q) t k 0) in
       rw (le-leb (p + r) (length s) (e .inside), eq-eqb (length t + r) (length s + q) (e .long), first, second)
+
+  -- it stands in the new source too
+  pub edit-inside : Edits s m t → p ≤ length t
+  edit-inside e = omega (arith, e .inside, e .long)
 
   -- the bytes up to a place at or before the edit's
   pub same-start : Edits s m t → (n : ℕ) → n ≤ p → take n s ≡ take n t

@@ -72,7 +72,13 @@ pub fn edit_fits(old: &[u8], edit: Edit, new: &[u8]) -> bool
         return false;
     }
     let behind = edit.place + edit.removed;
-    same_run(old, behind, new, edit.place + edit.put_in, old.len() - behind)
+    same_run(
+        old,
+        behind,
+        new,
+        edit.place + edit.put_in,
+        old.len() - behind,
+    )
 }
 
 // Where the line begins that has the byte at this place or ends before it: behind the last "\n" before the place, or at 0.

@@ -1,7 +1,7 @@
 -- What callers use of the records that are kept.
 --     keeps-of, kept-of     k + 1 records are kept exactly where `Keeps` says so of k
 --     keeps-within          no more than there are
---     last-is               the last of them, part by part
+--     last-is, over-some    the last of them, part by part; it has bytes
 --     link-forward          a record that links does not end before it starts
 -- Assumes nothing.
 use Prim.Native.Nat.{ℕ, zero, suc, _+_, _-_, _%_, _≤_, _<_}
@@ -13,7 +13,7 @@ use mathlib.Core.List.{List}
 use lib.Dec.{eqb, leb, ltb}
 use borrow.Author.Tests.{leb-true, eqb-true, lt-ltb, le-ltb}
 use Rattle.base.specs.Pick.{pick}
-use Rattle.base.specs.PickLaws.{by-test, by-lt, split-lt}
+use Rattle.base.specs.PickLaws.{by-test, by-lt, by-eq, split-lt}
 use Rattle.token.specs.Kind.{newLine}
 use Rattle.rows.specs.Row.{rowAt, firstAt}
 use Rattle.rows.specs.declared.Row.{Row}
@@ -44,6 +44,12 @@ last-is t line first r e =
       lines = leb-true (r .«end_line») (r .end) (d .0);
       over = d .1;
     }
+
+-- a record over a newline has bytes
+pub over-some : (t : List ℕ) (r : Row) → overNewline t r ≡ true → r .start < r .end
+over-some t r =
+    by-eq (λ (b : Bool). b ≡ true → r .start < r .end) (r .end) (r .start + 1) (λ h e. omega arith)
+    (λ h e. let n : r .end ≡ r .start + 2 = eqb-true (r .end) (r .start + 2) (and-eq-true-iff (eqb (r .end) (r .start + 2)) _ .0 e .0) in omega arith)
 
 -- a record that links does not end before it starts
 pub link-forward : (list : List ℕ) (i : ℕ) → links list i ≡ true → rowAt list i .start ≤ rowAt list i .end
