@@ -1,6 +1,7 @@
 -- C-7: what the list of a scan is, refused by 4 or 5 or not: where it has a record, nothing was refused before the work, and its records are
 -- the reading's first.
 --     old-list     of a list with a record
+--     old-words    it has the words of its records
 --     old-kept     so the first of them begin the reading
 -- Assumes nothing.
 use Prim.Native.Nat.{ℕ, zero, suc, _+_, _≤_, _<_}
@@ -83,28 +84,46 @@ module _ (s table : List ℕ) (edition n : ℕ) where
       go (input.Refused x) e k = absurd (omega arith)
 
 module _ (s table : List ℕ) (edition : ℕ) (old list : List ℕ) (r : Scanned) (d : Row) where
-  pub old-list : Scans s table edition old r list → 0 < countOf r → OldList s table edition list (countOf r)
+  -- the records that were written
+  abbrev rows : List Row
+  rows = take (room old) (readingOf s table edition .rows)
+
+  -- how many they are, and that the list has their words, from which they are read back
+  record Written : Type 0 where
+    readable : Readable sourceMost s table edition
+    count : countOf r ≡ length rows
+    words : list ≡ putRows old rows
+    back : rowsOf (countOf r) list ≡ rows
+
+  are-written : Scans s table edition old r list → 0 < countOf r → Written
   unfolding written
-  old-list p h =
+  are-written p h =
       let n = room old in
       let q = readingOf s table edition in
       let b = unrefused s table edition n (subst (λ (x : Scanned). 0 < countOf x) (p .answer) h) in
-      let w : written s table edition n ≡ take n (q .rows) =
-      ap (λ (x : Scanned). writtenBy x (take n (q .rows))) (b .by-room) ∙ all-written n q (take n (q .rows)) in
-      let c : countOf r ≡ length (take n (q .rows)) = ap countOf (p .answer ∙ b .by-room) ∙ counted n q in
-      let l : list ≡ putRows old (take n (q .rows)) = p .words ∙ ap (putRows old) w in
+      let w : written s table edition n ≡ rows = ap (λ (x : Scanned). writtenBy x rows) (b .by-room) ∙ all-written n q rows in
+      let c : countOf r ≡ length rows = ap countOf (p .answer ∙ b .by-room) ∙ counted n q in
+      let l : list ≡ putRows old rows = p .words ∙ ap (putRows old) w in
       let ok = start-ok s (b .readable .short) (b .readable .well) in
-      let shown : (i : ℕ) → i < length (take n (q .rows)) → rowFits (getD (take n (q .rows)) i d) ≡ true =
+      let shown : (i : ℕ) → i < length rows → rowFits (getD rows i d) ≡ true =
       λ i k. ap rowFits (getD-take n (q .rows) i d (omega (arith, length-take n (q .rows))))
       ∙ reading-shown s table edition (fit-of table (b .readable .fit)) startState ok i d (omega (arith, length-take n (q .rows))) in
-      let back : rowsOf (length (take n (q .rows))) (putRows old (take n (q .rows))) ≡ take n (q .rows) =
-      rows-back old (take n (q .rows)) d (λ i k. fits-packs (getD (take n (q .rows)) i d) (shown i k)) in
+      let back : rowsOf (length rows) (putRows old rows) ≡ rows =
+      rows-back old rows d (λ i k. fits-packs (getD rows i d) (shown i k)) in
+      record { readable = b .readable; count = c; words = l; back = (λ i. rowsOf (c i) (l i)) ∙ back }
+
+  pub old-list : Scans s table edition old r list → 0 < countOf r → OldList s table edition list (countOf r)
+  old-list p h =
+      let w = are-written p h in
+      let q = readingOf s table edition in
       record {
-        readable = b .readable;
-        rows = (λ i. rowsOf (c i) (l i))
-            ∙ back
-            ∙ sym (ap (λ (k : ℕ). take k (q .rows)) c ∙ take-counted n (q .rows));
+        readable = w .readable;
+        rows = w .back ∙ sym (ap (λ (k : ℕ). take k (q .rows)) (w .count) ∙ take-counted (room old) (q .rows));
       }
+
+  -- the list has the words of its records, and then what was there before
+  pub old-words : Scans s table edition old r list → 0 < countOf r → list ≡ putRows old (rowsOf (countOf r) list)
+  old-words p h = let w = are-written p h in w .words ∙ ap (putRows old) (sym (w .back))
 
 -- the first of them begin the reading
 pub old-kept : {s table : List ℕ} {edition : ℕ} {list : List ℕ} {count : ℕ} → OldList s table edition list count → (k : ℕ) → k ≤ count

@@ -2,9 +2,9 @@
 -- after the other from the start of a list. Nothing outside this crate knows a record's numbers: it knows `Row`, and these names.
 -- Assumes nothing.
 use mathlib.Core.Bool.{Bool}
-use mathlib.Core.List.{List, [], _∷_}
+use mathlib.Core.List.{List, [], _∷_, _++_}
 use Prim.Native.Nat.{ℕ, zero, suc, _+_, _*_}
-use lib.ListN.{getD, drop}
+use lib.ListN.{getD, take, drop}
 use Rattle.rows.specs.First.{firstOf, kindIn, detailIn, depthIn, aboveIn, fitsBelow, shownBelow}
 use Rattle.rows.specs.Store.{roomFor, putAt, wordsAll, putAll, putFrom}
 use Rattle.rows.specs.declared.Row.{Row}
@@ -55,6 +55,10 @@ firstRow list = rowFrom list 0
 unfoldable pub rowAt : List ℕ → ℕ → Row
 rowAt list i = rowFrom list (rowWords * i)
 
+-- the first number of record i
+abbrev pub firstAt : List ℕ → ℕ → ℕ
+firstAt list i = getD list (rowWords * i) 0
+
 -- a list in which record i is this one; every other number stays
 unfoldable pub putRow : List ℕ → ℕ → Row → List ℕ
 putRow list i row = putAt rowWords list i (wordsOf row)
@@ -73,6 +77,10 @@ putRows = putAll rowWords wordsOf
 unfoldable pub putRowsAt : List ℕ → ℕ → List Row → List ℕ
 putRowsAt = putFrom rowWords wordsOf
 
+-- a list that starts with the first n records of another, word for word; every number after them stays
+unfoldable pub copyRows : ℕ → List ℕ → List ℕ → List ℕ
+copyRows n from to = take (rowWords * n) from ++ drop (rowWords * n) to
+
 -- the first so many records of a list
 unfoldable pub rowsOf : ℕ → List ℕ → List Row
 rowsOf zero list = []
@@ -82,7 +90,7 @@ rowsOf (suc n) list = firstRow list ∷ rowsOf n (drop rowWords list)
 
 -- what stands above the depth in the first number of record i
 abbrev pub aboveAt : List ℕ → ℕ → ℕ
-aboveAt list i = aboveIn (getD list (rowWords * i) 0)
+aboveAt list i = aboveIn (firstAt list i)
 
 -- record i of a list may be shown: it has nothing above its depth, and it fits (else: refusal 9)
 unfoldable pub fitsAt : List ℕ → ℕ → Bool

@@ -10,6 +10,8 @@
 --     rows-at                           each of many is read back
 --     rows-of-length, rows-of-at        the records of a list, one by one
 --     rows-back                         those that were put
+--     copy-none, copy-length, copy-room, copy-put    records of one list put into another: none of them, what is left of the list, and those
+--                                                    that were put into the first
 --     shown-fit, shown-unfit            what is shown at an index, by the test
 --     rows-shown                        a record that was put and may be shown is shown
 -- Assumes nothing.
@@ -20,13 +22,13 @@ use Prim.Native.Nat.{ℕ, zero, suc, _+_, _*_, _/_, _≤_, _<_}
 use native.Mathlib.Nat.{add-zero}
 use native.Mathlib.Omega.{arith}
 use lib.Dec.{lit<}
-use lib.ListN.{length, getD, drop}
-use lib.Seq.{getD-drop, ext-getD, sets}
+use lib.ListN.{length, getD, take, drop, length-append, length-drop}
+use lib.Seq.{length-take-le, getD-drop, ext-getD, sets}
 use Rattle.rows.specs.First.{firstOf, Packs, kindIn, detailIn, depthIn, aboveIn, rowFits, fitsBelow}
 use Rattle.rows.specs.FirstLaws.{kind-back, detail-back, depth-back, above-back, nothing-above, fits-packs, fits-first, below-fit, below-unfit}
 use Rattle.rows.specs.Store.{wordsAll}
 use Rattle.rows.specs.StoreLaws as store
-use Rattle.rows.specs.Row.{rowWords, room, wordsOf, rowFrom, firstRow, rowAt, putRow, putRows, putRowsAt, rowsOf, aboveAt, fitsAt, shownAt}
+use Rattle.rows.specs.Row.{rowWords, room, wordsOf, rowFrom, firstRow, rowAt, putRow, putRows, putRowsAt, copyRows, rowsOf, aboveAt, fitsAt, shownAt}
 use Rattle.rows.specs.declared.Row.{Row}
 use Rattle.rows.specs.declared.RowAt.the-variants.{Fit, Unfit}
 
@@ -152,6 +154,27 @@ rows-back l rows d p =
     let n : length (rowsOf (length rows) (putRows l rows)) ≡ length rows = rows-of-length (length rows) (putRows l rows) in
     ext-getD d (rowsOf (length rows) (putRows l rows)) rows n
     (λ i h. let lt : i < length rows = omega arith in rows-of-at (length rows) (putRows l rows) i d lt ∙ rows-at l rows i d lt (p i lt))
+
+-- ---- records of another list
+
+pub copy-none : (from to : List ℕ) → copyRows 0 from to ≡ to
+unfolding copyRows
+copy-none from to = refl
+
+module _ (n : ℕ) (from to : List ℕ) (h : n ≤ room from) (k : n ≤ room to) where
+  pub copy-length : length (copyRows n from to) ≡ length to
+  unfolding copyRows
+  copy-length = simp (length-append, length-drop) (omega (arith, length-take-le (rowWords * n) from (omega arith)))
+
+  pub copy-room : room (copyRows n from to) ≡ room to
+  copy-room = same-room (copyRows n from to) to copy-length
+
+-- those that were put there are put here
+pub copy-put : (n : ℕ) (l : List ℕ) (rows : List Row) (to : List ℕ) → n ≤ length rows → copyRows n (putRows l rows) to ≡ putRows to (take n rows)
+unfolding copyRows putRows
+copy-put n l rows to h =
+    let e : length (take n rows) ≡ n = length-take-le n rows h in
+    store.copy-all rowWords wordsOf eight n l rows to h ∙ ap (λ (m : ℕ). wordsAll wordsOf (take n rows) ++ drop (rowWords * m) to) (sym e)
 
 -- ---- what may be shown
 

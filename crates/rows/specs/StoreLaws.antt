@@ -8,6 +8,7 @@
 --     all-length, all-room, all-rest    what putting many leaves of the list
 --     all-there                         what then stands from the place of each on
 --     one-by-one                        putting many one by one, from the first on
+--     copy-all                          the first of many that were put, put into another list with their numbers
 -- Assumes nothing.
 use mathlib.Core.Path.{_≡_, refl, sym, ap, subst, _∙_}
 use mathlib.Core.List.{List, [], _∷_, _++_, append-assoc, append-nil}
@@ -15,7 +16,7 @@ use Prim.Native.Nat.{ℕ, zero, suc, _+_, _*_, _-_, _/_, _≤_, _<_}
 use native.Mathlib.Nat.{mul-zero, mul-suc, mul-comm, add-mul, one-mul, mul-le-mul-left, mul-div-le, div-eq-of-lt-le}
 use native.Mathlib.Omega.{arith}
 use lib.ListN.{length, getD, take, drop, length-append, length-drop, List·getD-append}
-use lib.Seq.{length-take-le, drop-cons, drop-nil, drop-append-add, drop-append-le, take-at, drop-at, drop-drop, getD-drop, getD-take, sets, sets-eq}
+use lib.Seq.{length-take-le, drop-cons, take-nil, drop-nil, take-append-add, drop-append-add, take-append-le, drop-append-le, take-at, drop-at, drop-drop, getD-drop, getD-take, sets, sets-eq}
 use Rattle.base.specs.PickLaws.{split-lt}
 use Rattle.rows.specs.Store.{roomFor, putAt, wordsAll, putAll, putFrom}
 
@@ -144,6 +145,23 @@ module _ {A : Type 0} (w : ℕ) (words : A → List ℕ) (long : (r : A) → len
       ap (λ (n : ℕ). drop n (words r ++ wordsAll words rows)) e
       ∙ drop-append-add (words r) (wordsAll words rows) (w * i)
       ∙ drop-words rows i
+
+  take-words : (rows : List A) (n : ℕ) → take (w * n) (wordsAll words rows) ≡ wordsAll words (take n rows)
+  take-words rows zero = ap (λ (m : ℕ). take m (wordsAll words rows)) (mul-zero w)
+  take-words [] (suc n) = take-nil (w * suc n)
+  take-words (r ∷ rows) (suc n) =
+      let e : w * suc n ≡ length (words r) + w * n = omega (arith, mul-suc w n, long r) in
+      ap (λ (m : ℕ). take m (words r ++ wordsAll words rows)) e
+      ∙ take-append-add (words r) (wordsAll words rows) (w * n)
+      ∙ ap (λ (l : List ℕ). words r ++ l) (take-words rows n)
+
+  -- the first n of many that were put into l, put into another list
+  pub copy-all : (n : ℕ) (l : List ℕ) (rows : List A) (to : List ℕ) → n ≤ length rows
+      → take (w * n) (putAll w words l rows) ++ drop (w * n) to ≡ wordsAll words (take n rows) ++ drop (w * n) to
+  copy-all n l rows to h =
+      ap (λ (m : List ℕ). m ++ drop (w * n) to)
+      (take-append-le (w * n) (wordsAll words rows) (drop (w * length rows) l) (omega (arith, words-length rows, mul-le-mul-left w h))
+      ∙ take-words rows n)
 
   -- what stands from the place of record i on: its numbers, those of the records after it, and the rest
   pub all-there : (l : List ℕ) (rows : List A) (i : ℕ) (d : A) → i < length rows

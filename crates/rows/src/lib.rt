@@ -5,7 +5,7 @@
 ghost use mathlib.Core.Path.{_≡_};
 ghost use Prim.Native.Nat.{_*_, _<_};
 ghost use Rattle.rows.specs.First.{Packs};
-ghost use Rattle.rows.specs.Row.{rowWords, room, putRow, rowFrom, shownAt};
+ghost use Rattle.rows.specs.Row.{rowWords, room, putRow, rowFrom, firstAt, shownAt};
 use crate::first::ABOVE_UNIT;
 use crate::first::DEPTH_ROOM;
 use crate::first::DEPTH_UNIT;
@@ -14,6 +14,7 @@ use crate::first::KIND_ROOM;
 use crate::first::first_of;
 use crate::first::shown_below;
 
+pub mod copy;
 pub mod first;
 
 // How many numbers a record has.
@@ -68,8 +69,16 @@ pub fn put_row(list: &mut [u32], i: usize, row: Row)
     list[at + 7] = row.indent;
 }
 
+// The first number of record i.
+pub fn first_at(list: &[u32], i: usize) -> u32
+    requires { ⌜ i < room (now list) ⌝ }
+    ensures { λ r. ⌜ r ≡ firstAt (now (list .entry)) i ⌝ }
+{
+    list[ROW_WORDS * i]
+}
+
 // Record i as its numbers say, fit or not.
-fn read_row(list: &[u32], i: usize) -> Row
+pub fn read_row(list: &[u32], i: usize) -> Row
     requires { ⌜ i < room (now list) ⌝ }
     ensures { λ r. ⌜ r ≡ rowFrom (now (list .entry)) (rowWords * i) ⌝ }
 {

@@ -1,0 +1,2 @@
+pub mod Rescan
+pub mod RescanLaws
