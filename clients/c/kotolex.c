@@ -40,9 +40,10 @@ static const char HELP[] =
     "usage: kotolex FILE [--table FILE] [--edition N]\n"
     "       kotolex FILE --pad WIDTH [--align default|left|center|right] [--fill CLUSTER] [--table FILE] [--edition N]\n"
     "\n"
-    "Lists the tokens of a Koto script of at most 1,048,576 bytes, one on a line, by nine numbers: kind, detail, the bytes where it starts\n"
-    "and ends, the line and column where it starts, those where it ends, the indent of its line. Last comes how the scan ended: end or\n"
-    "stuck with the count of tokens and the current byte, or refused with the refusal's number and place.\n"
+    "Lists the tokens of a Koto script of at most 1,048,576 bytes, one on a line, by ten numbers: kind, detail, the bytes where it starts\n"
+    "and ends, the line and column where it starts, those where it ends, the indent of its line, and how many modes of strings and\n"
+    "templates are open before it. Last comes how the scan ended: end or stuck with the count of tokens and the current byte, or refused\n"
+    "with the refusal's number and place.\n"
     "\n"
     "With --pad it prints each line of the file padded to so many clusters, the line's own and the fills, and stops with refused at the first\n"
     "line that is refused; the place is one of that line, or of the fill.\n"
@@ -198,8 +199,9 @@ static int read_table(const char *path, words *to) {
 }
 
 static void print_record(const koto_record *r) {
-    printf("%u %u %u %u %u %u %u %u %u\n", (unsigned)r->kind, (unsigned)r->detail, (unsigned)r->start, (unsigned)r->end,
-           (unsigned)r->start_line, (unsigned)r->start_column, (unsigned)r->end_line, (unsigned)r->end_column, (unsigned)r->indent);
+    printf("%u %u %u %u %u %u %u %u %u %u\n", (unsigned)r->kind, (unsigned)r->detail, (unsigned)r->start, (unsigned)r->end,
+           (unsigned)r->start_line, (unsigned)r->start_column, (unsigned)r->end_line, (unsigned)r->end_column, (unsigned)r->indent,
+           (unsigned)r->depth);
 }
 
 /* Prints the records of a list. It is walked as one that ends, whatever the scan's status is, so that each record comes once. */

@@ -62,12 +62,19 @@ fn word(dice: &mut Dice, i: usize) -> u32 {
     if i % 8 != 0 {
         return dice.below(1000) as u32;
     }
-    match dice.below(8) {
-        0 => 7 + 128 * dice.below(600) as u32,
-        1 => dice.below(100_000) as u32,
-        2 => 75 + dice.below(10) as u32,
-        _ => dice.below(81) as u32,
-    }
+    let depth = match dice.below(8) {
+        0 => 60 + dice.below(10),
+        1 => 1 << dice.below(12),
+        2 => dice.below(4096),
+        _ => dice.below(65),
+    };
+    let below = match dice.below(8) {
+        0 => 7 + 128 * dice.below(600),
+        1 => dice.below(100_000),
+        2 => 75 + dice.below(10),
+        _ => dice.below(81),
+    };
+    (below + (depth << 20)) as u32
 }
 
 fn some_cursor(dice: &mut Dice, room: usize) -> Cursor {
@@ -101,11 +108,11 @@ fn place(c: Cursor, n: usize) -> Option<usize> {
     if c.status == 1 { Some(i.min(c.count - 1)) } else { (i < c.count).then_some(i) }
 }
 
-/// The record at an index, if a scan could have written it
+/// The record at an index, if a scan could have written it. The depth is all that stands above bit 19
 fn record(list: &[u32], i: usize) -> Option<Record> {
     let words = &list[8 * i..8 * i + 8];
-    let (kind, detail) = (words[0] % 128, words[0] / 128);
-    let is_fit = kind <= 80 && (detail == 0 || kind == 7 && detail <= 3 + 2 * 255);
+    let (kind, detail, depth) = (words[0] & 0x7F, words[0] >> 7 & 0x1FFF, words[0] >> 20);
+    let is_fit = kind <= 80 && (detail == 0 || kind == 7 && detail <= 3 + 2 * 255) && depth <= 64;
     is_fit.then_some(Record {
         kind,
         detail,
@@ -116,6 +123,7 @@ fn record(list: &[u32], i: usize) -> Option<Record> {
         end_line: words[5],
         end_column: words[6],
         indent: words[7],
+        depth,
     })
 }
 

@@ -27,7 +27,7 @@ pub fn compare(run: &mut Run, dice: &mut Dice, count: usize) {
         done[2] += one(run, dice, &source);
     }
     while done.iter().sum::<usize>() < count {
-        let source = match dice.below(5) {
+        let source = match dice.below(10) {
             0 => run.kinds.text(dice, 200).into_bytes(),
             1 => [
                 b"x = '".as_slice(),
@@ -37,7 +37,8 @@ pub fn compare(run: &mut Run, dice: &mut Dice, count: usize) {
                 b"}'",
             ]
             .concat(),
-            _ => scripts::script(dice),
+            2..4 => scripts::script(dice),
+            _ => scripts::nested(dice),
         };
         done[3] += one(run, dice, &source);
         let source = damaged(dice, &source);
@@ -78,8 +79,8 @@ pub fn by_host(run: &mut Run, dice: &mut Dice, source: &[u8], host: &Host) -> (V
 
 fn put(list: &mut [u32], records: &[answers::Record]) {
     for (words, record) in list.chunks_exact_mut(8).zip(records) {
-        words[0] = record[0] + 128 * record[1];
-        words[1..].copy_from_slice(&record[2..]);
+        words[0] = record[0] | record[1] << 7 | record[9] << 20;
+        words[1..].copy_from_slice(&record[2..9]);
     }
 }
 
@@ -92,6 +93,9 @@ fn scan(run: &mut Run, source: &[u8], room: usize, host: &Host, dice: &mut Dice)
         Err((number, place)) => (number, (2, 0, place)),
         Ok(text) => {
             let scan = (host.judge.scan)(text, room / 8);
+            if host.name == hosts::NEWER.name {
+                run.tally.deepest(scan.records.iter().map(|record| record[9]).max());
+            }
             put(&mut list, &scan.records);
             match scan.status {
                 Status::End => (0, (0, scan.records.len(), scan.place)),
@@ -115,8 +119,8 @@ fn scan(run: &mut Run, source: &[u8], room: usize, host: &Host, dice: &mut Dice)
 }
 
 fn record_of(record: answers::Record) -> Record {
-    let [kind, detail, start, end, start_line, start_column, end_line, end_column, indent] = record;
-    Record { kind, detail, start, end, start_line, start_column, end_line, end_column, indent }
+    let [kind, detail, start, end, start_line, start_column, end_line, end_column, indent, depth] = record;
+    Record { kind, detail, start, end, start_line, start_column, end_line, end_column, indent, depth }
 }
 
 /// A place to look at is one that may be queued, `queued` being what is queued at most, or a little further; a look ahead now and then goes so

@@ -152,6 +152,44 @@ pub fn script(dice: &mut Dice) -> Vec<u8> {
     text.into_bytes()
 }
 
+/// Modes in modes, down to a depth of 66 and most often less: templates, maps in their code, and beside them raw strings and format options. Most of
+/// them are closed again.
+pub fn nested(dice: &mut Dice) -> Vec<u8> {
+    let (mut text, mut open, mut depth) = (String::new(), vec![], 0);
+    let deepest = dice.below(67);
+    while depth < deepest {
+        match dice.below(8) {
+            // Within a map a brace opens no other.
+            0 | 1 if open.last().is_some_and(|close| *close != "}") => {
+                text.push_str("{a: ");
+                open.push("}");
+                depth += 1;
+            }
+            2 => text.push_str(&(raw_string(dice) + " ")),
+            3 => text.push_str(&(expression(dice, 1) + one_of(dice, &[" ", ", ", "\n"]))),
+            _ => {
+                let quote = quote(dice);
+                text.push_str(quote);
+                text.push_str(if dice.below(3) == 0 { one_of(dice, &LITERALS) } else { "" });
+                text.push('{');
+                open.push(if quote == "'" { "}'" } else { "}\"" });
+                depth += 2;
+            }
+        }
+    }
+    text.push_str(&expression(dice, 1));
+    let stays_open = if dice.below(4) == 0 { dice.below(open.len() + 1) } else { 0 };
+    while open.len() > stays_open {
+        let close = open.pop().expect("more are open");
+        if close != "}" && dice.below(3) == 0 {
+            text.push(':');
+            text.push_str(one_of(dice, &FORMATS));
+        }
+        text.push_str(close);
+    }
+    text.into_bytes()
+}
+
 /// Every string up to a length over some letters, each after the same beginning
 fn every(before: &str, letters: &[&str], longest: usize) -> Vec<Vec<u8>> {
     let mut all = vec![before.as_bytes().to_vec()];

@@ -20,11 +20,19 @@ const WANTED: [(&str, &[u32]); 11] = [
 
 const SHOWN_MOST: usize = 10;
 
+/// Each depth up to this must have been the greatest of some source
+const DEPTH_MOST: u32 = 64;
+
+/// In the code of a template that stands in another there are so many modes
+const NESTED: u32 = 4;
+
 #[derive(Default)]
 pub struct Tally {
     answers: BTreeMap<(&'static str, u32), u64>,
     /// How many of what were judged by whom
     judged: BTreeMap<(&'static str, &'static str), u64>,
+    /// How many sources were scanned whose deepest record has this depth
+    depths: BTreeMap<u32, u64>,
     seen: HashSet<u64>,
     differences: usize,
 }
@@ -39,6 +47,13 @@ impl Tally {
 
     pub fn count(&mut self, what: &'static str, host: &'static str) {
         *self.judged.entry((what, host)).or_default() += 1;
+    }
+
+    /// Notes the depth of a source's deepest record, if it has one.
+    pub fn deepest(&mut self, depth: Option<u32>) {
+        if let Some(depth) = depth {
+            *self.depths.entry(depth).or_default() += 1;
+        }
     }
 
     /// Notes a call's answer, and whether all of it is as wanted.
@@ -86,6 +101,11 @@ impl Tally {
         for ((what, host), count) in &self.judged {
             println!("{what}, {host}: {count}");
         }
+        let depths: Vec<String> = self.depths.iter().map(|(depth, count)| format!("{depth}: {count}")).collect();
+        println!("sources by the depth of their deepest record: {}", depths.join(", "));
+        let nested: u64 = self.depths.range(NESTED..).map(|(_, count)| count).sum();
+        println!("sources with a template in a template, or deeper: {nested}");
+        fine &= (0..=DEPTH_MOST).all(|depth| self.depths.contains_key(&depth));
         let calls: u64 = self.answers.values().sum();
         println!("{calls} calls, {}", if fine { "no difference" } else { "DIFFERENT" });
         fine

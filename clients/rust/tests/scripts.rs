@@ -57,8 +57,34 @@ fn a_record_has_its_lines_columns_and_indent() {
         end_line: 1,
         end_column: 5,
         indent: 2,
+        depth: 0,
     };
     assert_eq!(next(&list, &mut cursor), Given::Token(wanted));
+}
+
+#[test]
+fn a_record_has_the_depth_before_its_token() {
+    let source = b"'a{ {b: \"{c:>3}\"} }' r'x'";
+    let mut list = vec![0; room_for(source.len())];
+    let mut cursor = scan(source, &full_table(), WITH, &mut list).cursor().unwrap();
+    let (mut kinds, mut depths) = (vec![], vec![]);
+    while let Given::Token(record) = next(&list, &mut cursor) {
+        kinds.push(record.kind);
+        depths.push(record.depth);
+    }
+    assert_eq!(kinds, [7, 9, 20, 1, 20, 6, 11, 1, 7, 20, 6, 11, 9, 21, 8, 21, 1, 21, 8, 1, 7, 9, 8]);
+    assert_eq!(depths, [0, 1, 1, 2, 2, 3, 3, 3, 3, 4, 5, 5, 6, 5, 4, 3, 2, 2, 1, 0, 0, 1, 1]);
+}
+
+#[test]
+fn a_record_with_another_depth_is_refused() {
+    for (above_the_detail, is_shown) in [(64, true), (65, false), (255, false), (1 << 8, false), (1 << 11, false)] {
+        let list = [6 + (above_the_detail << 20), 0, 1, 0, 0, 0, 1, 0];
+        let mut cursor = Cursor { taken: 0, queued: 0, count: 1, status: Status::End };
+        let given = next(&list, &mut cursor);
+        assert_eq!(matches!(given, Given::Token(Record { kind: 6, depth: 64, .. })), is_shown);
+        assert_eq!(given == Given::BadRecord(0), !is_shown);
+    }
 }
 
 #[test]
