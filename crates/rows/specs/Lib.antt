@@ -4,3 +4,4 @@ pub mod Row
 pub mod FirstLaws
 pub mod StoreLaws
 pub mod RowLaws
+pub mod HeldLaws

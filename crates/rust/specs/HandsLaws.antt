@@ -40,7 +40,7 @@ use Rattle.lexer.specs.declared.What.the-variants as what
 use Rattle.reading.specs.Reading.{Reading, rowOf, onto, stuckReading, stopped, afterStep, readFrom, reading}
 use Rattle.reading.specs.Reading as stop
 use Rattle.reading.specs.ReadingLaws.{reading-step}
-use Rattle.reading.specs.GoingLaws.{row-same}
+use Rattle.reading.specs.HeadLaws.{row-same}
 use Rattle.cursor.specs.Cursor.{recordAt}
 use Rattle.cursor.specs.CursorLaws.{record-at}
 use Rattle.cursor.specs.declared.Status.the-variants.{End, Stuck}

@@ -1,13 +1,13 @@
 -- `scan::read_on` meets its contract: the loop's head is `Going`, and each way out and each turn is a law of it. Assumes nothing.
 use native.Mathlib.Omega.{arith}
-use mathlib.Core.Path.{_≡_, sym, ap, _∙_}
+use mathlib.Core.Path.{ap, _∙_}
 use borrow.Author.Needs.{needs}
 use Rattle.state.specs.State.{stateOf}
 use Rattle.lexer.specs.StepLaws.{fits-codes}
 use Rattle.stepping.specs.Invariant.{measure}
 use Rattle.lexer.specs.declared.Half.{Half}
-use Rattle.lexer.specs.declared.What.{What}
-use Rattle.reading.specs.GoingLaws.{Going, begins, from-start, at-end, at-modes, at-full, at-stuck, keeps-is, changes-is, made, low, bounds, packs, falls, again}
+use Rattle.reading.specs.HeadLaws.{found-by, keeps-is, changes-is, made, low, bounds, packs, falls}
+use Rattle.reading.specs.GoingLaws.{Going, begins, from-start, at-end, at-modes, at-full, at-stuck, again}
 use Rattle.scan.proofs.read_on.Statement.{statement}
 use Rattle.scan.proofs.read_on.Tie as tie
 
@@ -17,10 +17,6 @@ Inv-loop source table edition list₀ first lexer₀ codes₀ count₀ list lexe
 
 abbrev μ-loop : tie.MeasureT-loop
 μ-loop source table edition list₀ first lexer₀ codes₀ count₀ list lexer codes count = measure source (stateOf lexer codes)
-
--- what the half found, by what the call answered
-told : {h k : Half} {w : What} → h ≡ k → h .what ≡ w → k .what ≡ w
-told e q = ap (λ (x : Half). x .what) (sym e) ∙ q
 
 -- ---- places: the function's start, the token that was found, that its record has room, and that it is made
 
@@ -47,7 +43,7 @@ loop-holds c =
     begins _ _ _ _ _ _ (p .0) (p .1) (p .2)
 
 read-half-requires : tie.Need-read-half-requires Inv-loop μ-loop
-read-half-requires c κs = (c .loop .inv .ok .fine, c .loop .inv .fit)
+read-half-requires c κs = (c .loop .inv .head .ok .fine, c .loop .inv .head .fit)
 
 enum-known-what : tie.Need-enum-known-what Inv-loop μ-loop
 enum-known-what c = search needs
@@ -65,13 +61,13 @@ returns c =
     let t = c .before .before .before .before in
     let h = at-half t in
     let head = h .before in
-    at-full (from-start (start head .pre .0 .agrees) (head .loop .inv)) _ (told (h .read-half .ensures) (t .what .given .1))
+    at-full (from-start (start head .pre .0 .agrees) (head .loop .inv)) _ (found-by (h .before .loop .inv .head) (h .read-half .ensures) (t .what .given .1))
     (omega (arith, c .if1 .taken, c .before .room .ensures))
 
 row-of-requires : tie.Need-row-of-requires Inv-loop μ-loop
 row-of-requires c κs =
     let h = at-half (at-token (c .before)) in
-    (rw (h .read-half .ensures) (bounds (h .before .loop .inv)), low (h .before .loop .inv))
+    (rw (h .read-half .ensures) (bounds (h .before .loop .inv .head)), low (h .before .loop .inv .head))
 
 put-row-requires : tie.Need-put-row-requires Inv-loop μ-loop
 put-row-requires c κs =
@@ -79,7 +75,7 @@ put-row-requires c κs =
     let t = at-token r in
     let h = at-half t in (
       omega (arith, r .if1 .left, r .before .room .ensures),
-      packs (h .before .loop .inv) _ (told (h .read-half .ensures) (t .what .given .1)) (made (h .before .loop .inv) _ (h .read-half .ensures) (c .row-of .ensures)),
+      packs (h .before .loop .inv .head) _ (found-by (h .before .loop .inv .head) (h .read-half .ensures) (t .what .given .1)) (made (h .before .loop .inv .head) _ (h .read-half .ensures) (c .row-of .ensures)),
     )
 
 add-count : tie.Need-add-count Inv-loop μ-loop
@@ -94,8 +90,8 @@ loop-less : tie.Need-loop-less Inv-loop μ-loop
 loop-less c =
     let t = at-token (with-room (at-row (c .before .before))) in
     let h = at-half t in
-    falls (h .before .loop .inv) _ (told (h .read-half .ensures) (t .what .given .1))
-    (keeps-is (h .before .loop .inv) (h .read-half .ensures) (c .enum-told .given .1))
+    falls (h .before .loop .inv .head) _ (found-by (h .before .loop .inv .head) (h .read-half .ensures) (t .what .given .1))
+    (keeps-is (h .before .loop .inv .head) (h .read-half .ensures) (c .enum-told .given .1))
 
 loop-again : tie.Need-loop-again Inv-loop μ-loop
 loop-again c =
@@ -103,21 +99,21 @@ loop-again c =
     let r = with-room row in
     let t = at-token r in
     let h = at-half t in
-    again (h .before .loop .inv) _ (told (h .read-half .ensures) (t .what .given .1)) (omega (arith, r .if1 .left, r .before .room .ensures))
-    (made (h .before .loop .inv) _ (h .read-half .ensures) (row .row-of .ensures)) (c .before .before .before .before .put-row .ensures)
-    (keeps-is (h .before .loop .inv) (h .read-half .ensures) (c .enum-told .given .1))
+    again (h .before .loop .inv) _ (found-by (h .before .loop .inv .head) (h .read-half .ensures) (t .what .given .1)) (omega (arith, r .if1 .left, r .before .room .ensures))
+    (made (h .before .loop .inv .head) _ (h .read-half .ensures) (row .row-of .ensures)) (c .before .before .before .before .put-row .ensures)
+    (keeps-is (h .before .loop .inv .head) (h .read-half .ensures) (c .enum-told .given .1))
 
 apply-requires : tie.Need-apply-requires Inv-loop μ-loop
 apply-requires c κs =
     let h = at-half (at-token (with-room (at-row (c .before .before)))) in
-    fits-codes _ _ _ _ (h .before .loop .inv .ok .agrees) (h .read-half .ensures)
+    fits-codes _ _ _ _ (h .before .loop .inv .head .ok .agrees) (h .read-half .ensures)
 
 loop-less-2 : tie.Need-loop-less-2 Inv-loop μ-loop
 loop-less-2 c =
     let t = at-token (with-room (at-row (c .before .before .before))) in
     let h = at-half t in
-    falls (h .before .loop .inv) _ (told (h .read-half .ensures) (t .what .given .1))
-    (changes-is (h .before .loop .inv) (h .read-half .ensures) (c .apply .ensures))
+    falls (h .before .loop .inv .head) _ (found-by (h .before .loop .inv .head) (h .read-half .ensures) (t .what .given .1))
+    (changes-is (h .before .loop .inv .head) (h .read-half .ensures) (c .apply .ensures))
 
 loop-again-2 : tie.Need-loop-again-2 Inv-loop μ-loop
 loop-again-2 c =
@@ -125,9 +121,9 @@ loop-again-2 c =
     let r = with-room row in
     let t = at-token r in
     let h = at-half t in
-    again (h .before .loop .inv) _ (told (h .read-half .ensures) (t .what .given .1)) (omega (arith, r .if1 .left, r .before .room .ensures))
-    (made (h .before .loop .inv) _ (h .read-half .ensures) (row .row-of .ensures)) (c .before .before .before .before .before .put-row .ensures)
-    (changes-is (h .before .loop .inv) (h .read-half .ensures) (c .apply .ensures))
+    again (h .before .loop .inv) _ (found-by (h .before .loop .inv .head) (h .read-half .ensures) (t .what .given .1)) (omega (arith, r .if1 .left, r .before .room .ensures))
+    (made (h .before .loop .inv .head) _ (h .read-half .ensures) (row .row-of .ensures)) (c .before .before .before .before .before .put-row .ensures)
+    (changes-is (h .before .loop .inv .head) (h .read-half .ensures) (c .apply .ensures))
 
 -- ---- the other ways out
 
@@ -137,8 +133,8 @@ enum-told-2 c = search needs
 stuck-requires : tie.Need-stuck-requires Inv-loop μ-loop
 stuck-requires c κs =
     let h = c .before .before .before .before in
-    let b = bounds (h .before .loop .inv) in
-    (rw (h .read-half .ensures) (omega (arith, b .0, b .1), omega (arith, b .1)), (low (h .before .loop .inv), h .before .loop .inv .within))
+    let b = bounds (h .before .loop .inv .head) in
+    (rw (h .read-half .ensures) (omega (arith, b .0, b .1), omega (arith, b .1)), (low (h .before .loop .inv .head), h .before .loop .inv .within))
 
 same-length-2 : tie.Need-same-length-2 Inv-loop μ-loop
 same-length-2 c = c .before .before .stuck .kept .0 ∙ c .before .before .before .before .before .before .before .before .loop .inv .long
@@ -148,7 +144,7 @@ returns-2 c =
     let told-at = c .before .before .before .before in
     let h = told-at .before .before .before in
     let head = h .before in
-    at-stuck (from-start (start head .pre .0 .agrees) (head .loop .inv)) (told (h .read-half .ensures) (told-at .enum-told2 .given .1))
+    at-stuck (from-start (start head .pre .0 .agrees) (head .loop .inv)) (found-by (h .before .loop .inv .head) (h .read-half .ensures) (told-at .enum-told2 .given .1))
     (ap (λ (x : Half). x .lexer) (h .read-half .ensures)) (c .before .before .stuck .ensures)
 
 enum-told-3 : tie.Need-enum-told-3 Inv-loop μ-loop
@@ -168,7 +164,7 @@ returns-3 c =
     let told-at = c .before .before .before in
     let h = told-at .before .before .before in
     let head = h .before in
-    at-modes (from-start (start head .pre .0 .agrees) (head .loop .inv)) (told (h .read-half .ensures) (told-at .enum-told3 .given .1))
+    at-modes (from-start (start head .pre .0 .agrees) (head .loop .inv)) (found-by (h .before .loop .inv .head) (h .read-half .ensures) (told-at .enum-told3 .given .1))
     (c .before .room2 .ensures) (c .full .ensures)
 
 enum-told-4 : tie.Need-enum-told-4 Inv-loop μ-loop
@@ -181,7 +177,7 @@ returns-4 : tie.Need-returns-4 Inv-loop μ-loop
 returns-4 c =
     let h = c .before .before .before in
     let head = h .before in
-    at-end (from-start (start head .pre .0 .agrees) (head .loop .inv)) (told (h .read-half .ensures) (c .enum-told4 .given .1))
+    at-end (from-start (start head .pre .0 .agrees) (head .loop .inv)) (found-by (h .before .loop .inv .head) (h .read-half .ensures) (c .enum-told4 .given .1))
 
 pub read-on-spec : {M : Type 1} → statement M
 read-on-spec =

@@ -2,7 +2,8 @@
 use native.Mathlib.Omega.{arith}
 use borrow.Author.Needs.{needs}
 use Rattle.reading.specs.ScanLaws.{fills-full}
-use Rattle.reading.specs.GoingLaws.{error-packs, stuck-written}
+use Rattle.reading.specs.HeadLaws.{error-packs}
+use Rattle.reading.specs.GoingLaws.{stuck-written}
 use Rattle.scan.proofs.stuck.Statement.{statement}
 use Rattle.scan.proofs.stuck.Tie as tie
 
