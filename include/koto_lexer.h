@@ -46,7 +46,8 @@ extern "C" {
  *    5 MODES_FULL                  a token would push a 65th mode. Place: the current byte
  *    6 PEEK_TOO_FAR                n is over queued + 1
  *    7 QUEUE_FULL                  a token must be queued, and KOTO_QUEUE_MOST are
- *    8 BAD_STATE                   a cursor or a pool that is unfit, or desks that are (see koto_desk_add_string)
+ *    8 BAD_STATE                   a cursor or a pool that is unfit, desks that are (see koto_desk_add_string), or a list that is shorter
+ *                                  than its count
  *    9 BAD_RECORD                  a record that may not be shown: its kind is over 80, it may not have its detail, its depth is over 64, or
  *                                  bits 28 to 31 of its first word are not 0. Place: its index
  *   10 EXPECTED_NUMBER             a precision has no digit. Value: the code point that stands there
@@ -419,6 +420,24 @@ uint32_t koto_peek(const uint32_t *list, size_t list_len, size_t taken, size_t *
  */
 uint32_t koto_look_ahead(const uint32_t *list, size_t list_len, size_t taken, size_t *queued, size_t count, uint32_t status, size_t n,
                          uint32_t *shown, koto_record *record, size_t *place);
+
+/* Checks a list that another lexer made: whether it is what koto_scan leaves for this source. No list of one's own is needed.
+ *
+ * in       the source; a table; an edition; the other's list, its count of records, and its status, which may be any number
+ * out      same: 1, where the first list_count records of the list are those of the scan, all KOTO_RECORD_WORDS words of each, list_count is
+ *            the scan's count and list_status its status; else 0, and differs: the index of the first record that differs, or the smaller
+ *            of the two counts where only they or the status differ. Whatever stands behind list_count records is not looked at. place: 0
+ * refused  in this order, each with same 0 and differs 0
+ *          1 TOO_LONG. place: 0
+ *          17 BAD_EDITION. place: 0
+ *          2 BAD_TABLE, with its place
+ *          3 BAD_UTF8 or 15 CUT_UTF8, with its place
+ *          8 BAD_STATE: the list has no room for list_count records. place: 0
+ *          5 MODES_FULL, with its place, where a scan with room gets it, whatever the list has
+ */
+uint32_t koto_check_list(const uint8_t *source, size_t source_len, const uint32_t *table, size_t table_len, uint32_t edition,
+                         const uint32_t *list, size_t list_len, size_t list_count, uint32_t list_status, uint32_t *same,
+                         size_t *differs, size_t *place);
 
 /* Adds a string to a pool, or finds it there. Equal strings have equal indices, counted from 0 in the order of their first addition.
  *

@@ -5,7 +5,7 @@ mod inputs;
 mod stack;
 
 use clock::{Side, medians};
-use koto_lexer::{Alignment, Counts, Edition, Entry, Given, Padded, Padding, Parsed, Pool, Scanned};
+use koto_lexer::{Alignment, Checked, Counts, Edition, Entry, Given, Padded, Padding, Parsed, Pool, Scanned};
 use std::hint::black_box;
 
 const MEBIBYTE: usize = 1 << 20;
@@ -21,6 +21,7 @@ fn main() {
     scans(&table);
     growth(&table);
     checks(&table);
+    lists(&table);
     walks(&table);
     formats(&table);
     paddings(&table);
@@ -104,6 +105,29 @@ fn checks(table: &[u32]) {
         let rust = || usize::from(std::str::from_utf8(black_box(&source)).is_ok());
         let [ours, theirs] = medians([&mut || fine(), &mut || rust()], 2);
         println!("{name:<18} {:>10.0} {:>18.0}", source.len() as f64 / ours / 1e6, source.len() as f64 / theirs / 1e6);
+    }
+}
+
+/// Whether a list is the source's; here it always is, so that every record is compared to its last number.
+fn check(source: &[u8], table: &[u32], list: &[u32], of: koto_lexer::Cursor) -> usize {
+    let checked = koto_lexer::check_list(source, table, EDITION, list, of.count, of.status.number());
+    assert_eq!(checked, Checked::Same);
+    of.count
+}
+
+/// The check of the list that a scan wrote, beside the scan
+fn lists(table: &[u32]) {
+    println!("\ncheck of a list, 1 MiB   check    scan  ratio   (MB/s)");
+    for (kind, (name, _)) in inputs::KINDS.iter().enumerate() {
+        let source = inputs::input(kind, MEBIBYTE);
+        let mut list = vec![1; koto_lexer::room_for(source.len())];
+        let mut again = list.clone();
+        let cursor = koto_lexer::scan(&source, table, EDITION, &mut list).cursor().expect("a list");
+        let sides: [Side; 2] =
+            [&mut || check(&source, table, &list, cursor), &mut || scan(&source, table, &mut again)];
+        let [checked, scanned] = medians(sides, 1);
+        let speed = |seconds: f64| source.len() as f64 / seconds / 1e6;
+        println!("{name:<22} {:>7.1} {:>7.1} {:>6.2}", speed(checked), speed(scanned), scanned / checked);
     }
 }
 
@@ -275,6 +299,9 @@ fn stacks(table: &[u32]) {
         let source = inputs::input(kind, 1 << 16);
         let mut list = vec![0; koto_lexer::room_for(source.len())];
         println!("koto_scan, {name:<18} {:>6}", stack::used(&mut || black_box(scan(&source, table, &mut list))));
+        let cursor = koto_lexer::scan(&source, table, EDITION, &mut list).cursor().expect("a list");
+        let mut checks = || black_box(check(&source, table, &list, cursor));
+        println!("koto_check_list, {name:<12} {:>6}", stack::used(&mut checks));
     }
     let (mut row, mut entries) = (vec![0; 1 << 10], vec![Entry::default(); 1 << 7]);
     let mut parse = |format: &[u8]| {

@@ -1,7 +1,8 @@
-/* kotolex: lists the tokens of a Koto script, or pads its lines, by libkoto_lexer.a.
+/* kotolex: lists the tokens of a Koto script, checks a list of them, or pads its lines, by libkoto_lexer.a.
  *
  * It prints what the list program koto_list prints, for scripts of up to 1 MiB and with the full property table, and has an exit status of
- * its own for each kind of failure. With --pad it prints the lines of a file, each padded to a width.
+ * its own for each kind of failure. With --check it says whether a list that another lexer printed so is the script's. With --pad it prints the
+ * lines of a file, each padded to a width.
  */
 #include <stdbool.h>
 #include <stdint.h>
@@ -23,7 +24,9 @@ enum {
     TABLE_REFUSED = 5,
     NO_MEMORY = 6,
     NO_OUTPUT = 7,
-    STILL_ARRIVING = 8
+    STILL_ARRIVING = 8,
+    LIST_DIFFERS = 9,
+    NO_LIST = 10
 };
 
 /* The table's file, from the folder of the program. */
@@ -38,6 +41,7 @@ enum {
 
 static const char HELP[] =
     "usage: kotolex FILE [--profile] [--table FILE] [--edition N]\n"
+    "       kotolex FILE --check LIST [--table FILE] [--edition N]\n"
     "       kotolex FILE --pad WIDTH [--align default|left|center|right] [--fill CLUSTER] [--table FILE] [--edition N]\n"
     "\n"
     "Lists the tokens of a Koto script of at most 1,048,576 bytes, one on a line, by ten numbers: kind, detail, the bytes where it starts\n"
@@ -45,24 +49,30 @@ static const char HELP[] =
     "templates are open before it. Last comes how the scan ended: end or stuck with the count of tokens and the current byte, or refused\n"
     "with the refusal's number and place.\n"
     "\n"
+    "With --check it reads such a list, from whatever lexer, and says same where its tokens, its count and how it ended are the script's, or\n"
+    "differs with the index of the first token that differs: the smaller of the two counts where only they or the ends differ. The byte of the\n"
+    "last line is not compared. A list that was refused differs, and one that has fewer tokens than it counts is refused (8).\n"
+    "\n"
     "With --pad it prints each line of the file padded to so many clusters, the line's own and the fills, and stops with refused at the first\n"
     "line that is refused; the place is one of that line, or of the fill.\n"
     "\n"
     "  --profile      refuse raw strings and templates inside templates too: refused 21 and the index of the first such token, from 0\n"
     "  --table FILE   the property table; without it, " TABLE_FILE " beside the program\n"
     "  --edition N    the edition of Unicode's cluster rules: 1 as before Unicode 15.1, without GB9c; 2, with it, if none is given\n"
+    "  --check LIST   the other lexer's list, as this program prints it\n"
     "  --pad WIDTH    0 to 4294967295; a longer line is printed as it is\n"
     "  --align SIDE   where the line stands: left, which is the default, center, with the odd fill behind it, or right\n"
     "  --fill CLUSTER what it is padded with; without it, spaces\n"
     "  --help         this text\n"
     "\n"
-    "exit status: 0 end or stuck, or all lines padded, 1 refused, 2 bad usage, 3 the file can't be read, 4 the table can't be\n"
+    "exit status: 0 end or stuck, same, or all lines padded, 1 refused, 2 bad usage, 3 the file can't be read, 4 the table can't be\n"
     "             read, 5 the table's file was refused, 6 no memory, 7 the output can't be written, 8 the script's end cuts a\n"
-    "             character: it may still be arriving (refused 15)\n";
+    "             character: it may still be arriving (refused 15), 9 the list differs, 10 the list can't be read\n";
 
 typedef struct {
     const char *script;
     const char *table;
+    const char *list;
     /* Of --pad, each a word of the command line; NULL for none. */
     const char *width;
     const char *align;
@@ -89,8 +99,8 @@ static int fail(int status, const char *what, const char *name) {
 
 /* Where the word behind an option goes. NULL for a word that is no such option. */
 static const char **option_of(const char *word, options *to) {
-    static const char *const names[] = {"--table", "--pad", "--align", "--fill", "--edition"};
-    const char **const places[] = {&to->table, &to->width, &to->align, &to->fill, &to->edition};
+    static const char *const names[] = {"--table", "--check", "--pad", "--align", "--fill", "--edition"};
+    const char **const places[] = {&to->table, &to->list, &to->width, &to->align, &to->fill, &to->edition};
     for (size_t i = 0; i < sizeof names / sizeof names[0]; i++) {
         if (strcmp(word, names[i]) == 0) {
             return places[i];
@@ -109,8 +119,8 @@ static bool read_number(const char *word, uint64_t *to) {
     return true;
 }
 
-/* Reads an edition: whether there is such a one the library says. False for a word that is no number of 32 bits. */
-static bool read_edition(const char *word, uint32_t *to) {
+/* Reads a number of 32 bits. False for another word. */
+static bool read_number_32(const char *word, uint32_t *to) {
     uint64_t number;
     if (!read_number(word, &number) || UINT32_MAX < number) {
         return false;
@@ -139,7 +149,8 @@ static bool read_options(int argc, char **argv, options *to) {
             to->script = argv[i];
         }
     }
-    bool pads = to->width != NULL ? !to->profile : to->align == NULL && to->fill == NULL;
+    bool lists = to->list == NULL && !to->profile;
+    bool pads = to->width != NULL ? lists : to->align == NULL && to->fill == NULL && !(to->list != NULL && to->profile);
     return to->help || (to->script != NULL && pads);
 }
 
@@ -240,6 +251,118 @@ static int list_tokens(bytes script, words table, uint32_t edition, bool profile
     return FINE;
 }
 
+/* ---- checking a list ---- */
+
+/* A line has ten numbers of at most ten digits. */
+#define LINE_ROOM 256
+#define LINE_NUMBERS 10
+/* The first word of no record that a scan writes. */
+#define NO_RECORD UINT32_MAX
+
+/* Another lexer's list, with its count and its status. */
+typedef struct {
+    words records;
+    size_t count;
+    uint32_t status;
+} foreign;
+
+/* Splits a line into numbers of 32 bits. How many they are; 0 where a word is another or they are too many. */
+static size_t read_numbers(char *line, uint32_t *to) {
+    size_t n = 0;
+    for (char *word = strtok(line, " \n"); word != NULL; word = strtok(NULL, " \n")) {
+        if (n == LINE_NUMBERS || !read_number_32(word, &to[n])) {
+            return 0;
+        }
+        n++;
+    }
+    return n;
+}
+
+/* Puts a record behind those that were read: kind, detail, the seven numbers that stand in a list as they are, depth. */
+static bool put_record(const uint32_t *numbers, foreign *to, size_t *room) {
+    if (to->records.len == *room) {
+        size_t more = *room == 0 ? KOTO_RECORD_WORDS * 1024 : 2 * *room;
+        uint32_t *at = realloc(to->records.at, more * sizeof *at);
+        if (at == NULL) {
+            return false;
+        }
+        to->records.at = at;
+        *room = more;
+    }
+    /* Numbers that have no room beside each other would be read as others. */
+    bool fits = numbers[0] < 128 && numbers[1] < 8192 && numbers[9] < 256;
+    uint32_t *record = to->records.at + to->records.len;
+    record[0] = fits ? numbers[0] + 128 * numbers[1] + 1048576 * numbers[9] : NO_RECORD;
+    memcpy(record + 1, numbers + 2, (KOTO_RECORD_WORDS - 1) * sizeof *record);
+    to->records.len += KOTO_RECORD_WORDS;
+    return true;
+}
+
+/* Reads the last line: how the list ended. False for another line. */
+static bool read_end(char *line, foreign *to) {
+    static const char *const ends[] = {"end ", "stuck ", "refused "};
+    uint32_t numbers[LINE_NUMBERS];
+    for (uint32_t status = KOTO_END; status <= KOTO_REFUSED; status++) {
+        size_t len = strlen(ends[status]);
+        if (strncmp(line, ends[status], len) == 0) {
+            bool whole = read_numbers(line + len, numbers) == 2;
+            to->status = status;
+            to->count = status == KOTO_REFUSED ? to->records.len / KOTO_RECORD_WORDS : numbers[0];
+            return whole;
+        }
+    }
+    return false;
+}
+
+/* Reads the lines of a list. */
+static int read_lines(FILE *file, const char *path, foreign *to) {
+    char line[LINE_ROOM];
+    uint32_t numbers[LINE_NUMBERS];
+    size_t room = 0;
+    while (fgets(line, sizeof line, file) != NULL) {
+        if (strchr("0123456789", line[0]) == NULL) {
+            bool whole = read_end(line, to) && fgetc(file) == EOF;
+            return whole ? FINE : fail(NO_LIST, "no list as kotolex prints it", path);
+        }
+        /* A line that is longer than the room would be taken for two. */
+        if (strchr(line, '\n') == NULL || read_numbers(line, numbers) != LINE_NUMBERS) {
+            break;
+        }
+        if (!put_record(numbers, to, &room)) {
+            return fail(NO_MEMORY, "no memory for the list", path);
+        }
+    }
+    return fail(NO_LIST, "no list as kotolex prints it", path);
+}
+
+/* Checks the list of a file against the script. */
+static int check_list(bytes script, words table, uint32_t edition, const char *path) {
+    FILE *file = fopen(path, "rb");
+    if (file == NULL) {
+        return fail(NO_LIST, "can't open", path);
+    }
+    foreign list = {{NULL, 0}, 0, KOTO_REFUSED};
+    int status = read_lines(file, path, &list);
+    fclose(file);
+    if (status == FINE) {
+        uint32_t none = 0, same;
+        size_t differs, place;
+        const uint32_t *records = list.records.at == NULL ? &none : list.records.at;
+        uint32_t refused = koto_check_list(script.at, script.len, table.at, table.len, edition, records, list.records.len, list.count,
+                                           list.status, &same, &differs, &place);
+        if (refused != 0) {
+            status = print_refused(refused, place, refused == KOTO_CUT_UTF8 ? STILL_ARRIVING : SCAN_REFUSED);
+        } else if (same == 1) {
+            puts("same");
+        } else {
+            printf("differs %zu\n", differs);
+            status = LIST_DIFFERS;
+        }
+    }
+    free(list.records.at);
+    return status;
+}
+
 /* ---- padding ---- */
 
 typedef struct {
@@ -319,8 +442,14 @@ static int run(const options *asked, uint32_t edition, const char *program) {
     if (status == FINE) {
         status = read_table(asked->table != NULL ? asked->table : beside, &table);
     }
-    if (status == FINE) {
-        status = asked->width != NULL ? pad_lines(script, table, edition, &by) : list_tokens(script, table, edition, asked->profile);
+    if (status != FINE) {
+        /* told already */
+    } else if (asked->width != NULL) {
+        status = pad_lines(script, table, edition, &by);
+    } else if (asked->list != NULL) {
+        status = check_list(script, table, edition, asked->list);
+    } else {
+        status = list_tokens(script, table, edition, asked->profile);
     }
     free(script.at);
     free(table.at);
@@ -328,10 +457,10 @@ static int run(const options *asked, uint32_t edition, const char *program) {
 }
 
 int main(int argc, char **argv) {
-    options asked = {NULL, NULL, NULL, NULL, NULL, NULL, false, false};
+    options asked = {NULL, NULL, NULL, NULL, NULL, NULL, NULL, false, false};
     uint32_t edition = KOTO_WITH_GB9C;
     int status = FINE;
-    if (!read_options(argc, argv, &asked) || (asked.edition != NULL && !read_edition(asked.edition, &edition))) {
+    if (!read_options(argc, argv, &asked) || (asked.edition != NULL && !read_number_32(asked.edition, &edition))) {
         fputs(HELP, stderr);
         return BAD_USAGE;
     }

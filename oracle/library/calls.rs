@@ -158,6 +158,29 @@ impl Library {
         Said { number, answer, whole: said.is_whole(&[0]) && self.texts_whole() && self.list.is_whole() }
     }
 
+    /// same, differs, place
+    pub fn check_list(&self, which: Table, edition: u32, count: usize, status: u32) -> Said<(u32, usize, usize)> {
+        let (source, table, list, mut said) = (self.source.get(), self.table(which), self.list.get(), Answers::new());
+        let number = unsafe {
+            raw::koto_check_list(
+                source.as_ptr(),
+                source.len(),
+                table.as_ptr(),
+                table.len(),
+                edition,
+                list.as_ptr(),
+                list.len(),
+                count,
+                status,
+                said.narrow(0),
+                said.size(1),
+                said.size(2),
+            )
+        };
+        let answer = (said.as_narrow(0), said.as_size(1), said.as_size(2));
+        Said { number, answer, whole: said.is_whole(&[0]) && self.texts_whole() && self.list.is_whole() }
+    }
+
     /// shown, the record, place, and the cursor after it
     pub fn next(&mut self, cursor: Cursor) -> Said<(u32, Record, usize, Cursor)> {
         let (list, mut said) = (self.list.get(), Answers::new());

@@ -5,6 +5,7 @@ mod conjuncts;
 mod cursors;
 mod cuts;
 mod damage;
+mod foreign;
 mod formats;
 mod hosts;
 #[allow(dead_code)]

@@ -4,7 +4,7 @@ use crate::calls::{Cursor, SOURCE_MOST, Said};
 use crate::damage::damaged;
 use crate::hosts::{self, Host};
 use crate::rich::Dice;
-use crate::{Run, scripts};
+use crate::{Run, foreign, scripts};
 use answers::{Call, Shown, Status, text_of};
 use koto_lexer::raw::Record;
 
@@ -74,10 +74,13 @@ pub fn by_host(run: &mut Run, dice: &mut Dice, source: &[u8], host: &Host) -> (V
     };
     run.tally.count("sources", host.name);
     let list = scan(run, source, room, host, dice);
+    if source.len() < 10_000 || dice.below(4) == 0 {
+        foreign::one(run, dice, source, host);
+    }
     (list, first_cluster(run, source, host))
 }
 
-fn put(list: &mut [u32], records: &[answers::Record]) {
+pub fn put(list: &mut [u32], records: &[answers::Record]) {
     for (words, record) in list.chunks_exact_mut(8).zip(records) {
         words[0] = record[0] | record[1] << 7 | record[9] << 20;
         words[1..].copy_from_slice(&record[2..9]);

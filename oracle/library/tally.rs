@@ -12,11 +12,23 @@ const WANTED: [(&str, &[u32]); 12] = [
     ("first_cluster", &[0, 1, 2, 3, 15, 17]),
     ("scan", &[0, 1, 2, 3, 4, 5, 15, 17]),
     ("scan_profile", &[0, 1, 2, 3, 4, 5, 15, 17, 21]),
+    ("check_list", &[0, 1, 2, 3, 5, 8, 15, 17]),
     ("next", &[0, 8, 9]),
     ("peek", &[0, 6, 7, 8, 9]),
     ("look_ahead", &[0, 7, 8, 9]),
     ("add_string", &[0, 3, 8, 13, 15]),
     ("parse", &[0, 1, 2, 3, 8, 10, 11, 12, 13, 15, 17]),
+];
+
+/// The lists that must have been checked at least once, beside those that are refused before the work
+const LISTS: [&str; 7] = [
+    "the source's own",
+    "with a record that differs",
+    "of another length alone",
+    "with another status alone",
+    "shorter than their count",
+    "5 after a difference",
+    "5 and no difference before it",
 ];
 
 const SHOWN_MOST: usize = 10;
@@ -106,6 +118,7 @@ impl Tally {
         println!("sources by the depth of their deepest record: {}", depths.join(", "));
         let nested: u64 = self.depths.range(NESTED..).map(|(_, count)| count).sum();
         println!("sources with a template in a template, or deeper: {nested}");
+        fine &= LISTS.iter().all(|kind| self.judged.contains_key(&("lists", *kind)));
         fine &= (0..=DEPTH_MOST).all(|depth| self.depths.contains_key(&depth));
         let calls: u64 = self.answers.values().sum();
         println!("{calls} calls, {}", if fine { "no difference" } else { "DIFFERENT" });

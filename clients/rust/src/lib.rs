@@ -3,6 +3,7 @@
 //! Every function takes every input. What is lent is written as docs/PROMISES.md says; a refusal before the work writes nothing.
 
 mod desks;
+mod foreign;
 mod formats;
 mod lists;
 mod padding;
@@ -10,6 +11,7 @@ pub mod raw;
 mod texts;
 
 pub use desks::{desk_add_string, desk_parse, SharedPool, Which};
+pub use foreign::{check_list, Checked};
 pub use formats::{add_string, parse, Added, Alignment, Fill, Options, Parsed, Pool, Representation};
 pub use lists::{
     look_ahead, next, peek, room_for, scan, scan_profile, Cursor, Given, Peeked, Profiled, Scanned, Status, RECORD_WORDS,

@@ -169,7 +169,8 @@ impl Scanned {
 }
 
 impl Status {
-    fn number(self) -> u32 {
+    /// The number that a cursor carries, and that [`crate::check_list`] takes
+    pub fn number(self) -> u32 {
         match self {
             Status::End => raw::END,
             Status::Stuck => raw::STUCK,

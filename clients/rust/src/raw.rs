@@ -233,6 +233,20 @@ extern "C" {
         options: *mut Options,
         value: *mut u64,
     ) -> u32;
+    pub fn koto_check_list(
+        source: *const u8,
+        source_len: usize,
+        table: *const u32,
+        table_len: usize,
+        edition: u32,
+        list: *const u32,
+        list_len: usize,
+        list_count: usize,
+        list_status: u32,
+        same: *mut u32,
+        differs: *mut usize,
+        place: *mut usize,
+    ) -> u32;
     pub fn koto_pad(
         text: *const u8,
         text_len: usize,

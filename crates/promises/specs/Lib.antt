@@ -10,6 +10,7 @@ pub mod WrongScans
 pub mod Pool
 pub mod Lookahead
 pub mod Look
+pub mod Foreign
 pub mod Parse
 pub mod Pad
 pub mod Profile
@@ -25,6 +26,7 @@ pub mod WrongScansLaws
 pub mod PoolLaws
 pub mod LookaheadLaws
 pub mod LookLaws
+pub mod ForeignLaws
 pub mod ParseLaws
 pub mod PadLaws
 pub mod ProfileLaws

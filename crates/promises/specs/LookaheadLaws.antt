@@ -1,6 +1,7 @@
 -- The promises of `Lookahead`, proved, and that no second answer fits.
 --     next-promise, next-has-one-answer
 --     peek-promise, peek-has-one-answer
+--     ended-hands, stuck-hands    over a list that starts with the records of a source
 --     after-a-scan    after an unrefused scan 8 and 9 are never given, the definition's tokens are handed out, and the Rust says the same:
 --                     its `KotoLexer` over its own stream of the source
 -- Assumes nothing.
@@ -317,15 +318,22 @@ module _ (source table : List ℕ) (edition : ℕ) (old new : List ℕ) where
       (subst (HandsOut (putRows old rows) rows stream) (sym begin)
       (hands-out old rows status (omega (arith, w .counted, w .has-room)) (whole-shown source table edition (room old) n stop w) some stream same))
 
+  -- to its end, and until it stood still
+  pub ended-hands : (n : ℕ) (c : Cursor) → ReadWhole source table edition (room old) n ended → new ≡ putRows old (readingOf source table edition .rows)
+      → c ≡ startCursor n End → HandsOut new (readingOf source table edition .rows) stream c
+  ended-hands n c w p e =
+      from-whole n ended End c w p e (λ s. absurd (let z : _≡_ {A = ℕ} 0 1 = cc in omega arith))
+      (stream-promise source table edition (w .readable) .at-end (w .stops))
+
+  pub stuck-hands : (n : ℕ) (c : Cursor) → ReadWhole source table edition (room old) n stuck → new ≡ putRows old (readingOf source table edition .rows)
+      → c ≡ startCursor n Stuck → HandsOut new (readingOf source table edition .rows) stream c
+  stuck-hands n c w p e =
+      from-whole n stuck Stuck c w p e (λ s. refl) (stream-promise source table edition (w .readable) .at-stuck (w .stops))
+
   pub after-a-scan : (r : Scanned) → Scans source table edition old r new → (c : Cursor) → BeginsAt r c
       → HandsOut new (readingOf source table edition .rows) stream c
-  after-a-scan (scanned.End n b) p c e =
-      let w = end-whole source table edition old new n b p in
-      from-whole n ended End c (w .0) (w .1) e (λ s. absurd (let z : _≡_ {A = ℕ} 0 1 = cc in omega arith))
-      (stream-promise source table edition (w .0 .readable) .at-end (w .0 .stops))
-  after-a-scan (scanned.Stuck n b) p c e =
-      let w = stuck-whole source table edition old new n b p in
-      from-whole n stuck Stuck c (w .0) (w .1) e (λ s. refl) (stream-promise source table edition (w .0 .readable) .at-stuck (w .0 .stops))
+  after-a-scan (scanned.End n b) p c e = let w = end-whole source table edition old new n b p in ended-hands n c (w .0) (w .1) e
+  after-a-scan (scanned.Stuck n b) p c e = let w = stuck-whole source table edition old new n b p in stuck-hands n c (w .0) (w .1) e
   after-a-scan (scanned.Refused x) p c e = absurd e
   after-a-scan (scanned.ListFull n b) p c e = absurd e
   after-a-scan (scanned.ModesFull n b) p c e = absurd e
