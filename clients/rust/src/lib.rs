@@ -9,7 +9,7 @@ mod padding;
 pub mod raw;
 mod texts;
 
-pub use desks::{desk_add_string, desk_parse, SharedPool, Which};
+pub use desks::{compact, desk_add_string, desk_parse, Compaction, SharedPool, Which, GONE};
 pub use formats::{add_string, parse, Added, Alignment, Fill, Options, Parsed, Pool, Representation};
 pub use lists::{look_ahead, next, peek, room_for, scan, Cursor, Given, Peeked, Scanned, Status, RECORD_WORDS};
 pub use padding::{pad, Padded, Padding};

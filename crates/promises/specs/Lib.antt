@@ -28,3 +28,5 @@ pub mod PadLaws
 pub mod LentLaws
 pub mod Desks
 pub mod DesksLaws
+pub mod Compaction
+pub mod CompactionLaws
