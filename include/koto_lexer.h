@@ -61,6 +61,7 @@ extern "C" {
  *   17 BAD_EDITION                 a number that is no edition of the cluster rules
  *   18 NO_SUCH_FORMAT              options that no format string has
  *   19 NO_ROOM                     a buffer that is shorter than the result
+ *   20 BAD_MARK                    a mark that is no index of a pool, or a translation row shorter than its count of entries
  *   21 NOT_IN_PROFILE              a source with a token that the site profile forbids. Place: the index of the first such record
  */
 
@@ -83,6 +84,7 @@ extern "C" {
 #define KOTO_BAD_EDITION 17u
 #define KOTO_NO_SUCH_FORMAT 18u
 #define KOTO_NO_ROOM 19u
+#define KOTO_BAD_MARK 20u
 #define KOTO_NOT_IN_PROFILE 21u
 
 /* ---- How a scan ends: the status, which a cursor over its list carries ----
@@ -224,6 +226,9 @@ extern "C" {
 #define KOTO_DESK_FIRST 0u
 #define KOTO_DESK_SECOND 1u
 
+/* What koto_compact says of an index that is no more. No entry has this index. */
+#define KOTO_GONE UINT32_MAX
+
 /* ---- Structs ---- */
 
 /* A token of a scan, as koto_next, koto_peek and koto_look_ahead show it: its kind and detail, its bytes from start to before end, its span (lines
@@ -289,6 +294,10 @@ uint32_t koto_desk_parse_flat(uint32_t desk, const uint8_t *format, size_t forma
                               uint32_t edition, uint8_t *bytes, size_t bytes_len, uint32_t *entries, size_t entries_len,
                               uint8_t *owners, size_t owners_len, koto_counts *counts, koto_desks *desks, koto_options *options,
                               uint64_t *value);
+
+uint32_t koto_compact_flat(const uint32_t *first, size_t first_len, const uint32_t *second, size_t second_len, uint8_t *bytes,
+                           size_t bytes_len, uint32_t *entries, size_t entries_len, uint8_t *owners, size_t owners_len,
+                           koto_counts *counts, koto_desks *desks, uint32_t *moved, size_t moved_len);
 
 /* ---- Calls ---- */
 
@@ -508,6 +517,26 @@ static inline uint32_t koto_desk_parse(uint32_t desk, const uint8_t *format, siz
                                        koto_desks *desks, koto_options *options, uint64_t *value) {
     return koto_desk_parse_flat(desk, format, format_len, table, table_len, edition, bytes, bytes_len, (uint32_t *)entries,
                                 2 * entries_len, owners, owners_len, counts, desks, options, value);
+}
+
+/* Takes back the room of every string that neither desk marks, in a pool that two desks share (see koto_desk_add_string).
+ *
+ * ONE DESK CANNOT COMPACT ALONE: what neither of the two rows marks is gone, also what the other desk added. A mark is an index; marks may come in
+ * any order and more than once, and a desk may mark what the other one added. The kept strings move together in order, each charged to the desk that
+ * added it first, also where only the other one marks it.
+ *
+ * in       the marks of the first desk and of the second; the pool; the owners; the desks; a translation row, of which nothing is read
+ * out      moved: of each old index the new one, or KOTO_GONE; words past the old count stay. The pool and the owners: the kept strings, with counts
+ *            and charges; what stands behind them stays as it was
+ * refused  in this order; pool, owners, desks and row stay
+ *          8 BAD_STATE
+ *          20 BAD_MARK: a mark that is not below the count of entries, or a row shorter than the count
+ */
+static inline uint32_t koto_compact(const uint32_t *first, size_t first_len, const uint32_t *second, size_t second_len,
+                                    uint8_t *bytes, size_t bytes_len, koto_entry *entries, size_t entries_len, uint8_t *owners,
+                                    size_t owners_len, koto_counts *counts, koto_desks *desks, uint32_t *moved, size_t moved_len) {
+    return koto_compact_flat(first, first_len, second, second_len, bytes, bytes_len, (uint32_t *)entries, 2 * entries_len, owners,
+                             owners_len, counts, desks, moved, moved_len);
 }
 
 /* Pads a text to a width: as many fills before and behind it as its clusters are too few. This is our rule, and not koto's.

@@ -107,3 +107,33 @@ pub fn add_string(desk: u32, string: &[u8], state: &mut State) -> (u32, u32, usi
         None => (13, 0, 0),
     }
 }
+
+/// `koto_compact`: the refusal; what neither desk marks is gone, and the others move together
+pub fn compact(marks: [&[u32]; 2], state: &mut State, moved: &mut [u32]) -> u32 {
+    if !state.is_fit() {
+        return 8;
+    }
+    let old: Vec<(Vec<u8>, u8)> = state.strings().expect("a fit state").into_iter().map(|(s, owner)| (s.to_vec(), owner)).collect();
+    if moved.len() < old.len() || marks.concat().iter().any(|&mark| mark as usize >= old.len()) {
+        return 20;
+    }
+    state.counts = [0; 2];
+    for desk in &mut state.desks {
+        desk[1] = [0; 2];
+    }
+    for (i, (string, owner)) in old.into_iter().enumerate() {
+        moved[i] = u32::MAX;
+        if marks.iter().any(|row| row.contains(&(i as u32))) {
+            let [index, start] = state.counts;
+            moved[i] = index;
+            state.entries[index as usize] = [start, string.len() as u32];
+            state.owners[index as usize] = owner;
+            state.bytes[start as usize..][..string.len()].copy_from_slice(&string);
+            for (kind, more) in [1, string.len() as u32].into_iter().enumerate() {
+                state.counts[kind] += more;
+                state.desks[owner as usize][1][kind] += more;
+            }
+        }
+    }
+    0
+}

@@ -1,4 +1,4 @@
-//! The calls over a pool that two desks share, against a judge by document 02, C-12. README.md of the oracle says what is tried.
+//! The calls over a pool that two desks share, against a judge by document 02, C-12 and C-13. README.md of the oracle says what is tried.
 
 mod judge;
 #[allow(dead_code)]
@@ -77,6 +77,9 @@ struct Lent {
 struct Run {
     lent: Lent,
     text: Arena<u8>,
+    /// The marks of both desks, and the translation row
+    marks: [Arena<u32>; 2],
+    moved: Arena<u32>,
     table: Vec<u32>,
     lent_table: Arena<u32>,
     answers: BTreeMap<(&'static str, u32), u64>,
@@ -226,6 +229,51 @@ impl Run {
         });
     }
 
+    /// A compaction
+    fn compact(&mut self, marks: [&[u32]; 2], room: usize, state: &mut State) {
+        let before = state.clone();
+        self.lent.put(state);
+        for (arena, row) in self.marks.iter_mut().zip(marks) {
+            arena.fill(row);
+        }
+        let mut moved: Vec<u32> = (0..room as u32).map(|i| 500 + i).collect();
+        self.moved.fill(&moved);
+        let lent = &mut self.lent;
+        // SAFETY: as in `add`; marks are only read.
+        let number = unsafe {
+            raw::koto_compact_flat(
+                self.marks[0].get().as_ptr(),
+                marks[0].len(),
+                self.marks[1].get().as_ptr(),
+                marks[1].len(),
+                lent.bytes.get_mut().as_mut_ptr(),
+                before.bytes.len(),
+                lent.entries.get_mut().as_mut_ptr(),
+                2 * before.entries.len(),
+                lent.owners.get_mut().as_mut_ptr(),
+                before.owners.len(),
+                lent.counts.get_mut().as_mut_ptr().cast(),
+                lent.desks.get_mut().as_mut_ptr().cast(),
+                self.moved.get_mut().as_mut_ptr(),
+                room,
+            )
+        };
+        let wanted = judge::compact(marks, state, &mut moved);
+        let is_same = number == wanted && self.lent.is(state) && self.moved.get() == moved && self.moved.is_whole();
+        self.tell("compact", number, is_same, || format!("compact {marks:?} of {before:?}: {number}, and not {wanted} with {state:?}, {moved:?}"));
+    }
+
+    /// Marks of a pool with so many entries: none, all, some in any order and some twice; now and then one that was never given
+    fn some_marks(dice: &mut Dice, count: usize) -> Vec<u32> {
+        let most = count + dice.below(10) / 9;
+        match dice.below(4) {
+            0 => vec![],
+            1 => (0..count as u32).rev().collect(),
+            _ if most == 0 => vec![],
+            _ => (0..dice.below(count + 2)).map(|_| dice.below(most) as u32).collect(),
+        }
+    }
+
     /// A state that nobody has used: rows of some room, owners for it or more, guarantees that mostly fit
     fn fresh(dice: &mut Dice) -> State {
         let room = [dice.below(7), dice.below(24)];
@@ -307,8 +355,14 @@ impl Run {
             }
             let on = if is_damaged { &mut damaged } else { &mut state };
             let desk = if dice.below(40) == 0 { 2 + dice.below(3) as u32 * 2_000_000_000 } else { dice.below(2) as u32 };
-            match dice.below(3) {
+            match dice.below(10) {
                 0 => {
+                    let count = on.counts[0].min(40) as usize;
+                    let marks = [Self::some_marks(dice, count), Self::some_marks(dice, count)];
+                    let room = if dice.below(8) == 0 { count.saturating_sub(1) } else { count + dice.below(3) };
+                    self.compact([&marks[0], &marks[1]], room, on);
+                }
+                1..4 => {
                     let table = match dice.below(30) {
                         0 => vec![],
                         1 => self.table[1..].to_vec(),
@@ -338,6 +392,8 @@ fn main() {
     let mut run = Run {
         lent: Lent { bytes: Arena::new(64), entries: Arena::new(64), owners: Arena::new(64), counts: Arena::new(2), desks: Arena::new(8) },
         text: Arena::new(65_600),
+        marks: [Arena::new(64), Arena::new(64)],
+        moved: Arena::new(64),
         table: small_table(),
         lent_table: Arena::new(64),
         answers: BTreeMap::new(),
@@ -356,7 +412,7 @@ fn main() {
     for ((call, number), times) in &run.answers {
         println!("{call} answered {number}: {times}");
     }
-    let wanted: [(&str, &[u32]); 2] = [("add", &[0, 3, 8, 13, 15]), ("parse", &[0, 1, 2, 3, 8, 10, 11, 12, 13, 15, 17])];
+    let wanted: [(&str, &[u32]); 3] = [("compact", &[0, 8, 20]), ("add", &[0, 3, 8, 13, 15]), ("parse", &[0, 1, 2, 3, 8, 10, 11, 12, 13, 15, 17])];
     for (call, numbers) in wanted {
         for number in numbers {
             if !run.answers.contains_key(&(call, *number)) {

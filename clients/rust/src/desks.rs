@@ -79,3 +79,46 @@ pub fn desk_parse(which: Which, format: &[u8], table: &[u32], edition: Edition, 
     };
     parsed_of(refused, &options, value)
 }
+
+/// What a compaction answers
+#[derive(Clone, Copy, Debug, PartialEq, Eq)]
+pub enum Compaction {
+    /// The row tells each old index its new one, or [`GONE`].
+    Kept,
+    /// Refusal 8: the pool or its desks are unfit.
+    BadState,
+    /// Refusal 20: a mark is no index of the pool, or the row is shorter than the count of entries.
+    BadMark,
+}
+
+/// What a compaction's row says of an index that is no more
+pub const GONE: u32 = u32::MAX;
+
+/// Takes back the room of every string that neither desk marks, and tells each old index its new one. Both desks' marks go into one call: what
+/// neither marks is gone.
+pub fn compact(first: &[u32], second: &[u32], shared: &mut SharedPool, moved: &mut [u32]) -> Compaction {
+    // SAFETY: as in `desk_add_string`; the marks are only read.
+    let refused = unsafe {
+        raw::koto_compact_flat(
+            first.as_ptr(),
+            first.len(),
+            second.as_ptr(),
+            second.len(),
+            shared.pool.bytes.as_mut_ptr(),
+            shared.pool.bytes.len(),
+            shared.pool.entries.as_mut_ptr().cast(),
+            2 * shared.pool.entries.len(),
+            shared.owners.as_mut_ptr(),
+            shared.owners.len(),
+            &mut shared.pool.counts,
+            &mut shared.desks,
+            moved.as_mut_ptr(),
+            moved.len(),
+        )
+    };
+    match refused {
+        0 => Compaction::Kept,
+        8 => Compaction::BadState,
+        _ => Compaction::BadMark,
+    }
+}

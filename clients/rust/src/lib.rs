@@ -10,7 +10,7 @@ mod padding;
 pub mod raw;
 mod texts;
 
-pub use desks::{desk_add_string, desk_parse, SharedPool, Which};
+pub use desks::{compact, desk_add_string, desk_parse, Compaction, SharedPool, Which, GONE};
 pub use foreign::{check_list, Checked};
 pub use formats::{add_string, parse, Added, Alignment, Fill, Options, Parsed, Pool, Representation};
 pub use lists::{

@@ -233,6 +233,23 @@ extern "C" {
         options: *mut Options,
         value: *mut u64,
     ) -> u32;
+    /// The row of entries is told in numbers, two for each.
+    pub fn koto_compact_flat(
+        first: *const u32,
+        first_len: usize,
+        second: *const u32,
+        second_len: usize,
+        bytes: *mut u8,
+        bytes_len: usize,
+        entries: *mut u32,
+        entries_len: usize,
+        owners: *mut u8,
+        owners_len: usize,
+        counts: *mut Counts,
+        desks: *mut Desks,
+        moved: *mut u32,
+        moved_len: usize,
+    ) -> u32;
     pub fn koto_check_list(
         source: *const u8,
         source_len: usize,

@@ -52,3 +52,24 @@ fn a_parse_for_a_desk_is_charged_to_it() {
     assert_eq!(add_string(b"y", &mut pool.pool), Added::Index(2));
     assert_eq!(desk_add_string(Which::First, b"z", &mut pool), Added::BadState);
 }
+
+#[test]
+fn a_compaction_keeps_what_either_desk_marks() {
+    let (mut bytes, mut entries, mut owners) = ([0; 8], [Entry::default(); 4], [9; 4]);
+    let mut pool = shared(&mut bytes, &mut entries, &mut owners, [counts(1, 2), counts(1, 2)]);
+    for (which, string) in [(Which::First, b"ab"), (Which::Second, b"cd"), (Which::First, b"ef")] {
+        assert!(matches!(desk_add_string(which, string, &mut pool), Added::Index(_)));
+    }
+    let mut moved = [7; 4];
+    assert_eq!(compact(&[3], &[], &mut pool, &mut moved), Compaction::BadMark);
+    assert_eq!(compact(&[0], &[], &mut pool, &mut moved[..2]), Compaction::BadMark);
+    assert_eq!(moved, [7; 4]);
+    // The first desk keeps what the second one added, twice marked, and the second what the first one added.
+    assert_eq!(compact(&[1, 1], &[2], &mut pool, &mut moved), Compaction::Kept);
+    assert_eq!(moved, [GONE, 0, 1, 7]);
+    assert_eq!(&pool.pool.bytes[..4], b"cdef");
+    assert_eq!(pool.owners[..2], [1, 0]);
+    assert_eq!((pool.desks.first.charged, pool.desks.second.charged), (counts(1, 2), counts(1, 2)));
+    // The freed room is used again.
+    assert_eq!(desk_add_string(Which::Second, b"gh", &mut pool), Added::Index(2));
+}

@@ -1,5 +1,5 @@
 -- That no second answer fits a call: two calls on the same input return the same number and leave the same words, every one of them.
---     koto-desk-add-string-has-one-answer, koto-desk-parse-has-one-answer
+--     koto-desk-add-string-has-one-answer, koto-desk-parse-has-one-answer, koto-compact-has-one-answer
 -- Assumes nothing.
 use Prim.Native.Nat.{ℕ}
 use mathlib.Core.Path.{_≡_, sym, _∙_}
@@ -8,6 +8,7 @@ use Rattle.desks.specs.Desks.{Shared}
 use Rattle.koto_desks.specs.Words.{Leaves}
 use Rattle.koto_desks.specs.Strings.{AddStringIs}
 use Rattle.koto_desks.specs.Formats.{ParseIs}
+use Rattle.koto_desks.specs.Compacts.{CompactIs}
 
 -- the words that two calls leave are the same
 pub record SameWords (bytes entries owners counts desks bytes′ entries′ owners′ counts′ desks′ : List ℕ) : Type 0 where
@@ -47,5 +48,15 @@ module _ {bytes entries owners counts desks bytes′ entries′ owners′ counts
     p .number ∙ sym (q .number),
     p .options-are ∙ sym (q .options-are),
     p .value-is ∙ sym (q .value-is),
+    leaves-one (p .left) (q .left),
+  )
+
+  pub koto-compact-has-one-answer : {first second moved newMoved newMoved′ : List ℕ} {s : Shared} {r r′ : ℕ}
+      → CompactIs first second s moved bytes entries owners counts desks newMoved r
+      → CompactIs first second s moved bytes′ entries′ owners′ counts′ desks′ newMoved′ r′
+      → (r ≡ r′) × (newMoved ≡ newMoved′) × SameWords bytes entries owners counts desks bytes′ entries′ owners′ counts′ desks′
+  koto-compact-has-one-answer p q = (
+    p .number ∙ sym (q .number),
+    p .moved-left ∙ sym (q .moved-left),
     leaves-one (p .left) (q .left),
   )

@@ -34,3 +34,5 @@ pub mod SmallTablesLaws
 pub mod LentLaws
 pub mod Desks
 pub mod DesksLaws
+pub mod Compaction
+pub mod CompactionLaws
