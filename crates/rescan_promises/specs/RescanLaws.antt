@@ -1,0 +1,2 @@
+-- The promise of `Rescan`, proved.
+-- Assumes nothing.
