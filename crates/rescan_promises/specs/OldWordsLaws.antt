@@ -8,7 +8,7 @@ use native.Mathlib.Omega.{arith}
 use mathlib.Core.Path.{_≡_, refl, sym, ap, _∙_}
 use mathlib.Core.List.{List, [], _∷_}
 use lib.ListN.{length, getD, take, drop}
-use Rattle.rows.specs.Row.{rowWords, rowAt, putRows, putRowsAt, copyRows, rowsOf}
+use Rattle.rows.specs.Row.{rowWords, firstRow, putRows, putRowsAt, copyRows, rowsOf}
 use Rattle.rows.specs.RowLaws.{rows-of-length, rows-of-at, rows-one-by-one, copy-put}
 use Rattle.rows.specs.declared.Row.{Row}
 use Rattle.reading.specs.Scan.{endOf}
@@ -18,7 +18,7 @@ pub rows-of-take : (n m : ℕ) (l : List ℕ) → n ≤ m → take n (rowsOf m l
 unfolding rowsOf
 rows-of-take zero m l h = refl
 rows-of-take (suc n) zero l h = absurd (omega arith)
-rows-of-take (suc n) (suc m) l h = ap {B = List Row} (λ rows. _ ∷ rows) (rows-of-take n m (drop rowWords l) (omega arith))
+rows-of-take (suc n) (suc m) l h = ap {B = List Row} (λ rows. firstRow l ∷ rows) (rows-of-take n m (drop rowWords l) (omega arith))
 
 -- the end of the last of the first n
 end-at : (rows : List Row) (b n : ℕ) (d : Row) → n < length rows → endOf b (take (suc n) rows) ≡ getD rows n d .end

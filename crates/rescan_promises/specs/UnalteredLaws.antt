@@ -25,7 +25,7 @@ onto-rows [] r = refl
 onto-rows (row ∷ kept) r = ap {B = List Row} (λ l. row ∷ l) (onto-rows kept r)
 
 -- a list that begins with some rows
-take-begin : (rows kept rest : List Row) (n : ℕ) → length kept ≡ n → rows ≡ kept ++ rest → take n rows ≡ kept
+pub take-begin : (rows kept rest : List Row) (n : ℕ) → length kept ≡ n → rows ≡ kept ++ rest → take n rows ≡ kept
 take-begin rows kept rest n l e = ap (take n) e ∙ ap (λ (m : ℕ). take m (kept ++ rest)) (sym l) ∙ take-append-seam kept rest
 
 module _ (s t table : List ℕ) (edition : ℕ) (old-good : Readable sourceMost s table edition) (good : Readable sourceMost t table edition)
@@ -37,9 +37,8 @@ module _ (s t table : List ℕ) (edition : ℕ) (old-good : Readable sourceMost 
       let a = take n s in
       let one : s ≡ line a (drop (suc n) s) = source-line s n (e .inside) (e .newline) in
       let two : t ≡ line a (drop (suc n) t) = other-line s t n (e .inside) (e .newline) (e .also) (e .same) in
-      let S = λ (z : List ℕ). Readable sourceMost z table edition in
-      let g = subst S one old-good in
-      let h = subst S two good in
+      let g = subst (λ (z : List ℕ). Readable sourceMost z table edition) one old-good in
+      let h = subst (λ (z : List ℕ). Readable sourceMost z table edition) two good in
       let long : length a ≡ n = length-take-le n s (omega (arith, e .inside)) in
       let c = reading-line table (fit-of table (h .fit)) edition a (drop (suc n) s) (drop (suc n) t) (g .short) (h .short) (g .well) (h .well) kept rest
       (subst (λ (i : ℕ). UpTo i kept) (sym long) up)
