@@ -46,8 +46,8 @@ extern "C" {
  *    5 MODES_FULL                  a token would push a 65th mode. Place: the current byte
  *    6 PEEK_TOO_FAR                n is over queued + 1
  *    7 QUEUE_FULL                  a token must be queued, and KOTO_QUEUE_MOST are
- *    8 BAD_STATE                   a cursor or a pool that is unfit, desks that are (see koto_desk_add_string), or a list that is shorter
- *                                  than its count
+ *    8 BAD_STATE                   a cursor or a pool that is unfit, desks that are (see koto_desk_add_string), or a list, another lexer's or an
+ *                                  old one, that is shorter than its count
  *    9 BAD_RECORD                  a record that may not be shown: its kind is over 80, it may not have its detail, its depth is over 64, or
  *                                  bits 28 to 31 of its first word are not 0. Place: its index
  *   10 EXPECTED_NUMBER             a precision has no digit. Value: the code point that stands there
@@ -58,6 +58,7 @@ extern "C" {
  *                                  length where bytes lack
  *   15 CUT_UTF8                    bytes of which the first ill-formed sequence is a proper beginning of a character that the end stops: what
  *                                  lacks may still arrive. Given where 3 would be, and never with it. Place: its offset
+ *   16 BAD_EDIT                    an edit that does not lead from the old source to the new one
  *   17 BAD_EDITION                 a number that is no edition of the cluster rules
  *   18 NO_SUCH_FORMAT              options that no format string has
  *   19 NO_ROOM                     a buffer that is shorter than the result
@@ -81,6 +82,7 @@ extern "C" {
 #define KOTO_POOL_FULL 13u
 #define KOTO_BAD_FILE 14u
 #define KOTO_CUT_UTF8 15u
+#define KOTO_BAD_EDIT 16u
 #define KOTO_BAD_EDITION 17u
 #define KOTO_NO_SUCH_FORMAT 18u
 #define KOTO_NO_ROOM 19u
@@ -384,6 +386,30 @@ uint32_t koto_scan(const uint8_t *source, size_t source_len, const uint32_t *tab
  */
 uint32_t koto_scan_profile(const uint8_t *source, size_t source_len, const uint32_t *table, size_t table_len, uint32_t edition,
                            uint32_t *list, size_t list_len, uint32_t *status, size_t *count, size_t *byte);
+
+/* Scans a source after one edit, into a second list: records before the edited line are taken from the old source's list, and only the rest is
+ * read. Where the old list is the old source's, as a scan with this table and edition left it, answers and words are those of koto_scan on the new
+ * source. Any other list gives the same answers for the same input too, and may give wrong records.
+ *
+ * The edit is its place, how many bytes it removed there, and how many it put in. It fits where place + removed is at most the old length, the
+ * new source is so many bytes shorter and longer, and all other bytes are the same. The line starts behind the last "\n" before the place, or at
+ * 0. Kept are the records of the old list up to and with the first that ends there or behind, if each starts where the one before it ends, the
+ * first at zeros, in bytes and in its span, none ends before it starts, and the last ends at the line's start, is a NewLine of depth 0 (its first
+ * word is 2) over "\n" or "\r\n" of the new source, and has end column 0 and an end line of at most its end; and else none.
+ *
+ * in       the old source; its list, with old_count records; the edit; the source; a table; an edition; a list, of which nothing is read
+ * out      list: the records from its start on, and behind them what was there. status: KOTO_END or KOTO_STUCK. count: how many records
+ *            there are. byte: the current byte, where the last of them ends
+ * refused  in this order, each with status KOTO_REFUSED, and its place in byte
+ *          1 TOO_LONG, 17 BAD_EDITION, 2 BAD_TABLE, 3 BAD_UTF8 or 15 CUT_UTF8, of the new source, as koto_scan. count: 0; the whole list stays
+ *          16 BAD_EDIT. count: 0, byte: 0; the whole list stays
+ *          8 BAD_STATE: the old list has no room for old_count records. count: 0, byte: 0; the whole list stays
+ *          4 LIST_FULL, 5 MODES_FULL: list and count have the records before the one that is left, kept or read, and behind them the list stays
+ */
+uint32_t koto_rescan(const uint8_t *old, size_t old_len, const uint32_t *old_list, size_t old_list_len, size_t old_count,
+                     size_t edit_place, size_t removed, size_t put_in, const uint8_t *source, size_t source_len,
+                     const uint32_t *table, size_t table_len, uint32_t edition, uint32_t *list, size_t list_len,
+                     uint32_t *status, size_t *count, size_t *byte);
 
 /* Hands out the next token of a scan, and moves the cursor on.
  *

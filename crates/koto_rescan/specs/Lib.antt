@@ -1,0 +1,2 @@
+pub mod Rescans
+pub mod RescansLaws

@@ -1,0 +1,4 @@
+pub mod Rescan
+pub mod UnalteredLaws
+pub mod OldWordsLaws
+pub mod RescanLaws
