@@ -7,6 +7,7 @@ mod lists;
 mod padding;
 pub mod raw;
 mod texts;
+mod writing;
 
 pub use formats::{add_string, parse, Added, Alignment, Fill, Options, Parsed, Pool, Representation};
 pub use lists::{look_ahead, next, peek, room_for, scan, Cursor, Given, Peeked, Scanned, Status, RECORD_WORDS};
@@ -16,6 +17,7 @@ pub use texts::{
     check_table, check_utf8, first_cluster, read_char, read_table, Cluster, Edition, Read, TableCheck, TableFile,
     Utf8Check,
 };
+pub use writing::{write_format, Wanted, Written};
 
 /// Sources over this many bytes are refused.
 pub const SOURCE_MOST: usize = 1_048_576;

@@ -12,6 +12,7 @@ pub mod Lookahead
 pub mod Look
 pub mod Parse
 pub mod Pad
+pub mod Write
 pub mod Utf8Laws
 pub mod PropertyLaws
 pub mod ClusterLaws
@@ -25,4 +26,6 @@ pub mod LookaheadLaws
 pub mod LookLaws
 pub mod ParseLaws
 pub mod PadLaws
+pub mod RoomLaws
+pub mod WriteLaws
 pub mod LentLaws
