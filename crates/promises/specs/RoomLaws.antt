@@ -95,7 +95,9 @@ module _ (p : Pool) (x : List ℕ) (n b : ℕ) (f : Free (n + 1) (b + length x) 
 
   pub adds-free : Free n b (addTo p x)
   unfolding addTo
-  adds-free = rw (f .not-full) (go (added x (p .bytes) (p .entries) (p .counts)) few)
+  adds-free =
+      let r = added x (p .bytes) (p .entries) (p .counts) in
+      subst (Free n b) (sym (ap (λ (t : Bool). pick t p (onAdded p x r)) (f .not-full))) (go r few)
     where
       kept : Free n b p
       kept = record { not-full = f .not-full; entries-free = omega (arith, f .entries-free); bytes-free = omega (arith, f .bytes-free) }

@@ -16,7 +16,7 @@ use lib.Seq.{take-append-seam}
 use borrow.Author.Tests.{lt-ltb, le-ltb, ltb-false}
 use Rattle.base.specs.Pick.{pick}
 use Rattle.base.specs.Refusal.{none, noSuchFormat, noRoom, formatMost}
-use Rattle.utf8.specs.Encode.{WellFormed}
+use Rattle.utf8.specs.Encode.{encodeAll}
 use Rattle.utf8.specs.Chars.{chars}
 use Rattle.property.specs.Table.{propertiesAt}
 use Rattle.fitness.specs.Fit.{tableCheck}
@@ -59,6 +59,7 @@ module _ (table : List ℕ) (edition : ℕ) where
   first-check = inputCheck 0 [] table edition
 
   fine-check : isEdition edition ≡ true → tableCheck table ≡ Fit → first-check ≡ check.Fine
+  unfolding encodeAll
   fine-check k f = is-fine 0 [] table edition (record { short = omega arith; known = k; fit = f; well = record { points = []; scalars = tt; same = refl } })
 
 -- ---- reading back, by the public call
@@ -192,6 +193,12 @@ module _ (alignment width precision representation : ℕ) (given : Bool) (fill t
         let w : r ≡ Length (length format) = e ∙ rw (le-ltb (length old) (length format) (omega arith)) refl in
         (ap writeSays w, ap lenOf w ∙ d, left w ∙ ap (written old 0) q)
 
+    too-short : (s : List ℕ) → format ≡ s → length old < length s → r ≡ answerIf true (length old) format → writeSays r ≡ says noRoom 0
+    too-short s q h e =
+        let d = ap length q in
+        let w : r ≡ NoRoom = e ∙ rw (lt-ltb (length old) (length format) (omega arith)) refl in
+        ap writeSays w
+
     -- 1, 17, 2, 3 and 15 are neither 0 nor 18
     not-first : (x : Refusal) → (input.numberOf x ≡ none → ⊥) × (input.numberOf x ≡ noSuchFormat → ⊥)
     not-first refusal.TooLong = (λ e. omega arith, λ e. omega arith)
@@ -237,10 +244,7 @@ module _ (alignment width precision representation : ℕ) (given : Bool) (fill t
           bad-edition = λ k. ap writeSays (answered (is-none 0 [] table edition (omega arith) k) refl);
           bad-table = λ k i e. ap writeSays (answered (is-table 0 [] table edition (omega arith) k i e) refl);
           no-such = λ k f h. ap writeSays (answered (fine-check table edition k f) (none-can h));
-          no-room = λ k f s v h.
-              let q = some-can s v in
-              let d = ap length (q .1) in
-              ap writeSays (answered (fine-check table edition k f) (q .0) ∙ rw (lt-ltb (length old) (length format) (omega arith)) refl);
+          no-room = λ k f s v h. let q = some-can s v in too-short s (q .1) h (answered (fine-check table edition k f) (q .0));
           writes = λ k f s v h. let q = some-can s v in full-room s (q .1) h (answered (fine-check table edition k f) (q .0));
           only-none = only-none;
           only-first = only-first;
