@@ -565,6 +565,28 @@ static inline uint32_t koto_compact(const uint32_t *first, size_t first_len, con
                              owners_len, counts, desks, moved, moved_len);
 }
 
+/* Writes the format string for options: the shortest that koto_parse reads back as them, and the first in byte order of those.
+ *
+ * Read back, with an empty pool that has room, are the same alignment, width, precision and representation and a fill of the same bytes; so
+ * equal options give equal bytes, and what koto_parse wrote can be handed on. Some options have no format string: a fill before the default
+ * alignment with anything behind it, unless it is "0" before a width; a fill that koto reads as something else, as "e" or a digit alone; a
+ * fill that is not one cluster where the sign stands behind it.
+ *
+ * in       alignment: a KOTO_ALIGNMENT; width, precision: 0 to 4,294,967,295, or KOTO_NONE; representation: a KOTO_REPRESENTATION, or KOTO_NONE;
+ *            filled: not 0 where a fill is given; the fill, which is not looked at where none is given; a table; edition: 1, without GB9c, or
+ *            2, with it; a buffer, of which nothing is read
+ * out      buffer: the format string from its start on, and behind it what was there. len: how many bytes it has. place: 0
+ * refused  in this order, each with len 0, and the whole buffer stays
+ *          17 BAD_EDITION. place: 0
+ *          2 BAD_TABLE, with its place
+ *          18 NO_SUCH_FORMAT: no format string is read back so. A number that none of them has, and a fill that is empty, wrong, cut or too
+ *            long for a format string, are such. place: 0
+ *          19 NO_ROOM: the buffer is shorter than the format string. place: 0
+ */
+uint32_t koto_write_format(uint64_t alignment, uint64_t width, uint64_t precision, uint64_t representation, uint32_t filled,
+                           const uint8_t *fill, size_t fill_len, const uint32_t *table, size_t table_len, uint32_t edition,
+                           uint8_t *buffer, size_t buffer_len, size_t *len, size_t *place);
+
 /* Pads a text to a width: as many fills before and behind it as its clusters are too few. This is our rule, and not koto's.
  *
  * Clusters are counted in the text by itself, by all that stands left of each place (see koto_first_cluster for the rules). What a fill and the

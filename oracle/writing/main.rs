@@ -36,6 +36,8 @@ const ODD_FILLS: [&[u8]; 8] = [b"", b"ab", b"\xFF", b"\xE2\x82", b"a\xCC", b"00"
 
 struct Run {
     kinds: Kinds,
+    /// The table of each host
+    tables: [Vec<u32>; 3],
     /// What is lent: the fill, the table and the buffer
     fill: Arena<u8>,
     table: Arena<u32>,
@@ -63,6 +65,7 @@ fn main() {
     let (seed, count) = (number(0, 100), number(1, 1_000_000) as usize);
     let mut run = Run {
         kinds: Kinds::of(&kpt::full()),
+        tables: HOSTS.map(|host| (host.table)()),
         fill: Arena::new(FORMAT_MOST + 64),
         table: Arena::new(8064),
         buffer: Arena::new(2 * FORMAT_MOST),
@@ -196,10 +199,7 @@ impl Run {
         let table = kpt::full();
         let plain = Options { alignment: 0, width: NONE, precision: NONE, representation: NONE, fill: None };
         for len in FORMAT_MOST - 15..=FORMAT_MOST + 2 {
-            let mut marks = vec![b'a'; 1 + (len - 1) % 2];
-            marks.truncate(1);
-            marks.extend("\u{301}".repeat(len / 2).into_bytes());
-            marks.truncate(len);
+            let marks = [b"a".to_vec(), "\u{301}".repeat(len / 2).into_bytes()].concat()[..len].to_vec();
             for fill in [marks, vec![b'x'; len]] {
                 for (alignment, width, precision) in [(0, NONE, NONE), (1, NONE, NONE), (2, 1234567890, NONE), (3, 0, 99)] {
                     let options = Options { alignment, width, precision, fill: Some(fill.clone()), ..plain };
@@ -246,7 +246,8 @@ impl Run {
     }
 
     fn random(&mut self, dice: &mut Dice) {
-        let host = HOSTS[dice.below(HOSTS.len())];
+        let which = dice.below(HOSTS.len());
+        let host = HOSTS[which];
         let text = self.kinds.text(dice, 60);
         let fill = match dice.below(8) {
             0 => None,
@@ -277,7 +278,6 @@ impl Run {
             representation: if bare { NONE } else { representation },
             fill,
         };
-        let table = (host.table)();
         let first = host.first(&options);
         let needed = first.as_ref().map_or(0, Vec::len);
         let room = match dice.below(4) {
@@ -285,7 +285,9 @@ impl Run {
             1 => needed,
             _ => needed + dice.below(40),
         };
+        let table = std::mem::take(&mut self.tables[which]);
         self.ask(&options, &host, &table, room, first.as_deref());
+        self.tables[which] = table;
     }
 
     fn report(&self) -> bool {

@@ -186,6 +186,20 @@ impl Alignment {
     }
 }
 
+impl Representation {
+    pub(crate) fn number(self) -> u64 {
+        match self {
+            Representation::Debug => 0,
+            Representation::HexLower => 1,
+            Representation::HexUpper => 2,
+            Representation::Binary => 3,
+            Representation::Octal => 4,
+            Representation::ExpLower => 5,
+            Representation::ExpUpper => 6,
+        }
+    }
+}
+
 fn alignment_of(number: u64) -> Alignment {
     match number {
         1 => Alignment::Left,

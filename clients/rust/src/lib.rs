@@ -9,6 +9,7 @@ mod lists;
 mod padding;
 pub mod raw;
 mod texts;
+mod writing;
 
 pub use desks::{compact, desk_add_string, desk_parse, Compaction, SharedPool, Which, GONE};
 pub use foreign::{check_list, Checked};
@@ -22,6 +23,7 @@ pub use texts::{
     check_table, check_utf8, first_cluster, read_char, read_table, Cluster, Edition, Read, TableCheck, TableFile,
     Utf8Check,
 };
+pub use writing::{write_format, Wanted, Written};
 
 /// Sources over this many bytes are refused.
 pub const SOURCE_MOST: usize = 1_048_576;

@@ -264,6 +264,22 @@ extern "C" {
         differs: *mut usize,
         place: *mut usize,
     ) -> u32;
+    pub fn koto_write_format(
+        alignment: u64,
+        width: u64,
+        precision: u64,
+        representation: u64,
+        filled: u32,
+        fill: *const u8,
+        fill_len: usize,
+        table: *const u32,
+        table_len: usize,
+        edition: u32,
+        buffer: *mut u8,
+        buffer_len: usize,
+        len: *mut usize,
+        place: *mut usize,
+    ) -> u32;
     pub fn koto_pad(
         text: *const u8,
         text_len: usize,

@@ -15,6 +15,7 @@ pub mod Parse
 pub mod Pad
 pub mod Profile
 pub mod SmallTables
+pub mod Write
 pub mod Utf8Laws
 pub mod PropertyLaws
 pub mod ClusterLaws
@@ -31,6 +32,8 @@ pub mod ParseLaws
 pub mod PadLaws
 pub mod ProfileLaws
 pub mod SmallTablesLaws
+pub mod RoomLaws
+pub mod WriteLaws
 pub mod LentLaws
 pub mod Desks
 pub mod DesksLaws

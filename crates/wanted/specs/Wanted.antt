@@ -2,7 +2,7 @@
 -- is written. What is asked for are numbers, those that the parse of a format string tells of its options.
 -- Options are equal when their fills have equal bytes, so a fill is its bytes here. Reading back is meant with an empty pool that has room:
 -- there no addition fails, which is `parse` of the crate `format`, whose pool is a list. That this is what the public call then answers is
--- `WriteLaws.reads-back-by-call` of the crate `promises`.
+-- `WriteLaws` of the crate `promises`.
 -- Assumes nothing.
 use Prim.Native.Nat.{ℕ, _<_, _≤_}
 use mathlib.Core.Path.{_≡_}
