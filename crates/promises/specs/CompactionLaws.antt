@@ -80,8 +80,7 @@ module _ (first second : List ℕ) (s : Shared) (moved : List ℕ) where
         bad-mark = λ f e. stays BadMark (compact.bad-mark first second s moved f e);
         kept =
             λ f g.
-            let e = compact.fine first second s moved f g in
-            (
+            let e = compact.fine first second s moved f g in (
               ap (λ (c : Comes). numberOf (c .answer)) e,
               subst (λ (c : Comes). Keeps (isMarked first second) s (c .state) moved (c .moved)) (sym e) (keeps (isMarked first second) s moved f),
             );
