@@ -15,7 +15,7 @@ use Rattle.compact.specs.Compact.{keptStrings, translated, headed, isMarked, go
 use Rattle.compact.specs.CompactLaws.{translated-long}
 use Rattle.compact.specs.LaidLaws.{strings-there}
 use Rattle.compact.specs.CallLaws as compact
-use Rattle.compact.specs.PromiseLaws as compact
+use Rattle.compact.specs.PromiseLaws as after
 use Rattle.compact.specs.declared.Compaction.{Compaction}
 use Rattle.compact.specs.declared.Compaction.the-variants.{Kept, BadMark, BadState}
 use Rattle.promises.specs.Desks.{Stays}
@@ -27,20 +27,20 @@ keeps : (keep : ℕ → Bool) (s : Shared) (moved : List ℕ) → Fits s
     → Keeps keep s (compacted keep s) moved (headed (translated keep (s .counts .entries)) moved)
 keeps keep s moved f =
     let n = s .counts .entries in
-    let fit = fit-by (compacted keep s) (compact.fit-kept keep s (fit-of s f)) in
+    let fit = fit-by (compacted keep s) (after.fit-kept keep s (fit-of s f)) in
     record {
       strings = strings-there (keptStrings keep (s .bytes) (s .entries) n) (s .bytes) (s .entries);
-      row-kept = λ k h e. compact.row-says keep moved n k h ∙ rw e;
-      shows-same = compact.shows-same keep s;
-      owner-same = compact.owner-same keep s;
-      row-gone = λ k h e. compact.row-says keep moved n k h ∙ rw e;
+      row-kept = λ k h e. after.row-says keep moved n k h ∙ rw e;
+      shows-same = after.shows-same keep s;
+      owner-same = after.owner-same keep s;
+      row-gone = λ k h e. after.row-says keep moved n k h ∙ rw e;
       row-rest =
           drop-at (translated keep n) (drop (length (translated keep n)) moved) n (translated-long keep n)
           ∙ ap (λ (i : ℕ). drop i moved) (translated-long keep n);
       fits = fit;
       guarantees = same;
-      entries-free = compact.entries-grow keep s (fit-of s f);
-      bytes-free = compact.bytes-grow keep s (fit-of s f);
+      entries-free = after.entries-grow keep s (fit-of s f);
+      bytes-free = after.bytes-grow keep s (fit-of s f);
       alone = λ which string h k. desk-alone which (compacted keep s) string fit (alone-entries which h) (alone-bytes which k);
     }
   where
