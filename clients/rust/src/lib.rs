@@ -2,12 +2,14 @@
 //!
 //! Every function takes every input. What is lent is written as docs/PROMISES.md says; a refusal before the work writes nothing.
 
+mod edits;
 mod formats;
 mod lists;
 mod padding;
 pub mod raw;
 mod texts;
 
+pub use edits::{rescan, Edit, Editor, Old, Rescanned};
 pub use formats::{add_string, parse, Added, Alignment, Fill, Options, Parsed, Pool, Representation};
 pub use lists::{look_ahead, next, peek, room_for, scan, Cursor, Given, Peeked, Scanned, Status, RECORD_WORDS};
 pub use padding::{pad, Padded, Padding};

@@ -108,20 +108,36 @@ pub fn scan(source: &[u8], table: &[u32], edition: Edition, list: &mut [u32]) ->
             &mut byte,
         )
     };
-    match refused {
-        0 if status == raw::STUCK => Scanned::Stuck { count, byte },
-        0 => Scanned::End { count, byte },
-        1 => Scanned::TooLong,
-        2 => Scanned::BadTable(byte),
-        3 => Scanned::BadUtf8(byte),
-        4 => Scanned::ListFull { count, byte },
-        5 => Scanned::ModesFull { count, byte },
-        15 => Scanned::CutUtf8(byte),
-        _ => Scanned::BadEdition,
-    }
+    Scanned::of(refused, status, count, byte)
 }
 
 impl Scanned {
+    /// A scan's answer by its numbers
+    pub(crate) fn of(refused: u32, status: u32, count: usize, byte: usize) -> Scanned {
+        match refused {
+            0 if status == raw::STUCK => Scanned::Stuck { count, byte },
+            0 => Scanned::End { count, byte },
+            1 => Scanned::TooLong,
+            2 => Scanned::BadTable(byte),
+            3 => Scanned::BadUtf8(byte),
+            4 => Scanned::ListFull { count, byte },
+            5 => Scanned::ModesFull { count, byte },
+            15 => Scanned::CutUtf8(byte),
+            _ => Scanned::BadEdition,
+        }
+    }
+
+    /// How many records were written, refused or not
+    pub fn count(self) -> usize {
+        match self {
+            Scanned::End { count, .. }
+            | Scanned::Stuck { count, .. }
+            | Scanned::ListFull { count, .. }
+            | Scanned::ModesFull { count, .. } => count,
+            _ => 0,
+        }
+    }
+
     /// A cursor before the first record; none after a refusal
     pub fn cursor(self) -> Option<Cursor> {
         let (count, status) = match self {
