@@ -3,6 +3,7 @@
 //! Every function takes every input. What is lent is written as docs/PROMISES.md says; a refusal before the work writes nothing.
 
 mod desks;
+mod edits;
 mod foreign;
 mod formats;
 mod lists;
@@ -12,6 +13,7 @@ mod texts;
 mod writing;
 
 pub use desks::{compact, desk_add_string, desk_parse, Compaction, SharedPool, Which, GONE};
+pub use edits::{rescan, Edit, Editor, Old, Rescanned};
 pub use foreign::{check_list, Checked};
 pub use formats::{add_string, parse, Added, Alignment, Fill, Options, Parsed, Pool, Representation};
 pub use lists::{

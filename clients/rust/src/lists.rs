@@ -101,7 +101,7 @@ pub const fn room_for(source_len: usize) -> usize {
 
 /// Writes the records of a source at the start of the list.
 pub fn scan(source: &[u8], table: &[u32], edition: Edition, list: &mut [u32]) -> Scanned {
-    scanned(&scan_by(raw::koto_scan, source, table, edition, list))
+    scan_by(raw::koto_scan, source, table, edition, list).scanned()
 }
 
 /// Scans as [`scan`] does, and then refuses a source that is not in the site profile; the list keeps the whole scan.
@@ -109,7 +109,7 @@ pub fn scan_profile(source: &[u8], table: &[u32], edition: Edition, list: &mut [
     let said = scan_by(raw::koto_scan_profile, source, table, edition, list);
     match said.refused {
         21 => Profiled::NotInProfile { count: said.count, index: said.byte },
-        _ => Profiled::Base(scanned(&said)),
+        _ => Profiled::Base(said.scanned()),
     }
 }
 
@@ -119,6 +119,12 @@ struct Said {
     status: u32,
     count: usize,
     byte: usize,
+}
+
+impl Said {
+    fn scanned(&self) -> Scanned {
+        Scanned::of(self.refused, self.status, self.count, self.byte)
+    }
 }
 
 fn scan_by(call: raw::Scan, source: &[u8], table: &[u32], edition: Edition, list: &mut [u32]) -> Said {
@@ -141,22 +147,33 @@ fn scan_by(call: raw::Scan, source: &[u8], table: &[u32], edition: Edition, list
     Said { refused, status, count, byte }
 }
 
-fn scanned(said: &Said) -> Scanned {
-    let Said { count, byte, .. } = *said;
-    match said.refused {
-        0 if said.status == raw::STUCK => Scanned::Stuck { count, byte },
-        0 => Scanned::End { count, byte },
-        1 => Scanned::TooLong,
-        2 => Scanned::BadTable(byte),
-        3 => Scanned::BadUtf8(byte),
-        4 => Scanned::ListFull { count, byte },
-        5 => Scanned::ModesFull { count, byte },
-        15 => Scanned::CutUtf8(byte),
-        _ => Scanned::BadEdition,
-    }
-}
-
 impl Scanned {
+    /// A scan's answer by its numbers
+    pub(crate) fn of(refused: u32, status: u32, count: usize, byte: usize) -> Scanned {
+        match refused {
+            0 if status == raw::STUCK => Scanned::Stuck { count, byte },
+            0 => Scanned::End { count, byte },
+            1 => Scanned::TooLong,
+            2 => Scanned::BadTable(byte),
+            3 => Scanned::BadUtf8(byte),
+            4 => Scanned::ListFull { count, byte },
+            5 => Scanned::ModesFull { count, byte },
+            15 => Scanned::CutUtf8(byte),
+            _ => Scanned::BadEdition,
+        }
+    }
+
+    /// How many records were written, refused or not
+    pub fn count(self) -> usize {
+        match self {
+            Scanned::End { count, .. }
+            | Scanned::Stuck { count, .. }
+            | Scanned::ListFull { count, .. }
+            | Scanned::ModesFull { count, .. } => count,
+            _ => 0,
+        }
+    }
+
     /// A cursor before the first record; none after a refusal
     pub fn cursor(self) -> Option<Cursor> {
         let (count, status) = match self {

@@ -138,6 +138,26 @@ extern "C" {
         count: *mut usize,
         byte: *mut usize,
     ) -> u32;
+    pub fn koto_rescan(
+        old: *const u8,
+        old_len: usize,
+        old_list: *const u32,
+        old_list_len: usize,
+        old_count: usize,
+        edit_place: usize,
+        removed: usize,
+        put_in: usize,
+        source: *const u8,
+        source_len: usize,
+        table: *const u32,
+        table_len: usize,
+        edition: u32,
+        list: *mut u32,
+        list_len: usize,
+        status: *mut u32,
+        count: *mut usize,
+        byte: *mut usize,
+    ) -> u32;
     pub fn koto_next(
         list: *const u32,
         list_len: usize,
