@@ -28,24 +28,13 @@ use Rattle.state.specs.State.{startState}
 use Rattle.stepping.specs.InvariantLaws.{start-ok}
 use Rattle.reading.specs.Reading.{Stop, ended, stuck, deep, Reading}
 use Rattle.reading.specs.ShownLaws.{reading-shown}
+use Rattle.reading.specs.ScanLaws.{room-writes}
 use Rattle.reading.specs.Scan.{endOf, whole, byRoom, readingOf, scanned, writtenBy, written, Scans, countOf}
 use Rattle.reading.specs.declared.Scanned.{Scanned}
 use Rattle.reading.specs.declared.Scanned.the-variants.{Refused}
 use Rattle.kept.specs.Kept.{OldList}
 
 -- ---- by the reading
-
-module _ (n : ℕ) (q : Reading) (rows : List Row) where
-  all-written : writtenBy (byRoom n 0 0 q) rows ≡ rows
-  all-written = by-test Same (ltb n (0 + length (q .rows))) (λ _. refl) (λ _. stops (q .stop))
-    where
-      Same : Scanned → Type 0
-      Same x = writtenBy x rows ≡ rows
-
-      stops : (why : Stop) → writtenBy (whole n (0 + length (q .rows)) (endOf 0 (q .rows)) why) rows ≡ rows
-      stops ended = refl
-      stops stuck = refl
-      stops deep = by-test Same (ltb (0 + length (q .rows)) n) (λ _. refl) (λ _. refl)
 
 counted : (n : ℕ) (q : Reading) → countOf (byRoom n 0 0 q) ≡ length (take n (q .rows))
 counted n q =
@@ -101,7 +90,7 @@ module _ (s table : List ℕ) (edition : ℕ) (old list : List ℕ) (r : Scanned
       let n = room old in
       let q = readingOf s table edition in
       let b = unrefused s table edition n (subst (λ (x : Scanned). 0 < countOf x) (p .answer) h) in
-      let w : written s table edition n ≡ rows = ap (λ (x : Scanned). writtenBy x rows) (b .by-room) ∙ all-written n q rows in
+      let w : written s table edition n ≡ rows = ap (λ (x : Scanned). writtenBy x rows) (b .by-room) ∙ room-writes n 0 0 q rows in
       let c : countOf r ≡ length rows = ap countOf (p .answer ∙ b .by-room) ∙ counted n q in
       let l : list ≡ putRows old rows = p .words ∙ ap (putRows old) w in
       let ok = start-ok s (b .readable .short) (b .readable .well) in

@@ -80,7 +80,7 @@ after-cr b a e n t = ap (λ (x : ℕ). onOpen (pairRule x a) t) e ∙ rw (ne-eqb
 never : (t : Bool) → t ≡ true → t ≡ false → ⊥
 never t e f = let z : _≡_ {A = ℕ} 0 1 = cc in omega arith
 
-module _ (edition : ℕ) (look : ℕ → ℕ) where
+module _ (look : ℕ → ℕ) (edition : ℕ) where
   breaks : (b : ℕ) (left : List ℕ) (p : ℕ) → Breaks (classOf b) (classOf p) → joined edition (b ∷ left) p ≡ false
   breaks b left p e = e (gb9c edition (endsLinked (b ∷ left)) p || (gb11 (endsPictZwj (b ∷ left)) p || gb12 (endsOdd (b ∷ left)) p))
 
@@ -235,7 +235,7 @@ either : {G : Type 0} (s t : Bool) → (s ≡ true → G) → (t ≡ true → G)
 either true t f g e = f refl
 either false t f g e = g e
 
-module _ (edition : ℕ) (look : ℕ → ℕ) (ends : classOf (look lf) ≡ class.lf) (brace : classOf (look curlyClose) ≡ class.cr → ⊥) where
+module _ (look : ℕ → ℕ) (edition : ℕ) (ends : classOf (look lf) ≡ class.lf) (brace : classOf (look curlyClose) ≡ class.cr → ⊥) where
   -- a first cluster that takes the newline has no brace
   first-long : (n j : ℕ) (p q : List ℕ) → n ≡ j + bytesOf p → length p < firstSize look edition (line p q) → Behind n (findBrace j (line p q))
   unfolding findBrace bytesOf
@@ -243,12 +243,12 @@ module _ (edition : ℕ) (look : ℕ → ℕ) (ends : classOf (look lf) ≡ clas
   first-long n j (c ∷ []) q e h =
       by-eq (Behind n) c curlyClose
       (λ f. let k : classOf (look c) ≡ class.cr → ⊥ = λ g. brace (ap (λ (x : ℕ). classOf (look x)) (sym f) ∙ g) in
-      absurd (omega (arith, go-short edition look ends (look c) [] [] q k)))
+      absurd (omega (arith, go-short look edition ends (look c) [] [] q k)))
       (λ _. brace-behind n (j + lenUtf8 c + lenUtf8 lf) q (omega (arith, encode-some lf)))
   first-long n j (c ∷ d ∷ p) q e h =
       split-eq (classOf (look c)) class.cr
-      (λ f. absurd (omega (arith, go-cr edition look (look c) [] f d (line p q))))
-      (λ f. absurd (omega (arith, go-short edition look ends (look c) [] (d ∷ p) q f)))
+      (λ f. absurd (omega (arith, go-cr look edition (look c) [] f d (line p q))))
+      (λ f. absurd (omega (arith, go-short look edition ends (look c) [] (d ∷ p) q f)))
 
   module _ (n : ℕ) (p q r : List ℕ) (l : Lexer) (at : n ≡ reachOf l .byte .0 + bytesOf p) where
     abbrev from : List ℕ → Brace
@@ -299,7 +299,7 @@ module _ (edition : ℕ) (look : ℕ → ℕ) (ends : classOf (look lf) ≡ clas
           let d = drop-whole m p q w in
           let b = brace-line n (i + m) (dropBytes m p) q r (omega (arith, d .1)) in
           let E : Brace → Brace → Type 0 = λ x y. (x ≡ y) ⊎ Behind n x in
-          subst (λ (k : ℕ). E (from q) (findBrace (i + k) (dropBytes k (line p r)))) (skip-line edition look ends p q r short)
+          subst (λ (k : ℕ). E (from q) (findBrace (i + k) (dropBytes k (line p r)))) (skip-line look edition ends p q r short)
           (subst (λ (cs : List ℕ). E (from q) (findBrace (i + m) cs)) (sym (drop-whole m p r w .0))
           (subst (λ (cs : List ℕ). E (findBrace (i + m) cs) (findBrace (i + m) (line (dropBytes m p) r))) (sym (d .0)) b))
 

@@ -123,7 +123,7 @@ module _ (look : ℕ → ℕ) (ok : LineLook look) (n : ℕ) (q r : List ℕ) (l
         (λ _. in-literal-line c (quoteOf (delimiterOf (l .mode))) p e (quote-ascii (delimiterOf (l .mode))) (quote-other (delimiterOf (l .mode))))
         (λ _. pick-when (eqb (tagOf (l .mode)) rawStart) (λ _. raw-line look n p q r l (delimiterOf (l .mode)) e)
         (λ _. pick-when (eqb (tagOf (l .mode)) rawEnd) (λ _. inl refl)
-        (λ _. pick-when (eqb (tagOf (l .mode)) templateExprFormat) (λ _. options-line edition look (ok .line-feed) (ok .brace) n p q r l e)
+        (λ _. pick-when (eqb (tagOf (l .mode)) templateExprFormat) (λ _. options-line look edition (ok .line-feed) (ok .brace) n p q r l e)
         (λ _. code))))
 
     pub take-line : (p : List ℕ) → n ≡ reachOf l .byte .0 + bytesOf p

@@ -1,5 +1,6 @@
 -- What a scan's loop and its callers may use of `Scan`.
 --     fills-none, fills-full, fills-row    a reading with no record; one that has a record and no room; one more record
+--     room-writes                          whatever the room, those records that have it are written
 --     scans-refused                        a scan that a refusal meets before any work
 --     scans-fine                           a scan that none meets
 --     count-room                           a scan counts no more records than the list has room for
@@ -72,7 +73,7 @@ module _ (l : List ℕ) (k b : ℕ) where
 -- ---- a scan
 
 -- whatever the room, those records that have it are written
-room-writes : (n k b : ℕ) (r : Reading) (rows : List Row) → writtenBy (byRoom n k b r) rows ≡ rows
+pub room-writes : (n k b : ℕ) (r : Reading) (rows : List Row) → writtenBy (byRoom n k b r) rows ≡ rows
 room-writes n k b r rows =
     by-test (λ (x : Scanned). writtenBy x rows ≡ rows) (ltb n (k + length (r .rows))) (λ _. refl) (λ _. stops (r .stop))
   where
