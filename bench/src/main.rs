@@ -20,6 +20,7 @@ fn main() {
     );
     scans(&table);
     growth(&table);
+    rescans(&table);
     checks(&table);
     lists(&table);
     walks(&table);
@@ -90,6 +91,53 @@ fn growth(table: &[u32]) {
             "{name:<18} {:>19.2} {:>8.2} {:>8.2} {:>26.2} {:>8.2} {:>8.2}",
             times[0][0], times[1][0], times[2][0], times[0][2], times[1][2], times[2][2]
         );
+    }
+}
+
+/// One letter put into the first, a middle and the last line of scripts: a rescan, a scan, and what is the least of a rescan, comparing both sources
+/// and copying the records before the line
+fn rescans(table: &[u32]) {
+    println!("\none letter put in       kept   rescan    scan  ratio  compare and copy   (microseconds)");
+    for size in [64 * 1024, MEBIBYTE - 1] {
+        let old = inputs::input(0, size);
+        let mut old_list = vec![1; koto_lexer::room_for(old.len())];
+        let old_count = scan(&old, table, &mut old_list);
+        for (name, near) in [("first line", 0), ("middle line", size / 2), ("last line", old.len() - 1)] {
+            // Behind a NewLine of depth 0, or at the start
+            let newline = |r: &&[u32]| r[0] == 2 && r[2] as usize <= near;
+            let place = old_list.chunks(8).take(old_count).filter(newline).next_back().map_or(0, |r| r[2] as usize);
+            let kept = old_list.chunks(8).take(old_count).filter(|r| r[2] as usize <= place).count();
+            let source = [&old[..place], b"x", &old[place..]].concat();
+            let mut list = vec![1; koto_lexer::room_for(source.len())];
+            let mut second = list.clone();
+            let mut third = list.clone();
+            let sides: [Side; 3] = [
+                &mut || {
+                    let old = koto_lexer::Old { source: &old, list: &old_list, count: old_count };
+                    let edit = koto_lexer::Edit { place, removed: 0, put_in: 1 };
+                    match koto_lexer::rescan(old, edit, &source, table, EDITION, &mut list) {
+                        koto_lexer::Rescanned::AsScan(scanned) => scanned.count(),
+                        refused => panic!("the edit was refused: {refused:?}"),
+                    }
+                },
+                &mut || scan(&source, table, &mut second),
+                &mut || {
+                    let same = old[..place] == source[..place] && old[place..] == source[place + 1..];
+                    third[..8 * kept].copy_from_slice(&old_list[..8 * kept]);
+                    kept + usize::from(same)
+                },
+            ];
+            let [ours, fresh, least] = medians(sides, (MEBIBYTE / size).clamp(1, 200));
+            assert_eq!(list, second);
+            println!(
+                "{:>7} B {name:<12} {kept:>7} {:>8.1} {:>7.1} {:>6.2} {:>17.1}",
+                source.len(),
+                ours * 1e6,
+                fresh * 1e6,
+                fresh / ours,
+                least * 1e6
+            );
+        }
     }
 }
 

@@ -1,4 +1,4 @@
-/* kotolex: lists the tokens of a Koto script, checks a list of them, or pads its lines, by libkoto_lexer.a.
+/* kotolex: lists the tokens of a Koto script, afresh or after an edit, checks a list of them, or pads its lines, by libkoto_lexer.a.
  *
  * It prints what the list program koto_list prints, for scripts of up to 1 MiB and with the full property table, and has an exit status of
  * its own for each kind of failure. With --check it says whether a list that another lexer printed so is the script's. With --pad it prints the
@@ -41,6 +41,7 @@ enum {
 
 static const char HELP[] =
     "usage: kotolex FILE [--profile] [--table FILE] [--edition N]\n"
+    "       kotolex FILE --old FILE [--edit PLACE,REMOVED] [--table FILE] [--edition N]\n"
     "       kotolex FILE --check LIST [--table FILE] [--edition N]\n"
     "       kotolex FILE --pad WIDTH [--align default|left|center|right] [--fill CLUSTER] [--table FILE] [--edition N]\n"
     "\n"
@@ -53,6 +54,10 @@ static const char HELP[] =
     "differs with the index of the first token that differs: the smaller of the two counts where only they or the ends differ. The byte of the\n"
     "last line is not compared. A list that was refused differs, and one that has fewer tokens than it counts is refused (8).\n"
     "\n"
+    "With --old it lists them as an editor does after one edit: it scans the old file, and then keeps of its list what stands before the edited\n"
+    "line. What it prints is the same. The edit is found by comparing the two files, or is given: at PLACE so many bytes went, and as many came\n"
+    "as the length says.\n"
+    "\n"
     "With --pad it prints each line of the file padded to so many clusters, the line's own and the fills, and stops with refused at the first\n"
     "line that is refused; the place is one of that line, or of the fill.\n"
     "\n"
@@ -60,6 +65,8 @@ static const char HELP[] =
     "  --table FILE   the property table; without it, " TABLE_FILE " beside the program\n"
     "  --edition N    the edition of Unicode's cluster rules: 1 as before Unicode 15.1, without GB9c; 2, with it, if none is given\n"
     "  --check LIST   the other lexer's list, as this program prints it\n"
+    "  --old FILE     the script before the edit\n"
+    "  --edit P,R     the edit: its place in bytes, and how many bytes it removed; one that does not fit the two files is refused (16)\n"
     "  --pad WIDTH    0 to 4294967295; a longer line is printed as it is\n"
     "  --align SIDE   where the line stands: left, which is the default, center, with the odd fill behind it, or right\n"
     "  --fill CLUSTER what it is padded with; without it, spaces\n"
@@ -73,6 +80,9 @@ typedef struct {
     const char *script;
     const char *table;
     const char *list;
+    /* Of --old; NULL for none. */
+    const char *old;
+    const char *edit;
     /* Of --pad, each a word of the command line; NULL for none. */
     const char *width;
     const char *align;
@@ -99,8 +109,8 @@ static int fail(int status, const char *what, const char *name) {
 
 /* Where the word behind an option goes. NULL for a word that is no such option. */
 static const char **option_of(const char *word, options *to) {
-    static const char *const names[] = {"--table", "--check", "--pad", "--align", "--fill", "--edition"};
-    const char **const places[] = {&to->table, &to->list, &to->width, &to->align, &to->fill, &to->edition};
+    static const char *const names[] = {"--table", "--check", "--old", "--edit", "--pad", "--align", "--fill", "--edition"};
+    const char **const places[] = {&to->table, &to->list, &to->old, &to->edit, &to->width, &to->align, &to->fill, &to->edition};
     for (size_t i = 0; i < sizeof names / sizeof names[0]; i++) {
         if (strcmp(word, names[i]) == 0) {
             return places[i];
@@ -149,9 +159,11 @@ static bool read_options(int argc, char **argv, options *to) {
             to->script = argv[i];
         }
     }
-    bool lists = to->list == NULL && !to->profile;
-    bool pads = to->width != NULL ? lists : to->align == NULL && to->fill == NULL && !(to->list != NULL && to->profile);
-    return to->help || (to->script != NULL && pads);
+    /* One thing at a time; and what belongs to a width or to an old script only with it. */
+    int asked = to->profile + (to->list != NULL) + (to->old != NULL) + (to->width != NULL);
+    bool pads = to->width != NULL || (to->align == NULL && to->fill == NULL);
+    bool edits = to->old != NULL || to->edit == NULL;
+    return to->help || (to->script != NULL && asked <= 1 && pads && edits);
 }
 
 /* The path of the table's file beside the program. False if it can't be told. */
@@ -229,25 +241,118 @@ static void print_records(words list, size_t count) {
     }
 }
 
-/* Scans the script, by the site profile or not, and prints what was written and how it ended. */
-static int list_tokens(bytes script, words table, uint32_t edition, bool profile) {
-    /* A script of n bytes has at most n + n/3 records (docs/PROMISES.md, `never-full`). */
+/* What a scan answers. */
+typedef struct {
+    uint32_t refused;
+    uint32_t end;
+    size_t count;
+    size_t byte;
+} answer;
+
+/* A list for a script. NULL if there is no memory. A script of n bytes has at most n + n/3 records (docs/PROMISES.md, `never-full`). */
+static words list_for(bytes script) {
     words list = {NULL, KOTO_RECORD_WORDS * (script.len + script.len / 3)};
     /* malloc may answer a request for nothing by nothing. */
     list.at = malloc((list.len + 1) * sizeof *list.at);
+    return list;
+}
+
+/* koto_scan, or koto_scan_profile. */
+typedef uint32_t (*scanner)(const uint8_t *, size_t, const uint32_t *, size_t, uint32_t, uint32_t *, size_t, uint32_t *, size_t *, size_t *);
+
+static answer scan(scanner by, bytes script, words table, uint32_t edition, words list) {
+    answer to;
+    to.refused = by(script.at, script.len, table.at, table.len, edition, list.at, list.len, &to.end, &to.count, &to.byte);
+    return to;
+}
+
+/* ---- an edit ---- */
+
+typedef struct {
+    size_t place;
+    size_t removed;
+    size_t put_in;
+} edit;
+
+/* Reads PLACE,REMOVED. False for another word. */
+static bool read_edit(const char *word, edit *to) {
+    const char *comma = strchr(word, ',');
+    char place[20];
+    uint64_t numbers[2];
+    if (comma == NULL || sizeof place <= (size_t)(comma - word)) {
+        return false;
+    }
+    memcpy(place, word, (size_t)(comma - word));
+    place[comma - word] = '\0';
+    if (!read_number(place, &numbers[0]) || !read_number(comma + 1, &numbers[1])) {
+        return false;
+    }
+    to->place = numbers[0];
+    to->removed = numbers[1];
+    return true;
+}
+
+/* The shortest edit that leads from one script to another. */
+static edit find_edit(bytes old, bytes script) {
+    size_t least = old.len < script.len ? old.len : script.len;
+    size_t start = 0, end = 0;
+    while (start < least && old.at[start] == script.at[start]) {
+        start++;
+    }
+    while (end < least - start && old.at[old.len - 1 - end] == script.at[script.len - 1 - end]) {
+        end++;
+    }
+    return (edit){start, old.len - start - end, script.len - start - end};
+}
+
+/* Scans the old script, and then the new one after the edit. */
+static int scan_edited(const options *asked, bytes script, words table, uint32_t edition, words list, answer *to) {
+    bytes old = {NULL, 0};
+    words old_list = {NULL, 0};
+    int status = read_file(asked->old, SCRIPT_ROOM, NO_SCRIPT, &old);
+    if (status == FINE) {
+        old_list = list_for(old);
+        status = old_list.at != NULL ? FINE : fail(NO_MEMORY, "no memory for the list", "");
+    }
+    if (status == FINE) {
+        edit by = find_edit(old, script);
+        if (asked->edit != NULL && read_edit(asked->edit, &by)) {
+            /* What the length says, or a number that fits nothing. */
+            by.put_in = script.len + by.removed - old.len;
+        }
+        answer before = scan(koto_scan, old, table, edition, old_list);
+        to->refused = koto_rescan(old.at, old.len, old_list.at, old_list.len, before.count, by.place, by.removed, by.put_in, script.at,
+                                  script.len, table.at, table.len, edition, list.at, list.len, &to->end, &to->count, &to->byte);
+    }
+    free(old.at);
+    free(old_list.at);
+    return status;
+}
+
+/* Scans the script and prints what was written and how it ended. */
+static int list_tokens(const options *asked, bytes script, words table, uint32_t edition) {
+    words list = list_for(script);
     if (list.at == NULL) {
         return fail(NO_MEMORY, "no memory for the list", "");
     }
-    uint32_t end;
-    size_t count, byte;
-    uint32_t refused = (profile ? koto_scan_profile : koto_scan)(script.at, script.len, table.at, table.len, edition, list.at, list.len,
-                                                                 &end, &count, &byte);
-    print_records(list, count);
-    free(list.at);
-    if (refused != 0) {
-        return print_refused(refused, byte, refused == KOTO_CUT_UTF8 ? STILL_ARRIVING : SCAN_REFUSED);
+    answer said = {0, 0, 0, 0};
+    int status = FINE;
+    if (asked->old == NULL) {
+        said = scan(asked->profile ? koto_scan_profile : koto_scan, script, table, edition, list);
+    } else {
+        status = scan_edited(asked, script, table, edition, list, &said);
     }
-    printf("%s %zu %zu\n", end == KOTO_STUCK ? "stuck" : "end", count, byte);
+    if (status == FINE) {
+        print_records(list, said.count);
+    }
+    free(list.at);
+    if (status != FINE) {
+        return status;
+    }
+    if (said.refused != 0) {
+        return print_refused(said.refused, said.byte, said.refused == KOTO_CUT_UTF8 ? STILL_ARRIVING : SCAN_REFUSED);
+    }
+    printf("%s %zu %zu\n", said.end == KOTO_STUCK ? "stuck" : "end", said.count, said.byte);
     return FINE;
 }
 
@@ -429,7 +534,8 @@ static int pad_lines(bytes text, words table, uint32_t edition, const padding *b
 static int run(const options *asked, uint32_t edition, const char *program) {
     char beside[PATH_ROOM];
     padding by;
-    if (asked->width != NULL && !read_padding(asked, &by)) {
+    edit given;
+    if ((asked->width != NULL && !read_padding(asked, &by)) || (asked->edit != NULL && !read_edit(asked->edit, &given))) {
         fputs(HELP, stderr);
         return BAD_USAGE;
     }
@@ -449,7 +555,7 @@ static int run(const options *asked, uint32_t edition, const char *program) {
     } else if (asked->list != NULL) {
         status = check_list(script, table, edition, asked->list);
     } else {
-        status = list_tokens(script, table, edition, asked->profile);
+        status = list_tokens(asked, script, table, edition);
     }
     free(script.at);
     free(table.at);
@@ -457,7 +563,7 @@ static int run(const options *asked, uint32_t edition, const char *program) {
 }
 
 int main(int argc, char **argv) {
-    options asked = {NULL, NULL, NULL, NULL, NULL, NULL, NULL, false, false};
+    options asked = {NULL, NULL, NULL, NULL, NULL, NULL, NULL, NULL, NULL, false, false};
     uint32_t edition = KOTO_WITH_GB9C;
     int status = FINE;
     if (!read_options(argc, argv, &asked) || (asked.edition != NULL && !read_number_32(asked.edition, &edition))) {
