@@ -13,7 +13,8 @@ use Rattle.pool_rows.specs.declared.Counts.{Counts}
 use Rattle.pool_lent.specs.Entries.{entryOf}
 use Rattle.pool_lent.specs.declared.Entry.{Entry}
 use Rattle.parse.specs.Numbers.{noNumber}
-use Rattle.wrong_answers.specs.Wrong.{Wrong, readChar, checkUtf8, checkTable, readTable, firstCluster, scan, next, peek, lookAhead, addString, parse}
+use Rattle.compact.specs.Compact.{gone}
+use Rattle.wrong_answers.specs.Wrong.{Wrong, readChar, checkUtf8, checkTable, readTable, firstCluster, scan, next, peek, lookAhead, addString, parse, compact}
 
 -- ---- what goes in
 
@@ -63,6 +64,10 @@ zeros n = replicate (8 * n) 0
 -- a record's eight numbers, of a token on the first line and without an indent: kind, detail and depth, bytes, columns
 abbrev row : ℕ → ℕ → ℕ → ℕ → ℕ → List ℕ
 row kind detail depth start end = (kind + 128 * detail + 1048576 * depth) ∷ start ∷ end ∷ 0 ∷ start ∷ 0 ∷ end ∷ 0 ∷ []
+
+-- those of a token of one byte, with this first number
+abbrev begun : ℕ → List ℕ
+begun first = first ∷ drop 1 (row 0 0 0 0 1)
 
 -- a record's numbers as a call shows them, at depth 0
 abbrev shows : ℕ → ℕ → ℕ → ℕ → List ℕ
@@ -235,6 +240,14 @@ ofCursors =
     ∷ next (zeros 1) 0 65536 1 stuckNumber 0 65535 1 (shows kind.error 0 0 0) 0 0
     -- refusal 8 comes before 9
     ∷ next aSpace 3 0 2 endNumber 3 0 0 shownNothing 0 9
+    -- kinds go from 0 to 80
+    ∷ next (begun 81) 0 0 1 endNumber 1 0 1 (shows 81 0 0 1) 0 0
+    -- a lexer has at most 64 modes
+    ∷ next (begun (kind.id + 1048576 * 65)) 0 0 1 endNumber 1 0 1 (kind.id ∷ 0 ∷ 0 ∷ 1 ∷ 0 ∷ 0 ∷ 0 ∷ 1 ∷ 0 ∷ 65 ∷ []) 0 0
+    -- no bit above the depth is set in a record that is shown
+    ∷ next (begun (kind.id + 268435456)) 0 0 1 endNumber 1 0 1 (shows kind.id 0 0 1) 0 0
+    -- the detail has 13 bits, and the depth stands above them
+    ∷ next (row kind.id 0 1 0 1) 0 0 1 endNumber 1 0 1 (kind.id ∷ 8192 ∷ 0 ∷ 1 ∷ 0 ∷ 0 ∷ 0 ∷ 1 ∷ 0 ∷ 1 ∷ []) 0 0
     -- a look one past the queue queues and shows nothing, against the comment in the Rust
     ∷ peek aSpace 0 0 2 endNumber 1 0 1 (shows kind.whitespace 0 1 2) 0 0
     ∷ peek aSpace 0 0 2 endNumber 1 1 0 shownNothing 0 0
@@ -276,4 +289,36 @@ ofPools =
     (0 ∷ noNumber ∷ noNumber ∷ 0 ∷ noNumber ∷ noNumber ∷ noNumber ∷ []) 0 0
     -- a format string can add two strings, its fill and "0"
     ∷ parse (bytes "a<05") smallTable withGB9c poolBytes poolEntries (counts 1 1) poolBytes poolEntries (counts 1 1) (fillAt 1 5 2 0) 0 0
+    ∷ []
+
+-- ---- a pool that two desks share
+
+-- the first desk added "a" and "c", the second "b"; each is guaranteed an entry and a byte, and there is room for three entries and four bytes
+abbrev sharedBytes : List ℕ
+sharedBytes = bytes "abc" ++ (0 ∷ [])
+
+abbrev sharedEntries : List ℕ
+sharedEntries = 0 ∷ 1 ∷ 1 ∷ 1 ∷ 2 ∷ 1 ∷ []
+
+abbrev sharedOwners : List ℕ
+sharedOwners = 0 ∷ 1 ∷ 0 ∷ []
+
+-- both desks, charged so many entries and bytes
+abbrev charged : ℕ → ℕ → List ℕ
+charged one two = 1 ∷ 1 ∷ one ∷ one ∷ 1 ∷ 1 ∷ two ∷ two ∷ []
+
+abbrev pub ofDesks : List Wrong
+ofDesks =
+    -- kept strings move together in order
+    compact (0 ∷ []) (2 ∷ []) sharedBytes sharedEntries sharedOwners (3 ∷ 3 ∷ []) (charged 2 1) (7 ∷ 7 ∷ 7 ∷ [])
+    (bytes "cac" ++ (0 ∷ [])) sharedEntries (0 ∷ 0 ∷ 0 ∷ []) (2 ∷ 2 ∷ []) (charged 2 0) (1 ∷ gone ∷ 0 ∷ []) 0
+    -- a string that is kept stays charged to the desk that added it, and not to the one that marked it
+    ∷ compact [] (0 ∷ []) sharedBytes sharedEntries sharedOwners (3 ∷ 3 ∷ []) (charged 2 1) (7 ∷ 7 ∷ 7 ∷ [])
+    sharedBytes sharedEntries sharedOwners (1 ∷ 1 ∷ []) (charged 0 1) (0 ∷ gone ∷ gone ∷ []) 0
+    -- an index that was never given is refused, and the row stays
+    ∷ compact (3 ∷ []) [] sharedBytes sharedEntries sharedOwners (3 ∷ 3 ∷ []) (charged 2 1) (7 ∷ 7 ∷ 7 ∷ [])
+    sharedBytes sharedEntries sharedOwners (3 ∷ 3 ∷ []) (charged 2 1) (gone ∷ gone ∷ gone ∷ []) 20
+    -- bytes move down from the front: from the back they would be written over before they are read
+    ∷ compact (1 ∷ []) [] (bytes "abcd") (0 ∷ 1 ∷ 1 ∷ 3 ∷ []) (0 ∷ 0 ∷ []) (2 ∷ 4 ∷ []) (0 ∷ 0 ∷ 2 ∷ 4 ∷ 0 ∷ 0 ∷ 0 ∷ 0 ∷ []) (7 ∷ 7 ∷ [])
+    (bytes "dddd") (0 ∷ 3 ∷ 1 ∷ 3 ∷ []) (0 ∷ 0 ∷ []) (1 ∷ 3 ∷ []) (0 ∷ 0 ∷ 1 ∷ 3 ∷ 0 ∷ 0 ∷ 0 ∷ 0 ∷ []) (gone ∷ 0 ∷ []) 0
     ∷ []

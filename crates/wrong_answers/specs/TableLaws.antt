@@ -40,10 +40,13 @@ use Rattle.parse.specs.Call as parse
 use Rattle.parse.specs.Numbers as numbers
 use Rattle.koto_lexer.specs.Cursors.{nextBy, nextTold, peekBy, lookBy}
 use Rattle.koto_pool.specs.Formats.{parsed}
+use Rattle.desks.specs.Desks.{heldBy, sharedOut, fitDesks}
+use Rattle.compact.specs.Compact as compact
+use Rattle.koto_desks.specs.Words.{countWords, deskWords, lentBy}
 use Rattle.promises.specs.CasesLaws.{formats-computed}
 use Rattle.wrong_answers.specs.Wrong as wrong
 use Rattle.wrong_answers.specs.Wrong.{Wrong, Meets, ShutOut, AllShutOut}
-use Rattle.wrong_answers.specs.Table.{ofBytes, ofTables, ofClusters, ofScans, ofCursors, ofPools}
+use Rattle.wrong_answers.specs.Table.{ofBytes, ofTables, ofClusters, ofScans, ofCursors, ofPools, ofDesks}
 
 -- ---- the numbers of an answer
 
@@ -62,6 +65,8 @@ tells (wrong.addString string bytes entries counts newBytes newEntries newCounts
     r ∷ index ∷ place ∷ newCounts .entries ∷ newCounts .bytes ∷ newBytes ++ numbersOf newEntries
 tells (wrong.parse format table edition bytes entries counts newBytes newEntries newCounts options value r) =
     r ∷ value ∷ newCounts .entries ∷ newCounts .bytes ∷ options ++ newBytes ++ numbersOf newEntries
+tells (wrong.compact first second bytes entries owners counts desks moved newBytes newEntries newOwners newCounts newDesks newMoved r) =
+    r ∷ newMoved ++ newBytes ++ newEntries ++ newOwners ++ newCounts ++ newDesks
 
 -- a look's
 abbrev lookTold : Peeked → ℕ → ℕ → List ℕ
@@ -79,6 +84,12 @@ abbrev comesTold : parse.Comes → List ℕ
 comesTold c =
     parse.numberOf (c .answer) ∷ parse.valueOf (c .answer) ∷ c .pool .counts .entries ∷ c .pool .counts .bytes
     ∷ numbers.numbersOf (c .answer) ++ c .pool .bytes ++ c .pool .entries
+
+-- a compaction's
+abbrev compactTold : compact.Comes → List ℕ
+compactTold c =
+    compact.numberOf (c .answer) ∷ c .moved ++ c .state .bytes ++ c .state .entries ++ c .state .owners ++ countWords (c .state .counts)
+    ++ deskWords (c .state .desks)
 
 -- what the contract says of them
 abbrev told : Wrong → List ℕ
@@ -106,6 +117,8 @@ told (wrong.addString string bytes entries counts newBytes newEntries newCounts 
     addedTold answer counts (pool.bytesAfter string counts answer bytes) (pool.entriesAfter string counts answer (numbersOf entries))
 told (wrong.parse format table edition bytes entries counts newBytes newEntries newCounts options value r) =
     comesTold (parsed format table edition bytes entries counts)
+told (wrong.compact first second bytes entries owners counts desks moved newBytes newEntries newOwners newCounts newDesks newMoved r) =
+    compactTold (compact.call first second (lentBy bytes entries owners counts desks) moved)
 
 -- ---- an answer that meets the contract tells these
 
@@ -131,6 +144,10 @@ meets-told (wrong.parse format table edition bytes entries counts newBytes newEn
     λ i.
     p .told .number i ∷ p .told .value-is i ∷ p .counts-left i .entries ∷ p .counts-left i .bytes
     ∷ p .told .options-are i ++ p .bytes-left i ++ p .entries-left i
+meets-told (wrong.compact first second bytes entries owners counts desks moved newBytes newEntries newOwners newCounts newDesks newMoved r) p =
+    λ i.
+    p .number i ∷ p .moved-left i ++ p .left .bytes-left i ++ p .left .entries-left i ++ p .left .owners-left i ++ p .left .counts-left i
+    ++ p .left .desks-left i
 
 -- ---- and those of a wrong one are others
 
@@ -183,3 +200,8 @@ cursors-shut-out = others-shut-out ofCursors refl
 pub pools-shut-out : AllShutOut ofPools
 unfolding formats-computed numbersOf
 pools-shut-out = others-shut-out ofPools refl
+
+pub desks-shut-out : AllShutOut ofDesks
+unfolding formats-computed heldBy sharedOut fitDesks compact.kept compact.newIndex compact.translated compact.joined compact.laidOut compact.isIn
+    compact.allGiven compact.goodMarks compact.call
+desks-shut-out = others-shut-out ofDesks refl

@@ -13,6 +13,8 @@ use Rattle.koto_lexer.specs.Scans.{ScanIs}
 use Rattle.koto_lexer.specs.Cursors.{NextIs, PeekIs, LookAheadIs}
 use Rattle.koto_pool.specs.Pools.{AddStringIs}
 use Rattle.koto_pool.specs.Formats.{ParseIs}
+use Rattle.koto_desks.specs.Words.{lentBy}
+use Rattle.koto_desks.specs.Compacts.{CompactIs}
 
 -- what goes in, then what comes out: the words that are left, and last the number that is returned
 pub data Wrong : Type 0 where
@@ -39,6 +41,8 @@ pub data Wrong : Type 0 where
   -- format string, table, edition, pool; pool, options, value
   parse : (format table : List ℕ) (edition : ℕ) (bytes : List ℕ) (entries : List Entry) (counts : Counts) (newBytes : List ℕ)
       (newEntries : List Entry) (newCounts : Counts) (options : List ℕ) (value r : ℕ) → Wrong
+  -- marks of both desks, pool, owners, counts, desks, translation row; what is left of the rows
+  compact : (first second bytes entries owners counts desks moved newBytes newEntries newOwners newCounts newDesks newMoved : List ℕ) (r : ℕ) → Wrong
 
 -- it meets the call's contract
 abbrev pub Meets : Wrong → Type 0
@@ -57,6 +61,8 @@ Meets (addString string bytes entries counts newBytes newEntries newCounts index
     AddStringIs string bytes entries counts newBytes newEntries newCounts index place r
 Meets (parse format table edition bytes entries counts newBytes newEntries newCounts options value r) =
     ParseIs format table edition bytes entries counts newBytes newEntries newCounts options value r
+Meets (compact first second bytes entries owners counts desks moved newBytes newEntries newOwners newCounts newDesks newMoved r) =
+    CompactIs first second (lentBy bytes entries owners counts desks) moved newBytes newEntries newOwners newCounts newDesks newMoved r
 
 -- and so no program gives it
 abbrev pub ShutOut : Wrong → Type 0
