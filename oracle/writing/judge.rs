@@ -28,7 +28,8 @@ pub struct Host {
 }
 
 pub const NEWER: Host = Host { name: "newer", judge: &koto_real::JUDGE, table: kpt::full, edition: 2 };
-pub const LEFT_OUT: Host = Host { name: "newer without GB9c", judge: &koto_left_out::JUDGE, table: kpt::full, edition: 1 };
+pub const LEFT_OUT: Host =
+    Host { name: "newer without GB9c", judge: &koto_left_out::JUDGE, table: kpt::full, edition: 1 };
 pub const OLDER: Host = Host { name: "older", judge: &koto_older::JUDGE, table: kpt::older, edition: 1 };
 pub const HOSTS: [Host; 3] = [NEWER, LEFT_OUT, OLDER];
 

@@ -201,7 +201,9 @@ impl Run {
         for len in FORMAT_MOST - 15..=FORMAT_MOST + 2 {
             let marks = [b"a".to_vec(), "\u{301}".repeat(len / 2).into_bytes()].concat()[..len].to_vec();
             for fill in [marks, vec![b'x'; len]] {
-                for (alignment, width, precision) in [(0, NONE, NONE), (1, NONE, NONE), (2, 1234567890, NONE), (3, 0, 99)] {
+                for (alignment, width, precision) in
+                    [(0, NONE, NONE), (1, NONE, NONE), (2, 1234567890, NONE), (3, 0, 99)]
+                {
                     let options = Options { alignment, width, precision, fill: Some(fill.clone()), ..plain };
                     self.ask_first(&options, &NEWER, &table, 2);
                 }
@@ -211,7 +213,8 @@ impl Run {
         let mut falls = table.clone();
         falls[7] = falls[6];
         let long = vec![0; 8001];
-        let tables: [(&[u32], Option<usize>); 4] = [(&table, None), (&[], Some(0)), (&long, Some(0)), (&falls, Some(7))];
+        let tables: [(&[u32], Option<usize>); 4] =
+            [(&table, None), (&[], Some(0)), (&long, Some(0)), (&falls, Some(7))];
         for (alignment, representation) in
             [0, 1, 2, 3, 4, 1 << 32, NONE].into_iter().flat_map(|a| [0, 6, 7, 1 << 32, NONE].map(|r| (a, r)))
         {
@@ -310,7 +313,11 @@ fn few_options() -> Vec<(Options, usize)> {
             for precision in numbers {
                 for representation in [NONE, 0, 5] {
                     let dot = usize::from(precision != NONE);
-                    let more = usize::from(alignment != 0) + letters(width) + dot + letters(precision) + usize::from(representation != NONE);
+                    let more = usize::from(alignment != 0)
+                        + letters(width)
+                        + dot
+                        + letters(precision)
+                        + usize::from(representation != NONE);
                     all.push((Options { alignment, width, precision, representation, fill: None }, more));
                 }
             }
