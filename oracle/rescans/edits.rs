@@ -7,6 +7,57 @@ const PIECES: [&str; 34] = [
     "r'", "r#\"", "'#", "\\", "\u{E9}", "\u{6F22}", "e\u{301}", "else ", "if", "\r", "\u{20AC}",
 ];
 
+/// Lines as scripts have them; a session's script is made of these, so that most of its newlines have depth 0
+const LINES: [&str; 28] = [
+    "# Engines of the north ramp",
+    "engines = []",
+    "let rating = 310.5 # kW",
+    "export idle_codes = (0x1f, 0b101, 7)",
+    "add_engine = |name, power, idle = false|",
+    "  engines.push {name, power: power * 1.05, idle}",
+    "  if power > 250 and not idle",
+    "    print 'large: {name:>12} {power:08.2} kW'",
+    "  else if power == 0",
+    "    throw \"no power for {name}\"",
+    "  else",
+    "    return null",
+    "for engine in engines.keep |e| e.power >= 100",
+    "  total += engine.power",
+    "#- what follows is measured",
+    "   twice a day -#",
+    "path = r'C:\\shafts\\{n}'",
+    "label = r#\"a \"raw\" label\"#",
+    "match engine.code",
+    "  1..=5 then 'idle: {if x then 'yes' else 'no'}'",
+    "  else debug engine",
+    "air = {co2: 0.4, no_x: '{rating}', caf\u{E9}: '\u{6F22}\u{5B57}'}",
+    "text = 'two",
+    "lines'",
+    "x = (1 + 2) * y % 3 -> z",
+    "",
+    "\t@type = 'vent'",
+    "while true",
+];
+
+/// A script of so many lines, some of which end in CR LF
+pub fn script(dice: &mut Dice, lines: usize) -> Vec<u8> {
+    let mut text = String::new();
+    for _ in 0..lines {
+        // Two lines belong together: a comment's and a string's.
+        let at = dice.below(LINES.len());
+        let whole = match LINES[at] {
+            "   twice a day -#" | "lines'" => at - 1..at + 1,
+            "#- what follows is measured" | "text = 'two" => at..at + 2,
+            _ => at..at + 1,
+        };
+        for line in &LINES[whole] {
+            text += line;
+            text += if dice.below(6) == 0 { "\r\n" } else { "\n" };
+        }
+    }
+    text.into_bytes()
+}
+
 /// The edit's place, how many bytes it removes, and what it puts in
 pub type Edit = (usize, usize, Vec<u8>);
 
@@ -52,6 +103,16 @@ pub fn typed(dice: &mut Dice, text: &[u8]) -> Edit {
         put += PIECES[dice.below(PIECES.len())];
     }
     (at, end - at, put.into_bytes())
+}
+
+/// Whole lines put in at the start or the end, or all but the first hundred lines gone
+pub fn lines(dice: &mut Dice, text: &[u8], more: bool) -> Edit {
+    let at = [0, text.len()][dice.below(2)];
+    if more {
+        return (at, 0, script(dice, 2));
+    }
+    let hundred = text.iter().enumerate().filter(|(_, byte)| **byte == b'\n').nth(99).map_or(text.len(), |(at, _)| at + 1);
+    (hundred, text.len() - hundred, vec![])
 }
 
 pub fn made(text: &[u8], (place, removed, put_in): &Edit) -> Vec<u8> {

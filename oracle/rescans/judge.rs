@@ -91,6 +91,10 @@ pub fn answer(asked: &Asked, judge: &Judge, room: usize) -> Wanted {
     for record in &scan.records {
         words.extend(moved(record, bytes, lines));
     }
+    // An Error that stands still has the range of the token before it, which is the last that was kept.
+    if kept > 0 && matches!(scan.status, Status::Stuck) && scan.records.len() == 1 {
+        words.copy_within(8 * kept - 7..8 * kept - 1, 8 * kept + 1);
+    }
     let all = words.len() / 8;
     let (number, status, byte) = match scan.status {
         Status::End => (0, 0, scan.place + bytes as usize),

@@ -36,7 +36,7 @@ const SHOWN_MOST: usize = 10;
 const BEFORE: u32 = 0xDEAD_BEEF;
 const SOURCE_ROOM: usize = SOURCE_MOST + 64;
 const LIST_ROOM: usize = 8 * (SOURCE_ROOM + SOURCE_ROOM / 3) + 64;
-/// A session's script is cut back above this many bytes.
+/// A session's script gets new lines below so many bytes, and loses some above.
 const SESSION_MOST: usize = 6000;
 const SESSION_EDITS: usize = 5000;
 
@@ -49,8 +49,9 @@ struct Run {
     lent_table: Arena<u32>,
     list: Arena<u32>,
     answers: BTreeMap<u32, u64>,
-    /// How many calls kept a record, and how many kept records there were
+    /// How many calls kept a record, how many of them after an edit of a session, and how many kept records there were
     keeping: u64,
+    in_sessions: u64,
     kept: u64,
     edits: u64,
     differences: usize,
@@ -77,13 +78,14 @@ fn main() {
         list: Arena::new(LIST_ROOM),
         answers: BTreeMap::new(),
         keeping: 0,
+        in_sessions: 0,
         kept: 0,
         edits: 0,
         differences: 0,
     };
     let mut dice = Dice::new(seed);
     run.limits(&mut dice);
-    while run.edits < count as u64 / 100 {
+    while run.edits < count as u64 / 20 {
         run.session(&mut dice);
     }
     for _ in 0..count {
@@ -189,20 +191,22 @@ impl Run {
     /// An editor's session: thousands of edits in a row, each list made from the one before, against a fresh scan and against koto.
     fn session(&mut self, dice: &mut Dice) {
         let edition = 1 + dice.below(2) as u32;
-        let mut text = vec![];
-        for _ in 0..40 {
-            text.extend(scripts::script(dice));
-        }
+        let mut text = edits::script(dice, 150);
         let room = room_for(&text);
         let (first, mut list) = self.scan(&text, edition, room);
         let mut count = first.1.1;
+        // What undoes the last edits, newest last: what is typed amiss is put right again after some edits, and what stays are whole lines.
+        let mut undo: Vec<edits::Edit> = vec![];
         for _ in 0..SESSION_EDITS {
-            let mut edit = edits::typed(dice, &text);
-            if text.len() > SESSION_MOST {
-                // Some lines go, from a character on to a character.
-                let end = (0..=2000).rev().find(|&at| text[at] & 0xC0 != 0x80).expect("a character within 2,000 bytes");
-                edit = (0, end, vec![]);
-            }
+            let edit = if undo.len() > dice.below(5) {
+                undo.pop().expect("an edit to undo")
+            } else if undo.is_empty() && dice.below(4) == 0 {
+                edits::lines(dice, &text, text.len() < SESSION_MOST)
+            } else {
+                let edit = edits::typed(dice, &text);
+                undo.push((edit.0, edit.2.len(), text[edit.0..edit.0 + edit.1].to_vec()));
+                edit
+            };
             let source = edits::made(&text, &edit);
             let room = room_for(&source);
             let (fresh, words) = self.scan(&source, edition, room);
@@ -219,6 +223,7 @@ impl Run {
             };
             let wanted = Wanted { said: fresh, words: words[..8 * fresh.1.1].to_vec() };
             self.ask(&asked, 8 * room, &wanted);
+            self.in_sessions += u64::from(judge::kept(&asked) > 0);
             self.by_judge(&asked, 8 * room);
             // koto's own list of the whole new source, with nothing kept
             let whole = judge::answer(&Asked { count: 0, ..asked.clone() }, judge_of(edition), room);
@@ -344,7 +349,8 @@ impl Run {
         });
         println!("koto_rescan: {}", shown.collect::<Vec<_>>().join(", "));
         let calls: u64 = self.answers.values().sum();
-        println!("{} edits in sessions; {} calls kept records, {} in all", self.edits, self.keeping, self.kept);
+        println!("{} edits in sessions, of which {} kept records", self.edits, self.in_sessions);
+        println!("{} calls kept records, {} in all", self.keeping, self.kept);
         println!("{calls} calls, {}", if fine { "no difference" } else { "DIFFERENT" });
         fine
     }
