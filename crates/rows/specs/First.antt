@@ -10,13 +10,15 @@ use Rattle.rows.specs.declared.Row.{Row}
 use Rattle.rows.specs.declared.RowAt.{RowAt}
 use Rattle.rows.specs.declared.RowAt.the-variants.{Fit, Unfit}
 
--- how many kinds, details and depths the first number has room for
+-- how many kinds it has room for
 abbrev pub kindRoom : ℕ
 kindRoom = 128
 
+-- how many details
 abbrev pub detailRoom : ℕ
 detailRoom = 8192
 
+-- and how many depths
 abbrev pub depthRoom : ℕ
 depthRoom = 256
 
@@ -40,15 +42,19 @@ pub record Packs (r : Row) : Type 0 where
 
 -- ---- its parts
 
+-- bits 0 to 6
 abbrev pub kindIn : ℕ → ℕ
 kindIn first = first % kindRoom
 
+-- bits 7 to 19
 abbrev pub detailIn : ℕ → ℕ
 detailIn first = first / kindRoom % detailRoom
 
+-- bits 20 to 27
 abbrev pub depthIn : ℕ → ℕ
 depthIn first = first / depthUnit % depthRoom
 
+-- the bits above the depth, from 28 on
 abbrev pub aboveIn : ℕ → ℕ
 aboveIn first = first / aboveUnit
 

@@ -7,7 +7,7 @@
 -- Assumes nothing.
 use Prim.Native.Nat.{ℕ, zero, suc, _≤_, _<_}
 use native.Mathlib.Omega.{arith}
-use mathlib.Core.Path.{_≡_, refl, sym, ap, subst, _∙_}
+use mathlib.Core.Path.{_≡_, refl, sym, ap, _∙_}
 use mathlib.Core.List.{List, [], _∷_}
 use mathlib.Core.Option.{Option, none, some}
 use lib.ListN.{length}
@@ -22,7 +22,7 @@ use Rattle.lexer.specs.GetNextToken.{takeToken, remainingAt}
 use Rattle.reading.specs.Reading.{Reading}
 use Rattle.queue.specs.Queue.{get}
 use Rattle.queue.specs.StreamLaws.{get-past}
-use Rattle.rust.specs.TokenLexer.{TokenLexer, viewOf, Given, givenAt, getNextToken, lexedOf, lexed, stateAt, handed}
+use Rattle.rust.specs.TokenLexer.{TokenLexer, viewOf, givenAt, getNextToken, lexedOf, lexed, stateAt, handed}
 use Rattle.rust.specs.Hands.{Hands}
 
 -- two counts that differ by at most one

@@ -1,6 +1,6 @@
 // The scan of a whole source into a lent list of records: lexer.rs's `TokenLexer` asked for its next token until nothing is left.
 //
-// It reads a token with the crate `lexer`, which knows no list, and stores its record with the crate `token`, which knows no source. What it
+// It reads a token with the crate `lexer`, which knows no list, and stores its record with the crate `rows`, which knows no source. What it
 // must answer and write stands in the crate `reading`.
 ghost use mathlib.Core.Path.{_≡_};
 ghost use mathlib.Core.List.{[]};
