@@ -74,7 +74,7 @@ pub fn by_host(run: &mut Run, dice: &mut Dice, source: &[u8], host: &Host) -> (V
     };
     run.tally.count("sources", host.name);
     let list = scan(run, source, room, host, dice);
-    if source.len() < 10_000 || dice.below(4) == 0 {
+    if source.len() < 10_000 || source.len() > SOURCE_MOST || dice.below(4) == 0 {
         foreign::one(run, dice, source, host);
     }
     (list, first_cluster(run, source, host))
