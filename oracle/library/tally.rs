@@ -4,7 +4,7 @@ use std::collections::{BTreeMap, HashSet};
 use std::hash::{DefaultHasher, Hash, Hasher};
 
 /// Each call, and the answers that it must have given at least once
-const WANTED: [(&str, &[u32]); 12] = [
+const WANTED: [(&str, &[u32]); 13] = [
     ("read_char", &[0, 3, 15]),
     ("check_utf8", &[0, 3, 15]),
     ("check_table", &[0, 2]),
