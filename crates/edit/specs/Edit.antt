@@ -1,5 +1,5 @@
--- Document 02, C-7: an edit is three numbers: its place, how many bytes are removed there, and how many are put in. Here is said when it fits
--- two sources, and where the line starts in which it stands ("a line starts after each "\n" byte").
+-- Document 02, C-7: an edit is three numbers: its place, how many bytes are removed there, and how many are put in. Here is said when it
+-- fits two sources, and where the line starts in which it stands ("a line starts after each "\n" byte").
 -- Assumes nothing.
 use Prim.Native.Nat.{ℕ, zero, suc, _+_, _-_, _≤_}
 use mathlib.Core.Path.{_≡_}

@@ -1,5 +1,6 @@
-// An edit of a source (document 02, C-7), told in three numbers: its place, how many bytes are removed there, and how many are put in. Whether
-// it leads from one source to another, and where the line begins in which it stands. It knows bytes alone: no UTF-8, no tokens and no lists.
+// An edit of a source (document 02, C-7), told in three numbers: its place, how many bytes are removed there, and how many are put in.
+// Whether it leads from one source to another, and where the line begins in which it stands. It knows bytes alone: no UTF-8, no tokens and
+// no lists.
 ghost use mathlib.Core.Path.{_≡_};
 ghost use Prim.Native.Nat.{_+_, _≤_};
 ghost use lib.ListN.{length};

@@ -1,10 +1,10 @@
 -- Document 02, C-7: which records of an old list are kept. A line of its source is edited that starts at the byte `line`, and t is the new
--- source. "Records are kept only if they chain from zero in bytes and spans, no end before its start, and the last of them is a NewLine record
--- of depth 0 over a newline of the new source, with end column 0 and end line at most its byte end."
+-- source. "Records are kept only if they chain from zero in bytes and spans, no end before its start, and the last of them is a NewLine
+-- record of depth 0 over a newline of the new source, with end column 0 and end line at most its byte end."
 -- Assumes nothing.
 use Prim.Native.Nat.{ℕ, zero, suc, _+_, _≤_, _<_}
 use mathlib.Core.Path.{_≡_}
-use mathlib.Core.Bool.{Bool, true, false, _&&_, _||_}
+use mathlib.Core.Bool.{Bool, true, _&&_, _||_}
 use mathlib.Core.List.{List}
 use lib.Dec.{eqb, leb, ltb}
 use lib.ListN.{getD}
@@ -61,8 +61,8 @@ overNewline t r =
     pick (eqb (r .end) (r .start + 1)) (eqb (getD t (r .start) 0) lf)
     (eqb (r .end) (r .start + 2) && (eqb (getD t (r .start) 0) cr && eqb (getD t (r .start + 1) 0) lf))
 
--- a record with this first number may be the last: it ends where the line starts, is a NewLine of depth 0 and nothing else, and stands over a
--- newline, with end column 0 and end line at most its byte end
+-- a record with this first number may be the last: it ends where the line starts, is a NewLine of depth 0 and nothing else, and stands over
+-- a newline, with end column 0 and end line at most its byte end
 unfoldable pub closes : List ℕ → ℕ → ℕ → Row → Bool
 closes t line first r =
     eqb (r .end) line

@@ -1,5 +1,5 @@
-// Which records of an old list are kept when a line of its source is edited (document 02, C-7): those up to the NewLine before the line, if they
-// chain. It is asked of any list, whoever made it, in one pass. It knows no edit, no state and no reading.
+// Which records of an old list are kept when a line of its source is edited (document 02, C-7): those up to the NewLine before the line, if
+// they chain. It is asked of any list, whoever made it, in one pass. It knows no edit, no state and no reading.
 ghost use mathlib.Core.Path.{_≡_};
 ghost use Prim.Native.Nat.{_≤_, _<_};
 ghost use lib.ListN.{length};
@@ -114,8 +114,8 @@ fn is_last(source: &[u8], line: usize, first: u32, row: Row) -> bool
     is_over_newline(source, row)
 }
 
-// How many records of an old list are kept, where the edited line starts at `line` in the new source: all up to the first that ends there or
-// behind, or none.
+// How many records of an old list are kept, where the edited line starts at `line` in the new source: all up to the first that ends there
+// or behind, or none.
 pub fn kept_rows(source: &[u8], line: usize, list: &[u32], count: usize) -> usize
     requires { ⌜ (line ≤ length (now source)) × (count ≤ room (now list)) ⌝ }
     ensures { λ r. ⌜ r ≡ keptRows (now (source .entry)) line (now (list .entry)) count ⌝ }

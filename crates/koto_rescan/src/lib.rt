@@ -1,5 +1,5 @@
-// The rescan for C (include/koto_lexer.h). It is a library of its own, so that `koto_lexer` is proved without it; `tools/archive` puts both into
-// one archive. So it is compiled with a copy of the scan's loop of its own, and `koto_scan` is not compiled anew for a second caller.
+// The rescan for C (include/koto_lexer.h). It is a library of its own, so that `koto_lexer` is proved without it; `tools/archive` puts both
+// into one archive. So it is compiled with a copy of the scan's loop of its own, and `koto_scan` is not compiled anew for a second caller.
 //
 // As there, the call takes every input, calls the inner function of its name, and hands its answer out as numbers, all of which every call
 // writes.
@@ -7,10 +7,10 @@ ghost use Rattle.koto_rescan.specs.Rescans.{editOf, RescanIs};
 use edit::Edit;
 use rescan::answer;
 
-// Writes the records of a source at the start of the list, after an edit that led to it from an old source; those before the edited line are
-// taken from the old list. Every word past them stays. Refused are what `koto_scan` refuses of the new source before any work, then an edit that
-// does not lead from the old source to the new one with 16, then an old list that is shorter than its count with 8, each before a word is
-// written; then as `koto_scan` with 4 or 5.
+// Writes the records of a source at the start of the list, after an edit that led to it from an old source; those before the edited line
+// are taken from the old list. Every word past them stays. Refused are what `koto_scan` refuses of the new source before any work, then an
+// edit that does not lead from the old source to the new one with 16, then an old list that is shorter than its count with 8, each before a
+// word is written; then as `koto_scan` with 4 or 5.
 #[no_mangle]
 pub extern "C" fn koto_rescan(
     old: &[u8],

@@ -1,6 +1,6 @@
--- Document 02, C-7: what a rescan answers and writes, for any old list: refusals 1, 17, 2, 3 or 15 on the new source, 16, and 8, in this order,
--- which write nothing; then the kept records, copied word for word, as many as have room, and behind them what is read from there, as in a
--- scan. Where no record is kept, that is the whole reading.
+-- Document 02, C-7: what a rescan answers and writes, for any old list: refusals 1, 17, 2, 3 or 15 on the new source, 16, and 8, in this
+-- order, which write nothing; then the kept records, copied word for word, as many as have room, and behind them what is read from there,
+-- as in a scan. Where no record is kept, that is the whole reading.
 -- Assumes nothing.
 use Prim.Native.Nat.{ℕ, _-_}
 use mathlib.Core.Path.{_≡_}

@@ -1,8 +1,8 @@
-// The list of a source after one edited line (document 02, C-7): the records before the line are kept as they stand in the old list, and the
-// rest is read from there, into a second list.
+// The list of a source after one edited line (document 02, C-7): the records before the line are kept as they stand in the old list, and
+// the rest is read from there, into a second list.
 //
-// Whether the edit fits is asked of the crate `edit`, which records are kept of `keep`, and reading on is the scan's. What it must answer and
-// write, for any old list, stands in specs/; that it is what a scan of the new source answers and writes, where the old list is the old
+// Whether the edit fits is asked of the crate `edit`, which records are kept of `keep`, and reading on is the scan's. What it must answer
+// and write, for any old list, stands in specs/; that it is what a scan of the new source answers and writes, where the old list is the old
 // source's, is a promise.
 pub mod answer;
 
@@ -135,10 +135,10 @@ fn rescan_readable(
     Rescanned::AsScan(read_behind(old_list, kept, source, table, edition, list))
 }
 
-// Writes the records of a source at the start of the list, after an edit that led to it from an old source, whose list has `old_count` records:
-// those before the edited line are taken from there. Refused are what a scan of the new source refuses before any work; then an edit that does
-// not lead from the old source to the new one; then an old list that is shorter than its count, each before a word is written; then a token
-// for which there is no record or no mode left, and a kept record that has no room.
+// Writes the records of a source at the start of the list, after an edit that led to it from an old source, whose list has `old_count`
+// records: those before the edited line are taken from there. Refused are what a scan of the new source refuses before any work; then an
+// edit that does not lead from the old source to the new one; then an old list that is shorter than its count, each before a word is
+// written; then a token for which there is no record or no mode left, and a kept record that has no room.
 pub fn rescan(
     old: &[u8],
     old_list: &[u32],

@@ -3,7 +3,6 @@
 use Prim.Native.Nat.{ℕ, zero, suc, _+_, _-_, _≤_, _<_}
 use native.Mathlib.Omega.{arith}
 use mathlib.Core.Path.{_≡_, refl, sym, ap, subst, _∙_}
-use mathlib.Core.Bool.{true, false}
 use mathlib.Core.List.{List, _++_}
 use lib.Dec.{ltb}
 use lib.ListN.{length, getD, take, drop}
@@ -12,7 +11,7 @@ use borrow.Author.Tests.{lt-ltb, le-ltb}
 use Rattle.base.specs.PickLaws.{split-lt}
 use Rattle.base.specs.Refusal.{sourceMost}
 use Rattle.property.specs.Table.{propertiesAt}
-use Rattle.input.specs.Input.{inputCheck, onInput, Readable}
+use Rattle.input.specs.Input.{inputCheck, Readable}
 use Rattle.input.specs.InputLaws.{fine-of, is-fine}
 use Rattle.input.specs.declared.Input.{Input}
 use Rattle.input.specs.declared.Input.the-variants as input
@@ -23,23 +22,21 @@ use Rattle.rows.specs.RowLaws.{rows-of-length, rows-of-at, rows-room, puts-none
 use Rattle.rows.specs.declared.Row.{Row}
 use Rattle.text.specs.Tests.{lf}
 use Rattle.state.specs.State.{startState}
-use Rattle.reading.specs.Reading.{Reading, readFrom}
-use Rattle.reading.specs.Scan.{endOf, byRoom, Fills, ReadsOn, readingOf, Scans, countOf}
+use Rattle.reading.specs.Scan.{endOf, byRoom, ReadsOn, readingOf, Scans, countOf}
 use Rattle.reading.specs.ScanLaws.{scans-refused, scans-fine, count-room}
 use Rattle.reading.specs.declared.Scanned.{Scanned}
 use Rattle.reading.specs.declared.Scanned.the-variants.{Refused, ListFull}
-use Rattle.kept.specs.Kept.{lastOf, resumed, Edited, KeptTo, OldList}
+use Rattle.kept.specs.Kept.{lastOf, resumed, Edited, KeptTo}
 use Rattle.kept.specs.OldListLaws.{old-list, old-words, old-kept}
 use Rattle.kept.specs.RescanLaws.{rescan-is-scan, short-rescan-is-scan, last-kept, up-to}
-use Rattle.edit.specs.Edit.{Edits, editFits, startOfLine}
+use Rattle.edit.specs.Edit.{Edits, startOfLine}
 use Rattle.edit.specs.EditLaws.{edit-of, fits-of, edit-inside, same-start, line-within, line-newline}
 use Rattle.edit.specs.declared.Edit.{Edit}
-use Rattle.keep.specs.Keep.{noRow, rowBefore, Keeps, keptRows}
-use Rattle.keep.specs.KeepLaws.{keeps-of, kept-of, keeps-within, last-is, over-some}
-use Rattle.rescan.specs.Rescan.{within, readBehind, ReadsBehind, kept, rest, Rescans}
+use Rattle.keep.specs.Keep.{noRow, rowBefore, Keeps}
+use Rattle.keep.specs.KeepLaws.{keeps-of, kept-of, last-is, over-some}
+use Rattle.rescan.specs.Rescan.{within, readBehind, kept, Rescans}
 use Rattle.rescan.specs.RescanLaws.{one-answer}
 use Rattle.rescan.specs.declared.Rescanned.{Rescanned}
-use Rattle.rescan.specs.declared.Rescanned.the-variants.{AsScan}
 use Rattle.rescan_promises.specs.Rescan.{Fresh, RescanPromise, RescanMeans}
 use Rattle.rescan_promises.specs.UnalteredLaws.{take-begin, begins-too}
 use Rattle.rescan_promises.specs.OldWordsLaws.{rows-of-take, end-of-rows, copied-is}

@@ -1,21 +1,19 @@
 -- Records that two sources share: `no-byte-alters`.
 -- Assumes nothing.
-use Prim.Native.Nat.{ℕ, suc, _≤_, _<_}
+use Prim.Native.Nat.{ℕ, suc}
 use native.Mathlib.Omega.{arith}
 use mathlib.Core.Path.{_≡_, refl, sym, ap, subst, _∙_}
 use mathlib.Core.List.{List, [], _∷_, _++_}
 use lib.ListN.{length, take, drop, take-append-drop}
 use lib.Seq.{length-take-le, take-append-seam}
 use Rattle.base.specs.Refusal.{sourceMost}
-use Rattle.property.specs.Table.{propertiesAt}
 use Rattle.fitness.specs.FitLaws.{fit-of}
 use Rattle.input.specs.Input.{Readable}
 use Rattle.rows.specs.declared.Row.{Row}
-use Rattle.state.specs.State.{startState}
 use Rattle.reading.specs.Reading.{Reading, onto}
 use Rattle.reading.specs.Scan.{readingOf}
 use Rattle.line.specs.Line.{line}
-use Rattle.kept.specs.Kept.{ontoAll, UpTo, Shares, Edited, KeptTo}
+use Rattle.kept.specs.Kept.{ontoAll, UpTo, Edited}
 use Rattle.kept.specs.ReadingLaws.{reading-line}
 use Rattle.kept.specs.RescanLaws.{source-line, other-line, up-to}
 use Rattle.rescan_promises.specs.Rescan.{NoByteAlters}

@@ -9,7 +9,6 @@ use borrow.Author.Needs.{needs}
 use Rattle.rows.specs.Row.{room}
 use Rattle.rows.specs.RowLaws.{copy-room}
 use Rattle.rows.specs.declared.Row.{Row}
-use Rattle.state.specs.declared.State.{State}
 use Rattle.stepping.specs.Invariant.{Ok}
 use Rattle.kept.specs.Kept.{resumed}
 use Rattle.rescan.specs.RescanLaws.{kind-low, behind-short, behind-long}
