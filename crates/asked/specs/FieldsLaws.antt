@@ -4,19 +4,18 @@
 --     HasNumbers, has-numbers           the options of four numbers have these numbers
 --     OneOf, one-of                     and no other options have
 -- Assumes nothing.
-use Prim.Native.Nat.{ℕ, zero, suc, _<_, _≤_}
+use Prim.Native.Nat.{ℕ, zero, suc, _≤_}
 use native.Mathlib.Omega.{arith}
 use mathlib.Core.Path.{_≡_, refl, sym, ap, subst, _∙_}
-use mathlib.Core.Bool.{Bool, true, false, _&&_, _||_}
-use lib.Dec.{leb, eqb}
-use borrow.Author.Tests.{leb-true, le-leb, eqb-true, ne-eqb, eq-eqb}
-use Rattle.base.specs.Pick.{pick}
+use mathlib.Core.Bool.{true}
+use lib.Dec.{leb}
+use borrow.Author.Tests.{leb-true, le-leb, ne-eqb}
 use Rattle.base.specs.PickLaws.{by-eq, split-eq}
 use Rattle.base.specs.AllLaws.{and-left, and-right}
 use Rattle.fills.specs.Pad.{right, widthMost, isWidth}
 use Rattle.fills.specs.PadLaws.{width-within}
 use Rattle.parse.specs.Numbers.{noNumber, givenNumber, shownNumber}
-use Rattle.format_options.specs.Options.{alignmentNumber, representationNumber}
+use Rattle.format_options.specs.Options.{alignmentNumber}
 use Rattle.format_options.specs.declared.Alignment.{Alignment}
 use Rattle.format_options.specs.declared.Alignment.the-variants as alignment
 use Rattle.format_options.specs.declared.Representation.the-variants as representation

@@ -4,10 +4,9 @@
 -- Assumes nothing.
 use Prim.Native.Nat.{ℕ, suc, _+_, _-_, _/_, _%_, _<_, _≤_}
 use native.Mathlib.Omega.{arith}
-use native.Mathlib.Nat.{add-zero}
 use mathlib.Core.Path.{_≡_, refl, sym, ap, _∙_}
 use mathlib.Core.List.{List, [], _∷_, _++_, append-assoc, append-nil}
-use lib.ListN.{length, set, take, drop, length-set, length-append, take-append-drop}
+use lib.ListN.{length, set, take, drop, length-set, length-append}
 use lib.Seq.{set-split, take-append-le, take-take, drop-at, length-take-le}
 use Rattle.format_options.specs.Letters.{zeroDigit}
 use Rattle.pool.specs.Pool.{written}

@@ -5,25 +5,21 @@
 --     Taken, number-taken             whatever `consume_u32` reads as n is the digits of n, or longer
 --     Spelled, spelled, number-read   `consume_u32` reads the digits of n as n, where no digit follows
 -- Assumes nothing.
-use Prim.Native.Nat.{ℕ, zero, suc, _+_, _-_, _*_, _/_, _%_, _<_, _≤_}
+use Prim.Native.Nat.{ℕ, zero, suc, _+_, _-_, _/_, _%_, _<_, _≤_}
 use native.Mathlib.Omega.{arith}
 use mathlib.Core.Path.{_≡_, refl, sym, ap, subst, _∙_}
 use mathlib.Core.Bool.{Bool, true, false}
 use mathlib.Core.List.{List, [], _∷_, _++_, append-assoc, append-nil}
-use lib.Dec.{ltb, leb}
 use lib.ListN.{length, take, length-append}
-use borrow.Author.Tests.{lt-ltb, le-ltb, ltb-false, le-leb, leb-true, ne-eqb}
-use Rattle.base.specs.Pick.{pick}
+use borrow.Author.Tests.{lt-ltb, le-ltb, ne-eqb}
 use Rattle.base.specs.PickLaws.{split-lt}
 use Rattle.base.specs.RangeLaws.{is-inside}
 use Rattle.format_options.specs.Letters.{zeroDigit, isSign, isDigit}
 use Rattle.format_options.specs.LettersLaws.{digit-is}
 use Rattle.format_number.specs.Number.{indexMax, peeked, digitsFrom, consumeU32}
 use Rattle.format_number.specs.NumberLaws.{with, step-more, step-large, step-stop}
-use Rattle.format_number.specs.declared.Consumed.{Consumed}
 use Rattle.format_number.specs.declared.Consumed.the-variants.{Value, Wrong}
-use Rattle.format_options.specs.declared.Outcome.{Outcome}
-use Rattle.format_options.specs.declared.Outcome.the-variants.{Fine, TooLarge, ExpectedNumber}
+use Rattle.format_options.specs.declared.Outcome.the-variants.{TooLarge, ExpectedNumber}
 use Rattle.decimal.specs.Decimal.{digitsIn, digits}
 use Rattle.decimal.specs.Over.{Over, same, longer, over-append}
 

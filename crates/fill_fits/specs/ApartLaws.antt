@@ -2,22 +2,22 @@
 --     plain-joins     a plain character is joined to Prepend, and to nothing else (GB9b)
 --     apart-by        fs is the first cluster of fs and a sign exactly if fs is one cluster and the sign is not joined to its last character
 -- Assumes nothing.
-use Prim.Native.Nat.{ℕ, zero, suc, _+_, _<_, _≤_}
+use Prim.Native.Nat.{ℕ, suc, _+_}
 use native.Mathlib.Omega.{arith}
 use native.Mathlib.Nat.{zero-add}
-use mathlib.Core.Path.{_≡_, refl, sym, ap, subst, _∙_}
-use mathlib.Core.Bool.{Bool, true, false, not, _&&_, _||_}
+use mathlib.Core.Path.{_≡_, refl, sym, ap, _∙_}
+use mathlib.Core.Bool.{Bool, true, false, not, _&&_}
 use mathlib.Core.List.{List, [], _∷_, _++_}
 use lib.Dec.{eqb}
-use lib.ListN.{length, getD, take}
+use lib.ListN.{length, getD}
 use lib.Seq.{take-append-seam}
-use borrow.Author.Tests.{eqb-true, eqb-false, eq-eqb, ne-eqb}
+use borrow.Author.Tests.{eqb-true, eq-eqb, ne-eqb}
 use Rattle.base.specs.Pick.{pick}
 use Rattle.base.specs.PickLaws.{split-eq}
-use Rattle.property.specs.Parts.{classOf, isPict, incbOf, prepend}
-use Rattle.uax29.specs.Uax29.{isControl, gb3, gb6, gb7, gb8, gb9, pairRule, gb9c, gb11, gb12, endsPictZwj, endsOdd, endsLinked, onOpen, joined}
+use Rattle.property.specs.Parts.{classOf, prepend}
+use Rattle.uax29.specs.Uax29.{isControl, gb3, gb6, gb7, gb8, gb9, pairRule, gb9c, gb11, gb12, onOpen, joined}
 use Rattle.cluster.specs.First.{goOn, firstSize}
-use Rattle.cluster.specs.FirstLaws.{plain, first-within}
+use Rattle.cluster.specs.FirstLaws.{plain}
 use Rattle.format_options.specs.Letters.{less}
 use Rattle.wanted.specs.TailLaws.{and-no}
 use Rattle.wanted.specs.StartLaws.{goes-prefix}

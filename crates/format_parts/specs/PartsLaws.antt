@@ -2,10 +2,10 @@
 --     parts-left, parts-by  they are the sign, the width, the dot, the precision and the letter, one behind the other
 --     length-parts          and as long as these are together
 -- Assumes nothing.
-use Prim.Native.Nat.{ℕ, _+_, _≤_}
+use Prim.Native.Nat.{ℕ, _+_}
 use native.Mathlib.Omega.{arith}
-use mathlib.Core.Path.{_≡_, refl, sym, ap, _∙_}
-use mathlib.Core.List.{List, [], _∷_, _++_, append-assoc, append-nil}
+use mathlib.Core.Path.{_≡_, refl, ap, _∙_}
+use mathlib.Core.List.{List, _++_, append-assoc}
 use lib.ListN.{length, length-append}
 use Rattle.format_options.specs.declared.Alignment.{Alignment}
 use Rattle.format_options.specs.declared.Alignment.the-variants as alignment
@@ -16,7 +16,7 @@ use Rattle.format_options.specs.declared.Shown.{Shown}
 use Rattle.format_options.specs.declared.Shown.the-variants.{As, Plain}
 use Rattle.asked.specs.declared.Fields.{Fields}
 use Rattle.wanted.specs.Candidate.{signPart, widthPart, precisionPart, letterPart}
-use Rattle.format_parts.specs.Parts.{partsOf, noByte, bytePart, signByte, dotByte, letterByte}
+use Rattle.format_parts.specs.Parts.{partsOf, bytePart, signByte, dotByte, letterByte}
 
 sign-is : (a : Alignment) → bytePart (signByte a) ≡ signPart a
 sign-is alignment.Default = refl

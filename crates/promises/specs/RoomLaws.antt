@@ -3,36 +3,33 @@
 --     empty-is-fit        a pool with nothing in use is fit
 --     parse-has-room      with two entries and twice the bytes free, no addition of a parse finds no room
 -- Assumes nothing.
-use Prim.Native.Nat.{ℕ, suc, _+_, _*_, _/_, _<_, _≤_}
+use Prim.Native.Nat.{ℕ, _+_, _*_, _≤_}
 use native.Mathlib.Omega.{arith}
 use mathlib.Core.Path.{_≡_, refl, sym, ap, subst, _∙_}
 use mathlib.Core.Bool.{Bool, true, false}
 use mathlib.Core.List.{List}
 use lib.Dec.{ltb}
-use lib.ListN.{length, take, drop, set, length-set, length-drop}
+use lib.ListN.{length, drop, set, length-set, length-drop}
 use lib.Seq.{length-take-le}
-use borrow.Author.Tests.{le-ltb}
 use Rattle.base.specs.Pick.{pick}
 use Rattle.base.specs.PickLaws.{by-test, by-lt}
 use Rattle.utf8.specs.Encode.{WellFormed}
-use Rattle.utf8.specs.Chars.{chars, checkFrom}
+use Rattle.utf8.specs.Chars.{checkFrom}
 use Rattle.utf8.specs.declared.Utf8Check.{Utf8Check}
 use Rattle.utf8.specs.declared.Utf8Check.the-variants as utf8
 use Rattle.property.specs.Table.{propertiesAt}
 use Rattle.pool_rows.specs.Rows.{byteRoom, entryRoom, runsTo, fitPool}
 use Rattle.pool_rows.specs.FitLaws.{room-within, fit-by}
 use Rattle.pool_rows.specs.declared.Counts.{Counts}
-use Rattle.pool.specs.Pool.{oneMore, placed, onUtf8, addedToFit, added, isNew, written, entered, bytesAfter, entriesAfter}
+use Rattle.pool.specs.Pool.{placed, onUtf8, added, isNew, bytesAfter, entriesAfter}
 use Rattle.pool.specs.WrittenLaws.{length-written}
 use Rattle.pool.specs.declared.Added.{Added}
 use Rattle.pool.specs.declared.Added.the-variants.{Index, BadUtf8, CutUtf8, BadState, PoolFull}
-use Rattle.format_options.specs.declared.Part.{Part}
 use Rattle.format_options.specs.declared.Fill.{Fill}
 use Rattle.format_options.specs.declared.Fill.the-variants.{Is, NoFill}
 use Rattle.format.specs.Parse.{stringOf, addFill, addPart, FillIn, OnePass}
-use Rattle.format.specs.Read.{addBoth, readFormat}
 use Rattle.format.specs.ReadLaws.{added-in}
-use Rattle.parse.specs.Call.{Pool, onAdded, addTo, lent, parsed}
+use Rattle.parse.specs.Call.{Pool, onAdded, addTo, parsed}
 use Rattle.parse.specs.CallLaws.{two-stages}
 use Rattle.parse.specs.Plan.{readOf}
 

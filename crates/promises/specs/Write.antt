@@ -7,13 +7,13 @@ use mathlib.Core.Path.{_≡_}
 use mathlib.Core.Bool.{Bool, true, false}
 use mathlib.Core.List.{List}
 use lib.ListN.{length, take}
-use Rattle.base.specs.Refusal.{none, badTable, badEdition, noSuchFormat, noRoom, formatMost}
+use Rattle.base.specs.Refusal.{none, badTable, badEdition, noSuchFormat, noRoom}
 use Rattle.property.specs.Table.{propertiesAt}
 use Rattle.fitness.specs.Fit.{tableCheck}
 use Rattle.fitness.specs.declared.TableCheck.the-variants.{Fit, BadTable}
 use Rattle.input.specs.Input.{isEdition}
 use Rattle.pool.specs.Pool.{written}
-use Rattle.parse.specs.Call.{Pool, call, parsed}
+use Rattle.parse.specs.Call.{Pool, call}
 use Rattle.parse.specs.declared.Parsed.the-variants.{Read}
 use Rattle.format_options.specs.declared.OptionalNumber.{OptionalNumber}
 use Rattle.format_options.specs.declared.Options.{Options}

@@ -32,22 +32,19 @@ use Rattle.pool.specs.Pool.{written}
 use Rattle.pool_rows.specs.Rows.{byteRoom, entryRoom, fitPool}
 use Rattle.format.specs.Parse.{OnePass, parse, stringOf}
 use Rattle.format.specs.ParseLaws.{parse-adds}
-use Rattle.format_options.specs.declared.OptionalNumber.{OptionalNumber}
-use Rattle.format_options.specs.declared.Options.{Options}
 use Rattle.format_options.specs.declared.Outcome.{Outcome}
 use Rattle.format_options.specs.declared.Outcome.the-variants.{Fine, ExpectedNumber, TooLarge, UnexpectedToken}
 use Rattle.format_options.specs.declared.Part.{Part}
 use Rattle.parse.specs.Call.{Pool, addTo, lent, onOutcome, refusedAs, parsed, call}
-use Rattle.parse.specs.declared.Parsed.{Parsed}
 use Rattle.parse.specs.declared.Parsed.the-variants.{Read, BadState, PoolFull}
 use Rattle.parse.specs.declared.Parsed.the-variants as wrong
 use Rattle.wanted.specs.Wanted.{Asked, askedOf, ReadsBack, First, NoSuch}
 use Rattle.wanted.specs.Candidate.{canWrite}
 use Rattle.wanted.specs.WriteLaws.{first, no-such, one-first}
-use Rattle.writer.specs.Call.{answerIf, bufferAfter, askedBy, formatFor, writeAnswer, Writes, numberOf, lenOf}
+use Rattle.writer.specs.Call.{answerIf, bufferAfter, formatFor, Writes, numberOf, lenOf}
 use Rattle.writer.specs.CallLaws.{one-answer, kept}
 use Rattle.writer.specs.declared.Written.{Written}
-use Rattle.writer.specs.declared.Written.the-variants.{Length, Refused, NoSuchFormat, NoRoom}
+use Rattle.writer.specs.declared.Written.the-variants.{Length, Refused, NoRoom}
 use Rattle.promises.specs.Said.{says}
 use Rattle.promises.specs.RoomLaws.{nothingUsed, Free, parse-has-room, empty-is-fit}
 use Rattle.promises.specs.Write.{writeSays, ReadByCall, asked, WritePromise}

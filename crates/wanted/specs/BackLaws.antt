@@ -1,25 +1,23 @@
 -- What is written is read back: the characters after the sign.
 --     tail-reads        at MinWidth and at Start, the tail of options is read as them
 -- Assumes nothing.
-use Prim.Native.Nat.{ℕ, zero, suc, _+_, _<_, _≤_}
+use Prim.Native.Nat.{ℕ, zero, suc, _+_}
 use native.Mathlib.Omega.{arith}
-use mathlib.Core.Path.{_≡_, refl, sym, ap, subst, _∙_}
-use mathlib.Core.Bool.{Bool, true, false, _&&_}
-use mathlib.Core.List.{List, [], _∷_, _++_, append-assoc}
-use lib.Dec.{eqb, ltb}
-use lib.ListN.{length, take, drop}
+use mathlib.Core.Path.{_≡_, refl, ap, _∙_}
+use mathlib.Core.Bool.{true, false, _&&_}
+use mathlib.Core.List.{List, [], _∷_, _++_}
+use lib.Dec.{eqb}
+use lib.ListN.{length, take}
 use lib.Seq.{drop-append-seam}
 use borrow.Author.Tests.{lt-ltb, ne-eqb}
-use Rattle.base.specs.Pick.{pick}
 use Rattle.base.specs.Range.{inside}
-use Rattle.base.specs.PickLaws.{split-eq}
 use Rattle.utf8.specs.Encode.{encodeAll}
 use Rattle.format_options.specs.Options.{withWidth, withPrecision}
 use Rattle.format_options.specs.Letters.{noChar, zeroDigit, isSign, isDigit, representationOf}
 use Rattle.format_options.specs.LettersLaws.{digit-is}
-use Rattle.format_number.specs.Number.{peeked, indexMax, consumeU32}
-use Rattle.format_arms.specs.Arms.{start, minWidth, precision, type, end, dot, onShown, armOf}
-use Rattle.format.specs.Parse.{lenUtf8, Body, Goes, onConsumed, bodyOf, OnePass, parseFrom}
+use Rattle.format_number.specs.Number.{peeked}
+use Rattle.format_arms.specs.Arms.{start, minWidth, precision, type, dot, armOf}
+use Rattle.format.specs.Parse.{lenUtf8, Goes, onConsumed, bodyOf, OnePass, parseFrom}
 use Rattle.format_options.specs.declared.Alignment.{Alignment}
 use Rattle.format_options.specs.declared.Representation.{Representation}
 use Rattle.format_options.specs.declared.Representation.the-variants as representation
@@ -33,13 +31,10 @@ use Rattle.format_options.specs.declared.Fill.the-variants.{NoFill}
 use Rattle.format_options.specs.declared.Options.{Options}
 use Rattle.format_options.specs.declared.Outcome.the-variants.{Fine}
 use Rattle.format_number.specs.declared.Consumed.{Consumed}
-use Rattle.format_number.specs.declared.Consumed.the-variants.{Value}
-use Rattle.format_arms.specs.declared.Arm.{Arm}
 use Rattle.format_arms.specs.declared.Arm.the-variants as arm
-use Rattle.decimal.specs.Decimal.{digits}
 use Rattle.decimal.specs.DecimalLaws.{Spelled, spelled, number-read}
 use Rattle.asked.specs.FieldsLaws.{Small}
-use Rattle.wanted.specs.Candidate.{letter, letterPart, precisionPart, widthPart, tailFor}
+use Rattle.wanted.specs.Candidate.{letter, letterPart, precisionPart, tailFor}
 use Rattle.wanted.specs.TailLaws.{and-no, turn, arm-type, arm-precision, arm-width, arm-start}
 
 -- ---- the letters

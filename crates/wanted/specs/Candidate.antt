@@ -2,7 +2,7 @@
 -- representation, each where there is one. If any string is read back as the options, this one is, and it is the first of them
 -- (`WriteLaws`). `writable` is whether it is.
 -- Assumes nothing.
-use Prim.Native.Nat.{ℕ, zero, suc}
+use Prim.Native.Nat.{ℕ}
 use mathlib.Core.Bool.{Bool, true, false, not, _&&_, _||_}
 use mathlib.Core.List.{List, [], _∷_, _++_}
 use lib.Dec.{eqb, leb}

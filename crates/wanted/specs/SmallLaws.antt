@@ -7,7 +7,6 @@ use mathlib.Core.List.{List, [], _∷_}
 use lib.ListN.{drop}
 use Rattle.format_options.specs.Options.{noOptions, withWidth, withPrecision}
 use Rattle.format_options.specs.declared.Part.{Part}
-use Rattle.format_options.specs.declared.Fill.{Fill}
 use Rattle.format_options.specs.declared.Fill.the-variants.{NoFill}
 use Rattle.format_options.specs.declared.Options.{Options}
 use Rattle.format_number.specs.Number.{peeked, consumeU32}
@@ -16,7 +15,7 @@ use Rattle.format_number.specs.declared.Consumed.the-variants.{Value, Wrong}
 use Rattle.format_arms.specs.Arms.{start, precision, type, armOf}
 use Rattle.format_arms.specs.declared.Arm.{Arm}
 use Rattle.format_arms.specs.declared.Arm.the-variants as arm
-use Rattle.format.specs.Parse.{lenUtf8, Body, Goes, Fails, onConsumed, bodyOf, OnePass, addFill, parseFrom, append, parse}
+use Rattle.format.specs.Parse.{lenUtf8, Body, Goes, Fails, onConsumed, bodyOf, addFill, parseFrom, append, parse}
 use Rattle.decimal.specs.DecimalLaws.{number-taken}
 use Rattle.asked.specs.FieldsLaws.{Small}
 

@@ -6,29 +6,29 @@
 use Prim.Native.Nat.{ℕ, zero, suc, _+_, _-_, _/_, _%_, _<_, _≤_}
 use native.Mathlib.Omega.{arith}
 use mathlib.Core.Path.{_≡_, refl, sym, ap, subst, _∙_}
-use mathlib.Core.Bool.{Bool, true, false, not, _&&_, _||_}
-use mathlib.Core.List.{List, [], _∷_, _++_, append-assoc, append-nil}
-use lib.Dec.{eqb, ltb, leb}
+use mathlib.Core.Bool.{Bool, true, false, _&&_, _||_}
+use mathlib.Core.List.{List, [], _∷_, _++_, append-nil}
+use lib.Dec.{eqb, ltb}
 use lib.ListN.{length, take, drop, length-append, length-drop, take-append-drop}
-use lib.Seq.{drop-drop, take-append-seam, drop-append-seam, take-all, take-add, length-take-le}
-use borrow.Author.Tests.{eqb-true, eqb-false, ltb-true, lt-ltb, le-leb, eq-eqb, ne-eqb}
+use lib.Seq.{take-append-seam, drop-append-seam, take-all, take-add, length-take-le}
+use borrow.Author.Tests.{eqb-true, ltb-true, lt-ltb, le-leb, eq-eqb, ne-eqb}
 use Rattle.base.specs.Pick.{pick}
 use Rattle.base.specs.Range.{inside}
-use Rattle.base.specs.PickLaws.{by-test, split-lt}
+use Rattle.base.specs.PickLaws.{split-lt}
 use Rattle.base.specs.AllLaws.{and-left, and-right}
 use Rattle.base.specs.Refusal.{formatMost}
 use Rattle.utf8.specs.Encode.{Scalar, Scalars, encode, encodeAll, WellFormed}
 use Rattle.utf8.specs.EncodeLaws.{encode1, encode-some, all-append}
-use Rattle.utf8.specs.Chars.{charsIn, chars, checkFrom}
+use Rattle.utf8.specs.Chars.{charsIn, chars}
 use Rattle.utf8.specs.CharsLaws.{chars-past, fine-of-well, chars-well}
 use Rattle.uax29.specs.Uax29.{joined}
 use Rattle.cluster.specs.First.{goOn, firstSize, firstEnd}
 use Rattle.cluster.specs.FirstLaws.{first-within}
-use Rattle.format_options.specs.Options.{noOptions, withAlignment, withWidth, withPrecision, withRepresentation, withFill}
+use Rattle.format_options.specs.Options.{noOptions, withAlignment, withFill}
 use Rattle.format_options.specs.Letters.{noChar, less, caret, greater, zeroDigit, isSign, isDigit, charToAlignment, representationOf}
 use Rattle.format_number.specs.Number.{peeked}
-use Rattle.format_arms.specs.Arms.{start, alignment, minWidth, precision, type, end, dot, onShown, armOf}
-use Rattle.format.specs.Parse.{lenUtf8, bodyOf, OnePass, addFill, parseFrom, parse, append, stringOf}
+use Rattle.format_arms.specs.Arms.{start, alignment, precision, dot, onShown, armOf}
+use Rattle.format.specs.Parse.{lenUtf8, OnePass, parse, append, stringOf}
 use Rattle.format_options.specs.declared.Alignment.{Alignment}
 use Rattle.format_options.specs.declared.Alignment.the-variants as align
 use Rattle.format_options.specs.declared.OptionalNumber.{OptionalNumber}
@@ -38,19 +38,18 @@ use Rattle.format_options.specs.declared.Shown.the-variants.{As, Plain}
 use Rattle.format_options.specs.declared.Representation.{Representation}
 use Rattle.format_options.specs.declared.Representation.the-variants as representation
 use Rattle.format_options.specs.declared.Part.{Part}
-use Rattle.format_options.specs.declared.Fill.{Fill}
 use Rattle.format_options.specs.declared.Fill.the-variants.{Is, NoFill}
 use Rattle.format_options.specs.declared.Options.{Options}
-use Rattle.format_options.specs.declared.Outcome.the-variants.{Fine, UnexpectedToken}
+use Rattle.format_options.specs.declared.Outcome.the-variants.{Fine}
 use Rattle.format_arms.specs.declared.Arm.{Arm}
 use Rattle.format_arms.specs.declared.Arm.the-variants as arm
 use Rattle.decimal.specs.Decimal.{digits}
 use Rattle.decimal.specs.DecimalLaws.{digits-small, digits-more}
-use Rattle.wanted.specs.Wanted.{Filled, Bytes, Unfilled, filledOf, NotAfter, equal, smaller, Before, shorter, level}
+use Rattle.wanted.specs.Wanted.{Filled, Bytes, Unfilled, filledOf, equal, smaller, Before, shorter, level}
 use Rattle.wanted.specs.Candidate.{Wanted, letter, letterPart, precisionPart, widthPart, signPart, fillPart, tailFor, candidate}
 use Rattle.wanted.specs.Candidate.{isBare, isDefault, isTaken, charsFit, fillFits, writable}
-use Rattle.decimal.specs.Over.{Over, same, longer, over-append, over-cons, over-more, over-least}
-use Rattle.wanted.specs.TailLaws.{PrecisionEnd, WidthEnd, kept, zeros, Bare, tailOf, Runs, stays, goes, expected, of-type, shown-end, dot-end, number-end, width-end}
+use Rattle.decimal.specs.Over.{Over, same, longer, over-append, over-cons, over-least}
+use Rattle.wanted.specs.TailLaws.{PrecisionEnd, WidthEnd, kept, zeros, tailOf, Runs, stays, goes, expected, of-type, shown-end, dot-end, number-end, width-end}
 use Rattle.wanted.specs.TailLaws.{arm-start, arm-alignment, zero-part, rest-on}
 
 -- ---- reading back as options, and not yet as their numbers

@@ -4,12 +4,12 @@
 --     PrecisionEnd, precision-end           from Precision
 --     WidthEnd, width-end                   from MinWidth, where zeros in front make a fill
 -- Assumes nothing.
-use Prim.Native.Nat.{ℕ, zero, suc, _+_, _-_, _<_, _≤_}
+use Prim.Native.Nat.{ℕ, zero, suc, _+_, _-_, _<_}
 use native.Mathlib.Omega.{arith}
 use native.Mathlib.Nat.{add-zero}
 use mathlib.Core.Path.{_≡_, refl, sym, ap, subst, _∙_}
-use mathlib.Core.Bool.{Bool, true, false, _&&_, _||_}
-use mathlib.Core.List.{List, [], _∷_, _++_, append-assoc, append-nil}
+use mathlib.Core.Bool.{Bool, true, false, _&&_}
+use mathlib.Core.List.{List, [], _∷_, _++_}
 use lib.Dec.{eqb, ltb}
 use lib.ListN.{length, take, drop, length-append, take-append-drop}
 use lib.Seq.{drop-drop, take-append-seam, drop-append-seam}
@@ -26,10 +26,8 @@ use Rattle.format_number.specs.Number.{peeked, consumeU32}
 use Rattle.format_number.specs.NumberLaws.{Errs, number-errs}
 use Rattle.format_arms.specs.Arms.{start, alignment, minWidth, precision, type, end, dot, letterOf, onShown, lastArm, armOf}
 use Rattle.format.specs.Parse.{lenUtf8, Body, Goes, Fails, onConsumed, bodyOf, OnePass, addFill, parseFrom, stringOf}
-use Rattle.format_options.specs.declared.Alignment.{Alignment}
 use Rattle.format_options.specs.declared.Representation.{Representation}
 use Rattle.format_options.specs.declared.Representation.the-variants as representation
-use Rattle.format_options.specs.declared.OptionalNumber.{OptionalNumber}
 use Rattle.format_options.specs.declared.OptionalNumber.the-variants.{Number, Nothing}
 use Rattle.format_options.specs.declared.Shown.{Shown}
 use Rattle.format_options.specs.declared.Shown.the-variants.{As, Plain}
@@ -45,7 +43,7 @@ use Rattle.format_arms.specs.declared.Arm.{Arm}
 use Rattle.format_arms.specs.declared.Arm.the-variants as arm
 use Rattle.decimal.specs.Decimal.{digits}
 use Rattle.decimal.specs.DecimalLaws.{number-taken}
-use Rattle.wanted.specs.Candidate.{letter, letterPart, precisionPart, widthPart, tailFor}
+use Rattle.wanted.specs.Candidate.{letter, letterPart, precisionPart, tailFor}
 use Rattle.decimal.specs.Over.{Over, same, longer, over-append, over-cons, over-more}
 
 -- ---- the arms after the sign

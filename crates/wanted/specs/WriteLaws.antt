@@ -9,15 +9,15 @@ use mathlib.Core.Path.{_≡_, refl, sym, ap, subst, _∙_}
 use mathlib.Core.Bool.{Bool, true, false, not, _&&_, _||_}
 use mathlib.Core.List.{List, [], _∷_, _++_, append-assoc, append-nil}
 use lib.Dec.{eqb, ltb, leb}
-use lib.ListN.{length, take, drop, length-append, length-drop}
+use lib.ListN.{length, take, drop, length-append}
 use lib.Seq.{take-append-seam, drop-append-seam, take-length, drop-length}
-use borrow.Author.Tests.{eqb-true, leb-true, ltb-true, ne-eqb}
+use borrow.Author.Tests.{eqb-true, leb-true, ne-eqb}
 use Rattle.base.specs.Pick.{pick}
 use Rattle.base.specs.Range.{inside}
 use Rattle.base.specs.PickLaws.{split-lt}
 use Rattle.base.specs.AllLaws.{and-left, and-right}
 use Rattle.base.specs.Refusal.{formatMost}
-use Rattle.utf8.specs.Encode.{Scalar, Scalars, encode, encodeAll, WellFormed}
+use Rattle.utf8.specs.Encode.{Scalar, Scalars, encode, encodeAll}
 use Rattle.utf8.specs.EncodeLaws.{encode1, all-append}
 use Rattle.utf8.specs.Chars.{chars, checkFrom}
 use Rattle.utf8.specs.CharsLaws.{well-of-fine, chars-well}
@@ -25,11 +25,11 @@ use Rattle.utf8.specs.declared.Utf8Check.{Utf8Check}
 use Rattle.utf8.specs.declared.Utf8Check.the-variants as utf8
 use Rattle.uax29.specs.Uax29.{joined}
 use Rattle.cluster.specs.First.{goOn, firstSize, firstEnd}
-use Rattle.format_options.specs.Options.{alignmentNumber, noOptions, withAlignment, withFill}
+use Rattle.format_options.specs.Options.{alignmentNumber, noOptions, withFill}
 use Rattle.format_options.specs.Letters.{noChar, less, caret, greater, zeroDigit, isSign, isDigit, charToAlignment, representationOf}
 use Rattle.format_number.specs.Number.{peeked}
-use Rattle.format_arms.specs.Arms.{start, alignment, minWidth, dot, onShown, armOf}
-use Rattle.format.specs.Parse.{lenUtf8, bodyOf, OnePass, parseFrom, parse, append, stringOf}
+use Rattle.format_arms.specs.Arms.{start, alignment, minWidth, dot, armOf}
+use Rattle.format.specs.Parse.{lenUtf8, OnePass, parseFrom, parse, append, stringOf}
 use Rattle.format_options.specs.declared.Alignment.{Alignment}
 use Rattle.format_options.specs.declared.Alignment.the-variants as align
 use Rattle.format_options.specs.declared.OptionalNumber.{OptionalNumber}
@@ -37,11 +37,9 @@ use Rattle.format_options.specs.declared.OptionalNumber.the-variants.{Number, N
 use Rattle.format_options.specs.declared.Shown.{Shown}
 use Rattle.format_options.specs.declared.Shown.the-variants.{As, Plain}
 use Rattle.format_options.specs.declared.Part.{Part}
-use Rattle.format_options.specs.declared.Fill.{Fill}
 use Rattle.format_options.specs.declared.Fill.the-variants.{Is, NoFill}
 use Rattle.format_options.specs.declared.Options.{Options}
 use Rattle.format_options.specs.declared.Outcome.the-variants.{Fine}
-use Rattle.format_arms.specs.declared.Arm.{Arm}
 use Rattle.format_arms.specs.declared.Arm.the-variants as arm
 use Rattle.decimal.specs.Decimal.{digits}
 use Rattle.decimal.specs.DecimalLaws.{digits-small, digits-more, spelled}
@@ -51,7 +49,7 @@ use Rattle.asked.specs.FieldsLaws.{Small, fields-small, HasNumbers, has-numbers
 use Rattle.asked.specs.declared.Fields.{Fields}
 use Rattle.wanted.specs.Wanted.{Filled, Bytes, Unfilled, Asked, ReadsBack, First, NoSuch, NotAfter, equal, smaller, Before, shorter, level}
 use Rattle.wanted.specs.Candidate.{Wanted, wantedBy, wantedFor, letterPart, precisionPart, widthPart, signPart, tailFor, candidate}
-use Rattle.wanted.specs.Candidate.{isGiven, isShown, isDefault, hasTail, isTaken, charsFit, fillFits, writable, canWrite}
+use Rattle.wanted.specs.Candidate.{isGiven, isShown, hasTail, isTaken, charsFit, fillFits, writable, canWrite}
 use Rattle.wanted.specs.TailLaws.{and-no, turn, arm-start, arm-alignment}
 use Rattle.wanted.specs.SmallLaws.{parse-small}
 use Rattle.wanted.specs.StartLaws.{wantedOf, ReadsAs, one-low, tail-low, letter-low, own-chars, Sign, sign-is, least}

@@ -4,20 +4,18 @@
 -- Assumes nothing.
 use Prim.Native.Nat.{ℕ}
 use mathlib.Core.Path.{_≡_}
-use mathlib.Core.List.{List, [], _∷_, _++_}
+use mathlib.Core.List.{List, []}
 use mathlib.Core.Bool.{Bool}
-use lib.Dec.{ltb, leb}
+use lib.Dec.{ltb}
 use lib.ListN.{length}
 use Rattle.base.specs.Pick.{pick}
-use Rattle.base.specs.Refusal.{none, noSuchFormat, noRoom, formatMost}
+use Rattle.base.specs.Refusal.{none, noSuchFormat, noRoom}
 use Rattle.property.specs.Table.{propertiesAt}
 use Rattle.input.specs.Input as input
 use Rattle.input.specs.Input.{inputCheck, onInput}
 use Rattle.pool.specs.Pool.{written}
-use Rattle.asked.specs.declared.Fields.{Fields}
 use Rattle.wanted.specs.Wanted.{Filled, Bytes, Unfilled, Asked}
-use Rattle.wanted.specs.Candidate.{wantedBy, wantedFor, candidate, writable, canWrite}
-use Rattle.format_parts.specs.Parts.{partsOf}
+use Rattle.wanted.specs.Candidate.{wantedFor, candidate, canWrite}
 use Rattle.writer.specs.declared.Written.{Written}
 use Rattle.writer.specs.declared.Written.the-variants.{Length, Refused, NoSuchFormat, NoRoom}
 

@@ -10,14 +10,13 @@ use Prim.Native.Nat.{ℕ, _+_, _<_, _≤_}
 use native.Mathlib.Omega.{arith}
 use mathlib.Core.Path.{_≡_, refl, sym, ap, subst, _∙_}
 use mathlib.Core.List.{List, [], _++_}
-use mathlib.Core.Bool.{Bool, true, false, _&&_}
-use lib.Dec.{leb, ltb}
+use mathlib.Core.Bool.{Bool, true, false}
+use lib.Dec.{leb}
 use lib.ListN.{length, length-append}
 use borrow.Author.Tests.{lt-ltb, le-ltb, lt-leb, le-leb}
-use Rattle.base.specs.Pick.{pick}
 use Rattle.base.specs.Refusal.{none, formatMost}
 use Rattle.property.specs.Table.{propertiesAt}
-use Rattle.input.specs.Input.{inputCheck, onInput}
+use Rattle.input.specs.Input.{inputCheck}
 use Rattle.input.specs.declared.Refusal.{Refusal}
 use Rattle.input.specs.declared.Input.{Input}
 use Rattle.input.specs.declared.Input.the-variants as input
@@ -29,7 +28,7 @@ use Rattle.wanted.specs.Wanted.{Filled, Bytes, Unfilled}
 use Rattle.wanted.specs.Candidate.{wantedBy, candidate, fillFits, writable, canWrite}
 use Rattle.wanted.specs.TailLaws.{and-yes, and-no}
 use Rattle.format_parts.specs.Parts.{partsOf}
-use Rattle.writer.specs.Call.{answerIf, bufferAfter, WritesIf, filledBy, askedBy, formatFor, writeAnswer, Writes, numberOf}
+use Rattle.writer.specs.Call.{bufferAfter, WritesIf, filledBy, formatFor, writeAnswer, Writes, numberOf}
 use Rattle.writer.specs.declared.Written.{Written}
 use Rattle.writer.specs.declared.Written.the-variants.{Length, Refused, NoSuchFormat, NoRoom}
 

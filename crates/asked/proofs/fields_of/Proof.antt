@@ -1,5 +1,4 @@
 -- `asked::fields_of` meets its contract: each field is that of its number. Assumes nothing.
-use mathlib.Core.Path.{_≡_}
 use Rattle.asked.specs.FieldsLaws.{fields-width, fields-precision}
 use borrow.Author.Needs.{needs}
 use Rattle.asked.proofs.fields_of.Statement.{statement}

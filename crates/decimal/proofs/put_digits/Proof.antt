@@ -1,7 +1,7 @@
 -- `decimal::put_digits` meets its contract: `Putting` is what the loop keeps, and the number that is left its measure. Assumes nothing.
 use Prim.Native.Nat.{ℕ, _+_}
 use native.Mathlib.Omega.{arith}
-use mathlib.Core.Path.{_≡_, ap, _∙_}
+use mathlib.Core.Path.{ap}
 use borrow.Author.Needs.{needs}
 use Rattle.decimal.proofs.Putting.{Putting, put-start, put-room, put-more, put-last}
 use Rattle.decimal.proofs.put_digits.Statement.{statement}

@@ -1,6 +1,5 @@
 -- `fill_fits::chars_fit` meets its contract: by how many characters there are. Assumes nothing.
-use mathlib.Core.Path.{_≡_, refl, sym, ap, subst, _∙_}
-use mathlib.Core.List.{List, []}
+use mathlib.Core.Path.{sym, subst, _∙_}
 use denote.Ref.{now}
 use Rattle.utf8.specs.CharsLaws.{Stops}
 use Rattle.utf8.proofs.Tags.{stopped}

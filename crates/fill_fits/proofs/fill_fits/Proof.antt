@@ -1,5 +1,5 @@
 -- `fill_fits::fill_fits` meets its contract: bytes that are no text fit nowhere. Assumes nothing.
-use mathlib.Core.Path.{_≡_, refl, sym, _∙_}
+use mathlib.Core.Path.{refl, sym, _∙_}
 use Rattle.utf8.specs.CharsLaws.{well-of-fine}
 use borrow.Author.Needs.{needs}
 use Rattle.fill_fits.proofs.fill_fits.Statement.{statement}

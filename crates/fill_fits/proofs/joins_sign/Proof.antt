@@ -1,6 +1,6 @@
 -- `fill_fits::joins_sign` meets its contract: the state of the last character alone decides. Assumes nothing.
 use Prim.Native.Nat.{ℕ}
-use mathlib.Core.Path.{sym, ap, _∙_}
+use mathlib.Core.Path.{ap, _∙_}
 use mathlib.Core.List.{[], _∷_}
 use denote.Ref.{now}
 use Rattle.utf8.specs.Chars.{chars}

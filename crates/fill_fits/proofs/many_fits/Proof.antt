@@ -1,9 +1,9 @@
 -- `fill_fits::many_fits` meets its contract: each return is a case of `Many`. Assumes nothing.
-use mathlib.Core.Path.{_≡_, sym, ap, _∙_}
+use mathlib.Core.Path.{sym, ap, _∙_}
 use mathlib.Core.Bool.{not}
 use denote.Ref.{now}
 use Rattle.property.specs.Table.{propertiesAt}
-use Rattle.fill_fits.specs.FitsLaws.{Many, many, plains-of}
+use Rattle.fill_fits.specs.FitsLaws.{many, plains-of}
 use borrow.Author.Needs.{needs}
 use Rattle.fill_fits.proofs.many_fits.Statement.{statement}
 use Rattle.fill_fits.proofs.many_fits.Tie as tie

@@ -1,6 +1,6 @@
 -- `format_parts::byte_len` meets its contract: each return is a case of `bytePart`. Assumes nothing.
 use native.Mathlib.Omega.{arith}
-use mathlib.Core.Path.{_≡_, refl}
+use mathlib.Core.Path.{refl}
 use borrow.Author.Tests.{eq-eqb, ne-eqb}
 use Rattle.format_parts.specs.Parts.{noByte}
 use Rattle.format_parts.proofs.byte_len.Statement.{statement}

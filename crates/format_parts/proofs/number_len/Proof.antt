@@ -1,6 +1,6 @@
 -- `format_parts::number_len` meets its contract: the digits of a number are its part. Assumes nothing.
 use native.Mathlib.Omega.{arith}
-use mathlib.Core.Path.{_≡_, sym, ap, _∙_}
+use mathlib.Core.Path.{sym, ap, _∙_}
 use lib.ListN.{length}
 use Rattle.format_options.specs.declared.OptionalNumber.{OptionalNumber}
 use Rattle.decimal.specs.DecimalLaws.{few-digits}

@@ -1,7 +1,7 @@
 -- `format_parts::parts_len` meets its contract: the parts are as long as each of them. Assumes nothing.
 use Prim.Native.Nat.{ℕ}
 use native.Mathlib.Omega.{arith}
-use mathlib.Core.Path.{_≡_, ap, _∙_}
+use mathlib.Core.Path.{ap, _∙_}
 use lib.ListN.{length}
 use Rattle.format_parts.specs.Parts.{bytePart}
 use Rattle.format_parts.specs.PartsLaws.{length-parts}

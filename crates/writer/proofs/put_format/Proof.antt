@@ -1,9 +1,7 @@
 -- `writer::put_format` meets its contract: by its two tests. Assumes nothing.
-use native.Mathlib.Omega.{arith}
-use mathlib.Core.Path.{_≡_}
 use denote.Ref.{now}
 use Rattle.format_parts.specs.Parts.{partsOf}
-use Rattle.writer.specs.CallLaws.{put-long, put-few, put-room, put-all}
+use Rattle.writer.specs.CallLaws.{put-long, put-few, put-all}
 use borrow.Author.Needs.{needs}
 use Rattle.writer.proofs.put_format.Statement.{statement}
 use Rattle.writer.proofs.put_format.Tie as tie

@@ -1,5 +1,5 @@
 -- `writer::write_filled` meets its contract: a fill that fits is written, and no other. Assumes nothing.
-use mathlib.Core.Path.{_≡_, sym, _∙_}
+use mathlib.Core.Path.{sym, _∙_}
 use denote.Ref.{now}
 use Rattle.property.specs.Table.{propertiesAt}
 use Rattle.writer.specs.CallLaws.{not-one, same-test, fill-fits, fill-unfit}
