@@ -15,7 +15,7 @@ use lib.Dec.{eqb, ltb}
 use lib.ListN.{length, getD}
 use borrow.Author.Tests.{eq-eqb, eqb-true}
 use Rattle.base.specs.Pick.{pick}
-use Rattle.rows.specs.Row.{isRow}
+use Rattle.held.specs.Held.{isRow}
 use Rattle.rows.specs.declared.Row.{Row}
 use Rattle.reading.specs.Reading.{Stop, ended, stuck, deep}
 use Rattle.reading.specs.Status.{endNumber, stuckNumber}

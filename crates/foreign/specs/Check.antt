@@ -11,7 +11,8 @@ use Rattle.base.specs.Pick.{pick}
 use Rattle.base.specs.Refusal.{none, modesFull, badState, sourceMost}
 use Rattle.input.specs.Input as input
 use Rattle.input.specs.Input.{inputCheck, onInput}
-use Rattle.rows.specs.Row.{room, isRow}
+use Rattle.rows.specs.Row.{room}
+use Rattle.held.specs.Held.{isRow}
 use Rattle.rows.specs.declared.Row.{Row}
 use Rattle.reading.specs.Reading.{Stop, ended, stuck, deep, Reading}
 use Rattle.reading.specs.Scan.{endOf, readingOf}

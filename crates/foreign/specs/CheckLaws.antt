@@ -28,7 +28,8 @@ use Rattle.input.specs.declared.Input.the-variants as input
 use Rattle.token.specs.Kind.{error}
 use Rattle.token.specs.Token.{tokenOf}
 use Rattle.token.specs.declared.Token.{Token}
-use Rattle.rows.specs.Row.{room, isRow}
+use Rattle.rows.specs.Row.{room}
+use Rattle.held.specs.Held.{isRow}
 use Rattle.rows.specs.declared.Row.{Row}
 use Rattle.state.specs.Lexer.{reachOf}
 use Rattle.state.specs.State.{startState, stateOf}

@@ -15,6 +15,7 @@ ghost use Rattle.rows.specs.First.{Packs};
 ghost use Rattle.rows.specs.Row.{room};
 ghost use Rattle.reading.specs.Scan.{readingOf};
 ghost use Rattle.foreign.specs.Check.{apartAfter, isRight, compared, byReading, listChecked};
+use held::is_row;
 use input::Input;
 use input::Refusal;
 use input::SOURCE_MOST;
@@ -54,7 +55,7 @@ fn apart_after(list: &[u32], count: usize, read: usize, apart: usize, row: Row) 
     if count <= read {
         return apart;
     }
-    if rows::is_row(list, read, row) {
+    if is_row(list, read, row) {
         return read + 1;
     }
     apart

@@ -11,7 +11,8 @@ use Rattle.utf8.specs.Meaning.{Arriving, Damaged}
 use Rattle.fitness.specs.Fit.{tableCheck}
 use Rattle.fitness.specs.declared.TableCheck.the-variants.{Fit, BadTable}
 use Rattle.input.specs.Input as input
-use Rattle.rows.specs.Row.{room, isRow, putRows}
+use Rattle.rows.specs.Row.{room, putRows}
+use Rattle.held.specs.Held.{isRow}
 use Rattle.rows.specs.declared.Row.{Row}
 use Rattle.reading.specs.Reading as reading
 use Rattle.reading.specs.Scan.{endOf}

@@ -23,9 +23,10 @@ use Rattle.input.specs.declared.Input.{Input}
 use Rattle.input.specs.declared.Input.the-variants as asked
 use Rattle.input.specs.declared.Refusal.{Refusal}
 use Rattle.input.specs.declared.Refusal.the-variants.{TooLong, BadEdition, BadTable, BadUtf8, CutUtf8}
-use Rattle.rows.specs.Row.{room, isRow, putRows}
+use Rattle.rows.specs.Row.{room, putRows}
+use Rattle.held.specs.Held.{isRow}
 use Rattle.rows.specs.RowLaws.{rows-room}
-use Rattle.rows.specs.HeldLaws.{rows-are, rows-held}
+use Rattle.held.specs.HeldLaws.{rows-are, rows-held}
 use Rattle.rows.specs.declared.Row.{Row}
 use Rattle.reading.specs.Reading as reading
 use Rattle.reading.specs.Scan as scan

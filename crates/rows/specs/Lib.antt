@@ -4,4 +4,3 @@ pub mod Row
 pub mod FirstLaws
 pub mod StoreLaws
 pub mod RowLaws
-pub mod HeldLaws

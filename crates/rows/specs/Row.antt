@@ -1,10 +1,9 @@
 -- Document 01, "Records": a record is eight numbers of 32 bits, of which the first holds kind, detail and depth (`First`). Records stand one
 -- after the other from the start of a list. Nothing outside this crate knows a record's numbers: it knows `Row`, and these names.
 -- Assumes nothing.
-use mathlib.Core.Bool.{Bool, _&&_}
+use mathlib.Core.Bool.{Bool}
 use mathlib.Core.List.{List, [], _∷_, _++_}
 use Prim.Native.Nat.{ℕ, zero, suc, _+_, _*_}
-use lib.Dec.{eqb}
 use lib.ListN.{getD, take, drop}
 use Rattle.rows.specs.First.{firstOf, kindIn, detailIn, depthIn, aboveIn, fitsBelow, shownBelow}
 use Rattle.rows.specs.Store.{roomFor, putAt, wordsAll, putAll, putFrom}
@@ -59,23 +58,6 @@ rowAt list i = rowFrom list (rowWords * i)
 -- the first number of record i
 abbrev pub firstAt : List ℕ → ℕ → ℕ
 firstAt list i = getD list (rowWords * i) 0
-
--- the span of a record is that of these four numbers
-unfoldable pub isSpan : List ℕ → ℕ → Row → Bool
-isSpan list at r =
-    eqb (r .«start_line») (getD list at 0)
-    && (eqb (r .«start_column») (getD list (at + 1) 0)
-    && (eqb (r .«end_line») (getD list (at + 2) 0)
-    && eqb (r .«end_column») (getD list (at + 3) 0)))
-
--- record i of a list is this one: each of its eight numbers is
-unfoldable pub isRow : List ℕ → ℕ → Row → Bool
-isRow list i r =
-    eqb (firstOf r) (getD list (rowWords * i) 0)
-    && (eqb (r .start) (getD list (rowWords * i + 1) 0)
-    && (eqb (r .end) (getD list (rowWords * i + 2) 0)
-    && (isSpan list (rowWords * i + 3) r
-    && eqb (r .indent) (getD list (rowWords * i + 7) 0))))
 
 -- a list in which record i is this one; every other number stays
 unfoldable pub putRow : List ℕ → ℕ → Row → List ℕ

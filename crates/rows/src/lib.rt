@@ -3,10 +3,9 @@
 // The other crates know `Row`, a record with named fields; which number of the list holds what, where record i stands in a list, and how many
 // records have room are known here alone. It knows no source, no state and no scan.
 ghost use mathlib.Core.Path.{_≡_};
-ghost use Prim.Native.Nat.{_+_, _*_, _≤_, _<_};
-ghost use lib.ListN.{length};
+ghost use Prim.Native.Nat.{_*_, _<_};
 ghost use Rattle.rows.specs.First.{Packs};
-ghost use Rattle.rows.specs.Row.{rowWords, room, putRow, rowFrom, firstAt, isSpan, isRow, shownAt};
+ghost use Rattle.rows.specs.Row.{rowWords, room, putRow, rowFrom, firstAt, shownAt};
 use crate::first::ABOVE_UNIT;
 use crate::first::DEPTH_ROOM;
 use crate::first::DEPTH_UNIT;
@@ -97,28 +96,6 @@ pub fn read_row(list: &[u32], i: usize) -> Row
         indent: list[at + 7],
         depth: first / DEPTH_UNIT % DEPTH_ROOM,
     }
-}
-
-// Whether the numbers from a place on are the span of this record.
-fn is_span(list: &[u32], at: usize, row: Row) -> bool
-    requires { ⌜ at + 4 ≤ length (now list) ⌝ }
-    ensures { λ r. ⌜ r ≡ isSpan (now (list .entry)) at row ⌝ }
-{
-    row.start_line == list[at]
-        && (row.start_column == list[at + 1]
-            && (row.end_line == list[at + 2] && row.end_column == list[at + 3]))
-}
-
-// Whether record i is this one, number by number.
-pub fn is_row(list: &[u32], i: usize, row: Row) -> bool
-    requires { ⌜ (i < room (now list)) × Packs row ⌝ }
-    ensures { λ r. ⌜ r ≡ isRow (now (list .entry)) i row ⌝ }
-{
-    let at = ROW_WORDS * i;
-    first_of(row) == list[at]
-        && (row.start == list[at + 1]
-            && (row.end == list[at + 2]
-                && (is_span(list, at + 3, row) && row.indent == list[at + 7])))
 }
 
 // Record i, or that it is none that may be shown (refusal 9).

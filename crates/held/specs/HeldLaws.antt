@@ -13,11 +13,12 @@ use lib.ListN.{length, getD, drop, set}
 use lib.Seq.{getD-drop, drop-drop, set-getD, sets}
 use borrow.Author.Tests.{eq-eqb, eqb-true}
 use Rattle.base.specs.CasesLaws.{and-yes}
 use Rattle.rows.specs.Store.{wordsAll}
 use Rattle.rows.specs.StoreLaws as store
-use Rattle.rows.specs.Row.{rowWords, room, wordsOf, isSpan, isRow, putRow, putRows, putRowsAt}
+use Rattle.rows.specs.Row.{rowWords, room, wordsOf, rowAt, putRow, putRows, putRowsAt}
 use Rattle.rows.specs.RowLaws.{put-by-stores, puts-none, puts-next, rows-one-by-one}
 use Rattle.rows.specs.declared.Row.{Row}
+use Rattle.held.specs.Held.{isSpan, isRow}
 
 -- ---- numbers
 
@@ -47,15 +48,15 @@ module _ (l : List ℕ) (i : ℕ) (r : Row) where
   moved e f = ap (λ (k : ℕ). getD l k 0) e ∙ f
 
   is-stand : isRow l i r ≡ true → Stand l (rowWords * i) (wordsOf r)
-  unfolding isRow isSpan
+  unfolding isRow isSpan rowAt
   is-stand e =
       let a : ℕ = rowWords * i in
       let at-1 : suc a ≡ a + 1 = omega arith in
       let at-2 : suc (suc a) ≡ a + 2 = omega arith in
       let at-3 : suc (suc (suc a)) ≡ a + 3 = omega arith in
-      let at-4 : suc (suc (suc (suc a))) ≡ a + 3 + 1 = omega arith in
-      let at-5 : suc (suc (suc (suc (suc a)))) ≡ a + 3 + 2 = omega arith in
-      let at-6 : suc (suc (suc (suc (suc (suc a))))) ≡ a + 3 + 3 = omega arith in
+      let at-4 : suc (suc (suc (suc a))) ≡ a + 4 = omega arith in
+      let at-5 : suc (suc (suc (suc (suc a)))) ≡ a + 5 = omega arith in
+      let at-6 : suc (suc (suc (suc (suc (suc a))))) ≡ a + 6 = omega arith in
       let at-7 : suc (suc (suc (suc (suc (suc (suc a)))))) ≡ a + 7 = omega arith in
       let one = one-of e in
       let two = one-of (one .1) in
@@ -84,7 +85,7 @@ module _ (l : List ℕ) (i : ℕ) (r : Row) where
       one-of {x} {y} {t} f = let both = and-eq-true-iff (eqb x y) t .0 f in (sym (eqb-true x y (both .0)), both .1)
 
   stand-is : Stand l (rowWords * i) (wordsOf r) → isRow l i r ≡ true
-  unfolding isRow isSpan
+  unfolding isRow isSpan rowAt
   stand-is h =
       and-yes _ _ _ (same (h .0)) (and-yes _ _ _ (same (moved (omega arith) (h .1 .0))) (and-yes _ _ _ (same (moved (omega arith) (h .1 .1 .0)))
       (and-yes _ _ _
