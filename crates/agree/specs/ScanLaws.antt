@@ -1,6 +1,7 @@
 -- C-14, of the calls over a source: fit tables that agree on its code points give the same scan in every respect.
---     inputs-agree     the refusals before any work
---     scan-agrees      answer and words of a scan
+--     inputs-agree                         the refusals before any work
+--     on-rest-agrees, on-reading-agrees    an answer by them, or else by what is left to read from a state, or by the reading
+--     scan-agrees                          answer and words of a scan
 -- Assumes nothing.
 use Prim.Native.Nat.{ℕ}
 use mathlib.Core.Path.{_≡_, refl, sym, ap, _∙_}
@@ -19,10 +20,13 @@ use Rattle.input.specs.declared.Input.the-variants as input
 use Rattle.cluster.specs.FirstLaws.{Agree}
 use Rattle.rows.specs.Row.{room, putRows}
 use Rattle.rows.specs.declared.Row.{Row}
+use Rattle.state.specs.State.{startState}
+use Rattle.state.specs.declared.State.{State}
+use Rattle.reading.specs.Reading.{Reading, readFrom}
 use Rattle.reading.specs.Scan.{byRoom, readingOf, scanned, writtenBy, written, Scans}
 use Rattle.reading.specs.declared.Scanned.{Scanned}
 use Rattle.reading.specs.declared.Scanned.the-variants.{Refused}
-use Rattle.agree.specs.ReadingLaws.{reading-agrees}
+use Rattle.agree.specs.ReadingLaws.{remaining-agrees, read-agrees}
 
 -- of a table the refusals ask only whether it is fit
 pub inputs-agree : (most : ℕ) (bytes t u : List ℕ) (edition : ℕ) → tableCheck t ≡ Fit → tableCheck u ≡ Fit
@@ -36,18 +40,31 @@ module _ (source t u : List ℕ) (edition : ℕ) (fit : tableCheck t ≡ Fit) (a
   same-input = inputs-agree sourceMost source t u edition fit also
 
   -- where none of the refusals is given
-  readings : inputCheck sourceMost source t edition ≡ input.Fine → readingOf source t edition ≡ readingOf source u edition
-  readings e = reading-agrees (propertiesAt t) (propertiesAt u) edition source (fine-of sourceMost source t edition e .well) agree
+  rests : inputCheck sourceMost source t edition ≡ input.Fine → (st : State)
+      → readFrom (propertiesAt t) edition source st ≡ readFrom (propertiesAt u) edition source st
+  rests e st =
+      let well = fine-of sourceMost source t edition e .well in
+      read-agrees (propertiesAt t) (propertiesAt u) edition source (remaining-agrees (propertiesAt t) (propertiesAt u) source well agree) st
+
+  pub on-rest-agrees : {A : Type 0} (f : Refusal → A) (st : State) (g : Reading → A)
+      → onInput f (inputCheck sourceMost source t edition) (g (readFrom (propertiesAt t) edition source st))
+      ≡ onInput f (inputCheck sourceMost source u edition) (g (readFrom (propertiesAt u) edition source st))
+  on-rest-agrees f st g = go (inputCheck sourceMost source t edition) refl
+    where
+      go : (c : Input) → inputCheck sourceMost source t edition ≡ c
+          → onInput f (inputCheck sourceMost source t edition) (g (readFrom (propertiesAt t) edition source st))
+          ≡ onInput f (inputCheck sourceMost source u edition) (g (readFrom (propertiesAt u) edition source st))
+      go input.Fine e = λ i. onInput f (same-input i) (g (rests e st i))
+      go (input.Refused x) e = rw (e, sym same-input ∙ e)
+
+  pub on-reading-agrees : {A : Type 0} (f : Refusal → A) (g : Reading → A)
+      → onInput f (inputCheck sourceMost source t edition) (g (readingOf source t edition))
+      ≡ onInput f (inputCheck sourceMost source u edition) (g (readingOf source u edition))
+  on-reading-agrees f = on-rest-agrees f startState
 
   pub scanned-agrees : (n : ℕ) → scanned source t edition n ≡ scanned source u edition n
   unfolding scanned
-  scanned-agrees n = go (inputCheck sourceMost source t edition) refl
-    where
-      go : (c : Input) → inputCheck sourceMost source t edition ≡ c
-          → onInput Refused (inputCheck sourceMost source t edition) (byRoom n 0 0 (readingOf source t edition))
-          ≡ onInput Refused (inputCheck sourceMost source u edition) (byRoom n 0 0 (readingOf source u edition))
-      go input.Fine e = λ i. onInput Refused (same-input i) (byRoom n 0 0 (readings e i))
-      go (input.Refused x) e = rw (e, sym same-input ∙ e)
+  scanned-agrees n = on-reading-agrees Refused (byRoom n 0 0)
 
   -- nothing is written where a refusal comes before any work
   none-written : (v : List ℕ) (n : ℕ) {x : Refusal} → inputCheck sourceMost source v edition ≡ input.Refused x → (rows : List Row)
@@ -62,7 +79,7 @@ module _ (source t u : List ℕ) (edition : ℕ) (fit : tableCheck t ≡ Fit) (a
       go : (c : Input) → inputCheck sourceMost source t edition ≡ c
           → writtenBy (scanned source t edition n) (take n (readingOf source t edition .rows))
           ≡ writtenBy (scanned source u edition n) (take n (readingOf source u edition .rows))
-      go input.Fine e = λ i. writtenBy (scanned-agrees n i) (take n (readings e i .rows))
+      go input.Fine e = λ i. writtenBy (scanned-agrees n i) (take n (rests e startState i .rows))
       go (input.Refused x) e =
           none-written t n e (take n (readingOf source t edition .rows))
           ∙ sym (none-written u n (sym same-input ∙ e) (take n (readingOf source u edition .rows)))

@@ -15,6 +15,11 @@ use Rattle.reading.specs.Scan.{Scans}
 use Rattle.reading.specs.declared.Scanned.{Scanned}
 use Rattle.profile.specs.Profile.{Profiles}
 use Rattle.profile.specs.declared.Profiled.{Profiled}
+use Rattle.foreign.specs.Check.{listChecked}
+use Rattle.foreign.specs.declared.Checked.{Checked}
+use Rattle.edit.specs.declared.Edit.{Edit}
+use Rattle.rescan.specs.Rescan.{Rescans}
+use Rattle.rescan.specs.declared.Rescanned.{Rescanned}
 use Rattle.pool_rows.specs.declared.Counts.{Counts}
 use Rattle.parse.specs.Call.{Parses}
 use Rattle.parse.specs.declared.After.{After}
@@ -37,6 +42,13 @@ pub record SmallTablesPromise (bytes t u : List ℕ) (edition : ℕ) : Type 0 wh
   pub same-scan : (old new other : List ℕ) (r q : Scanned) → Scans bytes t edition old r new → Scans bytes u edition old q other
       → (r ≡ q) × (new ≡ other)
   pub same-profile : (old new other : List ℕ) (r q : Profiled) → Profiles bytes t edition old r new → Profiles bytes u edition old q other
+      → (r ≡ q) × (new ≡ other)
+  -- the check of another lexer's list
+  pub same-check : (list : List ℕ) (count status : ℕ) (r q : Checked) → r ≡ listChecked bytes t edition list count status
+      → q ≡ listChecked bytes u edition list count status → r ≡ q
+  -- a rescan, where the bytes are the new source
+  pub same-rescan : (source from : List ℕ) (count : ℕ) (e : Edit) (list new other : List ℕ) (r q : Rescanned)
+      → Rescans source from count e bytes t edition list r new → Rescans source from count e bytes u edition list q other
       → (r ≡ q) × (new ≡ other)
   pub same-parse :
       (pool entries newPool newEntries otherPool otherEntries : List ℕ) (counts : Counts) (r q : After)
