@@ -14,7 +14,7 @@ use Rattle.pool_lent.specs.Entries.{entryOf}
 use Rattle.pool_lent.specs.declared.Entry.{Entry}
 use Rattle.parse.specs.Numbers.{noNumber}
 use Rattle.compact.specs.Compact.{gone}
-use Rattle.wrong_answers.specs.Wrong.{Wrong, readChar, checkUtf8, checkTable, readTable, firstCluster, scan, next, peek, lookAhead, addString, parse, compact}
+use Rattle.wrong_answers.specs.Wrong.{Wrong, readChar, checkUtf8, checkTable, readTable, firstCluster, scan, next, peek, lookAhead, checkList, rescan, addString, parse, compact}
 
 -- ---- what goes in
 
@@ -80,6 +80,20 @@ aSpace = row kind.id 0 0 0 1 ++ row kind.whitespace 0 0 1 2
 -- the records of `'{x:`, after which format options stand
 abbrev toOptions : List ℕ
 toOptions = row kind.stringStart 1 0 0 1 ++ row kind.curlyOpen 0 1 1 2 ++ row kind.id 0 2 2 3 ++ row kind.colon 0 2 3 4
+
+-- the numbers of a newline at a place of the first line
+abbrev newLineAt : ℕ → List ℕ
+newLineAt start = kind.newLine ∷ start ∷ start + 1 ∷ 0 ∷ start ∷ 1 ∷ 0 ∷ 0 ∷ []
+
+-- those of a name of one byte, the first of the second line, which starts there
+abbrev nameBelow : ℕ → List ℕ
+nameBelow start = kind.id ∷ start ∷ start + 1 ∷ 1 ∷ 0 ∷ 1 ∷ 1 ∷ 0 ∷ []
+
+-- the list of `'a`, newline, `b'`: one literal goes over both lines
+abbrev overLines : List ℕ
+overLines =
+    row kind.stringStart 1 0 0 1 ++ (kind.stringLiteral + 1048576 ∷ 1 ∷ 4 ∷ 0 ∷ 1 ∷ 1 ∷ 1 ∷ 0 ∷ [])
+    ++ (kind.stringEnd + 1048576 ∷ 4 ∷ 5 ∷ 1 ∷ 1 ∷ 1 ∷ 2 ∷ 0 ∷ [])
 
 -- what is shown where no token is
 abbrev shownNothing : List ℕ
@@ -257,6 +271,34 @@ ofCursors =
     ∷ peek (zeros 1) 0 65535 1 stuckNumber 65535 65535 0 shownNothing 0 6
     -- 65,535 tokens may be queued
     ∷ lookAhead (zeros 1) 0 0 1 stuckNumber 65534 0 0 shownNothing 0 7
+    ∷ []
+
+-- ---- another lexer's list
+
+abbrev pub ofChecks : List Wrong
+ofChecks =
+    -- the last record is compared too
+    checkList (bytes "a ") smallTable withGB9c (row kind.id 0 0 0 1 ++ row kind.whitespace 0 0 1 3) 2 endNumber 1 0 0 0
+    -- where only the counts differ the smaller one is named
+    ∷ checkList (bytes "a ") smallTable withGB9c aSpace 1 endNumber 0 2 0 0
+    -- the status is compared
+    ∷ checkList (bytes "a ") smallTable withGB9c aSpace 2 stuckNumber 1 0 0 0
+    -- a list that is shorter than its count is refusal 8, and no difference is named
+    ∷ checkList (bytes "a ") smallTable withGB9c aSpace 3 endNumber 0 2 0 0
+    ∷ []
+
+-- ---- a list after an edit
+
+abbrev pub ofRescans : List Wrong
+ofRescans =
+    -- no record is kept where a string is open at the line's start: what follows is still the literal
+    rescan (bytes "'a\nb'") overLines 3 3 1 1 (bytes "'a\nc'") smallTable withGB9c (zeros 5)
+    (row kind.stringStart 1 0 0 1 ++ row kind.id 0 0 1 2 ++ newLineAt 2 ++ nameBelow 3 ++ zeros 1) endNumber 4 4 0
+    -- the old list's words past the kept ones are not copied
+    ∷ rescan (bytes "a\nb") (row kind.id 0 0 0 1 ++ newLineAt 1 ++ nameBelow 2) 3 2 1 0 (bytes "a\n") smallTable withGB9c (replicate 24 7)
+    (row kind.id 0 0 0 1 ++ newLineAt 1 ++ nameBelow 2) endNumber 2 2 0
+    -- an edit that leads to another source is refusal 16
+    ∷ rescan (bytes "a\nb") (row kind.id 0 0 0 1 ++ newLineAt 1 ++ nameBelow 2) 3 2 1 0 (bytes "b\n") smallTable withGB9c [] [] refusedNumber 0 0 4
     ∷ []
 
 -- ---- strings of a pool, and format options

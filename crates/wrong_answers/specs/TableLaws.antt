@@ -30,6 +30,12 @@ use Rattle.lookahead.specs.Next as next
 use Rattle.lookahead.specs.Peek as peek
 use Rattle.lookahead.specs.LookAhead.{lookAheadOf}
 use Rattle.lookahead.specs.declared.Peeked.{Peeked}
+use Rattle.held.specs.Held as held
+use Rattle.foreign.specs.Check as check
+use Rattle.edit.specs.Edit.{editFits}
+use Rattle.keep.specs.Keep as keep
+use Rattle.rescan.specs.Rescan as rescan
+use Rattle.koto_rescan.specs.Rescans.{editOf, answerFor}
 use Rattle.pool.specs.Pool as pool
 use Rattle.pool.specs.declared.Added.{Added}
 use Rattle.pool_rows.specs.Rows.{same}
@@ -46,7 +52,7 @@ use Rattle.koto_desks.specs.Words.{countWords, deskWords, lentBy}
 use Rattle.promises.specs.CasesLaws.{formats-computed}
 use Rattle.wrong_answers.specs.Wrong as wrong
 use Rattle.wrong_answers.specs.Wrong.{Wrong, Meets, ShutOut, AllShutOut}
-use Rattle.wrong_answers.specs.Table.{ofBytes, ofTables, ofClusters, ofScans, ofCursors, ofPools, ofDesks}
+use Rattle.wrong_answers.specs.Table.{ofBytes, ofTables, ofClusters, ofScans, ofCursors, ofChecks, ofRescans, ofPools, ofDesks}
 
 -- ---- the numbers of an answer
 
@@ -61,6 +67,8 @@ tells (wrong.scan source table edition old new status count byte r) = r ∷ stat
 tells (wrong.next list taken queued count status newTaken newQueued shown words place r) = r ∷ newTaken ∷ newQueued ∷ shown ∷ place ∷ words
 tells (wrong.peek list taken queued count status n newQueued shown words place r) = r ∷ newQueued ∷ shown ∷ place ∷ words
 tells (wrong.lookAhead list taken queued count status n newQueued shown words place r) = r ∷ newQueued ∷ shown ∷ place ∷ words
+tells (wrong.checkList source table edition list count status same differs place r) = r ∷ same ∷ differs ∷ place ∷ []
+tells (wrong.rescan source from oldCount place removed putIn new-source table edition old new status count byte r) = r ∷ status ∷ count ∷ byte ∷ new
 tells (wrong.addString string bytes entries counts newBytes newEntries newCounts index place r) =
     r ∷ index ∷ place ∷ newCounts .entries ∷ newCounts .bytes ∷ newBytes ++ numbersOf newEntries
 tells (wrong.parse format table edition bytes entries counts newBytes newEntries newCounts options value r) =
@@ -112,6 +120,15 @@ told (wrong.next list taken queued count status newTaken newQueued shown words p
     next.numberOf answer ∷ told .taken ∷ told .queued ∷ told .shown ∷ next.placeOf answer ∷ recordNumbers (told .row)
 told (wrong.peek list taken queued count status n newQueued shown words place r) = lookTold (peekBy list taken queued count status n) taken queued
 told (wrong.lookAhead list taken queued count status n newQueued shown words place r) = lookTold (lookBy list taken queued count status n) taken queued
+told (wrong.checkList source table edition list count status same differs place r) =
+    let answer = check.listChecked source table edition list count status in
+    check.numberOf answer ∷ check.sameOf answer ∷ check.differsOf answer ∷ check.placeOf answer ∷ []
+told (wrong.rescan source from oldCount place removed putIn new-source table edition old new status count byte r) =
+    let e = editOf place removed putIn in
+    let answer = answerFor source from oldCount e new-source table edition old in
+    rescan.numberOf answer ∷ rescan.statusOf answer ∷ rescan.countOf answer ∷ rescan.placeOf answer
+    ∷ rescan.onAll source from oldCount e new-source table edition (λ x. old) old old
+    (rescan.wordsBehind source from oldCount e new-source table edition old)
 told (wrong.addString string bytes entries counts newBytes newEntries newCounts index place r) =
     let answer = pool.added string bytes (numbersOf entries) counts in
     addedTold answer counts (pool.bytesAfter string counts answer bytes) (pool.entriesAfter string counts answer (numbersOf entries))
@@ -136,6 +153,10 @@ meets-told (wrong.peek list taken queued count status n newQueued shown words pl
     λ i. p .number i ∷ p .queued-is i ∷ p .shown-is i ∷ p .place-is i ∷ p .words-are i
 meets-told (wrong.lookAhead list taken queued count status n newQueued shown words place r) p =
     λ i. p .number i ∷ p .queued-is i ∷ p .shown-is i ∷ p .place-is i ∷ p .words-are i
+meets-told (wrong.checkList source table edition list count status same differs place r) p =
+    λ i. p .number i ∷ p .same-is i ∷ p .differs-is i ∷ p .place-is i ∷ []
+meets-told (wrong.rescan source from oldCount place removed putIn new-source table edition old new status count byte r) p =
+    λ i. p .number i ∷ p .status-is i ∷ p .count-is i ∷ p .byte-is i ∷ p .words i
 meets-told (wrong.addString string bytes entries counts newBytes newEntries newCounts index place r) p =
     λ i.
     p .told .number i ∷ p .told .index-is i ∷ p .told .place-is i ∷ p .counts-left i .entries ∷ p .counts-left i .bytes
@@ -196,6 +217,14 @@ pub cursors-shut-out : AllShutOut ofCursors
 unfolding formats-computed same first.rowFits first.fitsBelow rows.rowAt rows.fitsAt rows.shownAt isFit recordAt movedOn mustQueue queuedOne queuedFor seenAt next.nextOf
     peek.queuedAt peek.peekOf lookAheadOf
 cursors-shut-out = others-shut-out ofCursors refl
+
+pub checks-shut-out : AllShutOut ofChecks
+unfolding formats-computed same rows.rowAt held.isSpan held.isRow check.firstApart check.listChecked
+checks-shut-out = others-shut-out ofChecks refl
+
+pub rescans-shut-out : AllShutOut ofRescans
+unfolding formats-computed same rows.rowAt rows.putRow rows.putRowsAt rows.copyRows editFits keep.links keep.closes keep.keptRows
+rescans-shut-out = others-shut-out ofRescans refl
 
 pub pools-shut-out : AllShutOut ofPools
 unfolding formats-computed numbersOf

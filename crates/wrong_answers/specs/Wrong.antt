@@ -11,6 +11,8 @@ use Rattle.koto_lexer.specs.Tables.{CheckTableIs, ReadTableIs}
 use Rattle.koto_lexer.specs.Clusters.{FirstClusterIs}
 use Rattle.koto_lexer.specs.Scans.{ScanIs}
 use Rattle.koto_lexer.specs.Cursors.{NextIs, PeekIs, LookAheadIs}
+use Rattle.koto_check.specs.Checks.{CheckListIs}
+use Rattle.koto_rescan.specs.Rescans.{editOf, RescanIs}
 use Rattle.koto_pool.specs.Pools.{AddStringIs}
 use Rattle.koto_pool.specs.Formats.{ParseIs}
 use Rattle.koto_desks.specs.Words.{lentBy}
@@ -35,6 +37,11 @@ pub data Wrong : Type 0 where
   -- list, the cursor's four numbers, position; queued, shown, record, place
   peek : (list : List ℕ) (taken queued count status n newQueued shown : ℕ) (words : List ℕ) (place r : ℕ) → Wrong
   lookAhead : (list : List ℕ) (taken queued count status n newQueued shown : ℕ) (words : List ℕ) (place r : ℕ) → Wrong
+  -- source, table, edition, list, its count and status; same, the index that is named, place
+  checkList : (source table : List ℕ) (edition : ℕ) (list : List ℕ) (count status same differs place r : ℕ) → Wrong
+  -- old source, its list and count, the edit's three numbers, new source, table, edition, list; list, status, count, byte
+  rescan : (source from : List ℕ) (oldCount place removed putIn : ℕ) (new-source table : List ℕ) (edition : ℕ) (old new : List ℕ)
+      (status count byte r : ℕ) → Wrong
   -- string, pool; pool, index, place
   addString : (string bytes : List ℕ) (entries : List Entry) (counts : Counts) (newBytes : List ℕ) (newEntries : List Entry)
       (newCounts : Counts) (index place r : ℕ) → Wrong
@@ -57,6 +64,10 @@ Meets (next list taken queued count status newTaken newQueued shown words place 
 Meets (peek list taken queued count status n newQueued shown words place r) = PeekIs list taken queued count status n newQueued shown words place r
 Meets (lookAhead list taken queued count status n newQueued shown words place r) =
     LookAheadIs list taken queued count status n newQueued shown words place r
+Meets (checkList source table edition list count status same differs place r) =
+    CheckListIs source table edition list count status same differs place r
+Meets (rescan source from oldCount place removed putIn new-source table edition old new status count byte r) =
+    RescanIs source from oldCount (editOf place removed putIn) new-source table edition old new status count byte r
 Meets (addString string bytes entries counts newBytes newEntries newCounts index place r) =
     AddStringIs string bytes entries counts newBytes newEntries newCounts index place r
 Meets (parse format table edition bytes entries counts newBytes newEntries newCounts options value r) =
