@@ -52,7 +52,7 @@ use Rattle.koto_desks.specs.Words.{countWords, deskWords, lentBy}
 use Rattle.promises.specs.CasesLaws.{formats-computed}
 use Rattle.wrong_answers.specs.Wrong as wrong
 use Rattle.wrong_answers.specs.Wrong.{Wrong, Meets, ShutOut, AllShutOut}
-use Rattle.wrong_answers.specs.Table.{ofBytes, ofTables, ofClusters, ofScans, ofCursors, ofChecks, ofRescans, ofPools, ofDesks}
+use Rattle.wrong_answers.specs.Table.{ofBytes, ofTables, ofClusters, ofScans, ofTokens, ofCursors, ofChecks, ofRescans, ofPools, ofDesks}
 
 -- ---- the numbers of an answer
 
@@ -212,6 +212,10 @@ clusters-shut-out = others-shut-out ofClusters refl
 pub scans-shut-out : AllShutOut ofScans
 unfolding formats-computed same rows.wordsOfAll rows.putRows
 scans-shut-out = others-shut-out ofScans refl
+
+pub tokens-shut-out : AllShutOut ofTokens
+unfolding formats-computed same rows.wordsOfAll rows.putRows
+tokens-shut-out = others-shut-out ofTokens refl
 
 pub cursors-shut-out : AllShutOut ofCursors
 unfolding formats-computed same first.rowFits first.fitsBelow rows.rowAt rows.fitsAt rows.shownAt isFit recordAt movedOn mustQueue queuedOne queuedFor seenAt next.nextOf
