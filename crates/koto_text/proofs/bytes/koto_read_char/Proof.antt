@@ -3,8 +3,8 @@ use mathlib.Core.Path.{ap, _∙_}
 use Rattle.utf8.specs.Lengths.{lenOf}
 use Rattle.utf8.specs.Answer.{readNumber, codeOf}
 use borrow.Author.Needs.{needs}
-use Rattle.koto_lexer.proofs.bytes.koto_read_char.Statement.{statement}
-use Rattle.koto_lexer.proofs.bytes.koto_read_char.Tie as tie
+use Rattle.koto_text.proofs.bytes.koto_read_char.Statement.{statement}
+use Rattle.koto_text.proofs.bytes.koto_read_char.Tie as tie
 
 read-char-requires : tie.Need-read-char-requires
 read-char-requires c κs = search needs

@@ -1,5 +1,5 @@
 // The first cluster for C.
-ghost use Rattle.koto_lexer.specs.Clusters.{FirstClusterIs};
+ghost use Rattle.koto_text.specs.Clusters.{FirstClusterIs};
 use cluster::answer;
 
 // The length in bytes of the source's first cluster; no bytes give 0. Refused are a source that is too long with 1, then a number that is no

@@ -2,8 +2,8 @@
 use mathlib.Core.Path.{ap, _∙_}
 use Rattle.table_file.specs.File.{numberOf, readCount, placeOf}
 use borrow.Author.Needs.{needs}
-use Rattle.koto_lexer.proofs.tables.koto_read_table.Statement.{statement}
-use Rattle.koto_lexer.proofs.tables.koto_read_table.Tie as tie
+use Rattle.koto_text.proofs.tables.koto_read_table.Statement.{statement}
+use Rattle.koto_text.proofs.tables.koto_read_table.Tie as tie
 
 read-table-requires : tie.Need-read-table-requires
 read-table-requires c κs = search needs

@@ -2,8 +2,8 @@
 use mathlib.Core.Path.{ap, _∙_}
 use Rattle.cluster.specs.Call.{numberOf, placeOf, lenOf}
 use borrow.Author.Needs.{needs}
-use Rattle.koto_lexer.proofs.clusters.koto_first_cluster.Statement.{statement}
-use Rattle.koto_lexer.proofs.clusters.koto_first_cluster.Tie as tie
+use Rattle.koto_text.proofs.clusters.koto_first_cluster.Statement.{statement}
+use Rattle.koto_text.proofs.clusters.koto_first_cluster.Tie as tie
 
 first-cluster-requires : tie.Need-first-cluster-requires
 first-cluster-requires c κs = search needs

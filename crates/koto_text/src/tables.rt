@@ -1,5 +1,5 @@
 // Property tables for C: a check of a table, and a table read from its file.
-ghost use Rattle.koto_lexer.specs.Tables.{CheckTableIs, ReadTableIs};
+ghost use Rattle.koto_text.specs.Tables.{CheckTableIs, ReadTableIs};
 
 // Checks a table. Refused with 2 is one that is unfit, at its place.
 #[no_mangle]

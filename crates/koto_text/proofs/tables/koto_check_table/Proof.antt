@@ -2,8 +2,8 @@
 use mathlib.Core.Path.{ap, _∙_}
 use Rattle.fitness.specs.Fit.{numberOf, placeOf}
 use borrow.Author.Needs.{needs}
-use Rattle.koto_lexer.proofs.tables.koto_check_table.Statement.{statement}
-use Rattle.koto_lexer.proofs.tables.koto_check_table.Tie as tie
+use Rattle.koto_text.proofs.tables.koto_check_table.Statement.{statement}
+use Rattle.koto_text.proofs.tables.koto_check_table.Tie as tie
 
 check-table-requires : tie.Need-check-table-requires
 check-table-requires c κs = search needs

@@ -2,8 +2,8 @@
 use mathlib.Core.Path.{ap, _∙_}
 use Rattle.utf8.specs.Answer.{numberOf, placeOf}
 use borrow.Author.Needs.{needs}
-use Rattle.koto_lexer.proofs.bytes.koto_check_utf8.Statement.{statement}
-use Rattle.koto_lexer.proofs.bytes.koto_check_utf8.Tie as tie
+use Rattle.koto_text.proofs.bytes.koto_check_utf8.Statement.{statement}
+use Rattle.koto_text.proofs.bytes.koto_check_utf8.Tie as tie
 
 check-utf8-requires : tie.Need-check-utf8-requires
 check-utf8-requires c κs = search needs

@@ -1,5 +1,5 @@
 // UTF-8 for C: one character read at a place, and a check of a whole slice.
-ghost use Rattle.koto_lexer.specs.Bytes.{ReadCharIs, CheckUtf8Is};
+ghost use Rattle.koto_text.specs.Bytes.{ReadCharIs, CheckUtf8Is};
 use utf8::answer;
 
 // Reads the character at a place. Refused are bytes that begin none with 3, and a character that the end cuts with 15.
