@@ -5,7 +5,7 @@ use mathlib.Core.List.{List, [], _∷_, _++_}
 use lib.ListN.{length, take, drop, replicate}
 use Rattle.fitness.specs.Small.{smallTable}
 use Rattle.table_file.specs.File.{fileOf}
-use Rattle.input.specs.Input.{withoutGB9c, withGB9c}
+use Rattle.input.specs.Input.{withGB9c}
 use Rattle.token.specs.Kind as kind
 use Rattle.words.specs.Words.{bytes}
 use Rattle.reading.specs.Status.{endNumber, stuckNumber, refusedNumber}

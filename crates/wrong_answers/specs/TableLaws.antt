@@ -41,7 +41,6 @@ use Rattle.pool.specs.declared.Added.{Added}
 use Rattle.pool_rows.specs.Rows.{same}
 use Rattle.pool_rows.specs.declared.Counts.{Counts}
 use Rattle.pool_lent.specs.Entries.{numbersOf}
-use Rattle.pool_lent.specs.declared.Entry.{Entry}
 use Rattle.parse.specs.Call as parse
 use Rattle.parse.specs.Numbers as numbers
 use Rattle.koto_lexer.specs.Cursors.{nextBy, nextTold, peekBy, lookBy}
