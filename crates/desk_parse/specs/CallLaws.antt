@@ -54,7 +54,7 @@ module _ (format table : List ℕ) (edition : ℕ) (which : Which) (s : Shared) 
   -- ---- the answer, by what is checked first
 
   pub refused-is : {x : Refusal} → inputCheck formatMost format table edition ≡ input.Refused x
-      → call format table edition which s ≡ comes (parse.refusedAs x) s
+      → call format table edition which s ≡ comes (said.Refused x) s
   unfolding call
   refused-is e = rw e
 
@@ -73,8 +73,8 @@ module _ (format table : List ℕ) (edition : ℕ) (which : Which) (s : Shared) 
   unfolding call inputOf
   unfit-is e = rw e (go (inputCheck formatMost format table edition))
     where
-      go : (c : Input) → onInput (λ (x : Refusal). comes (parse.refusedAs x) s) c (comes said.BadState s)
-          ≡ comes (unfitAnswer (onInput (λ (x : Refusal). read.Refused (parse.refusedAs x)) c (read.Refused said.BadState))) s
+      go : (c : Input) → onInput (λ (x : Refusal). comes (said.Refused x) s) c (comes said.BadState s)
+          ≡ comes (unfitAnswer (onInput (λ (x : Refusal). read.Refused (said.Refused x)) c (read.Refused said.BadState))) s
       go input.Fine = refl
       go (input.Refused x) = refl
 
@@ -205,7 +205,7 @@ module _ (format table : List ℕ) (edition : ℕ) (which : Which) (s : Shared) 
       where
         go : (c : Input) → inputCheck formatMost format table edition ≡ c
             → Follows (call format table edition which s) (parse.call format table edition part)
-        go (input.Refused x) h = rw h (following (parse.refusedAs x) refl at-first)
+        go (input.Refused x) h = rw h (following (said.Refused x) refl at-first)
         go input.Fine h = rw (h, ok, part-ok) read-on
 
     -- how much is in use after the parse in the part, of which this is said

@@ -26,7 +26,6 @@ use Rattle.pool.specs.Pool.{oneMore, onUtf8, added, isNew, numberOf, addedIndex
 use Rattle.pool.specs.PoolLaws.{old-bytes, old-entries, new-bytes, new-entries}
 use Rattle.pool.specs.declared.Added.{Added}
 use Rattle.pool.specs.declared.Added.the-variants.{Index, BadUtf8, CutUtf8, BadState, PoolFull}
-use Rattle.parse.specs.Call.{refusedAs}
 use Rattle.parse.specs.declared.Parsed.the-variants as said
 use Rattle.desks.specs.Desks.{Shared, shared, deskOf, other, fitDesks, Fits}
 use Rattle.desks.specs.FitLaws.{Fit, fit-of, fit-by}
@@ -160,7 +159,7 @@ desk-parse-promise format table edition which s {newBytes} {newEntries} {newOwne
     subst (λ (t : Shared). DeskParsePromise format table edition which s t r)
     (λ i. shared (sym (p .bytes-left) i) (sym (p .entries-left) i) (sym (p .owners-left) i) (sym (p .counts-left) i) (sym (p .desks-left) i))
     (record {
-      refused = λ x e. comes-to (comes (refusedAs x) s) (parse.refused-is format table edition which s e);
+      refused = λ x e. comes-to (comes (said.Refused x) s) (parse.refused-is format table edition which s e);
       bad-state = λ e f. comes-to (comes said.BadState s) (parse.bad-state-is format table edition which s e f);
       reads = λ e f. comes-to (ended (parsed format table edition which s)) (parse.reads-is format table edition which s e f);
       fits = parse.parse-fits format table edition which s;
