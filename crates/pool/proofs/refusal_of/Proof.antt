@@ -1,8 +1,8 @@
--- `pool_lent::refusal_of` meets its contract: its arms are those of `onUtf8`. Assumes nothing.
+-- `pool::refusal_of` meets its contract: its arms are those of `onUtf8`. Assumes nothing.
 use mathlib.Core.Path.{sym, _∙_}
 use borrow.Author.Needs.{needs}
-use Rattle.pool_lent.proofs.refusal_of.Statement.{statement}
-use Rattle.pool_lent.proofs.refusal_of.Tie as tie
+use Rattle.pool.proofs.refusal_of.Statement.{statement}
+use Rattle.pool.proofs.refusal_of.Tie as tie
 
 check-utf8-requires : tie.Need-check-utf8-requires
 check-utf8-requires c κs = search needs
