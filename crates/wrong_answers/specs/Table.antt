@@ -5,7 +5,7 @@ use mathlib.Core.List.{List, [], _∷_, _++_}
 use lib.ListN.{take, drop, replicate}
 use Rattle.fitness.specs.Small.{smallTable}
 use Rattle.table_file.specs.File.{fileOf}
-use Rattle.input.specs.Input.{withoutGB9c, withGB9c}
+use Rattle.input.specs.Input.{withGB9c}
 use Rattle.token.specs.Kind as kind
 use Rattle.words.specs.Words.{bytes}
 use Rattle.reading.specs.Status.{endNumber, stuckNumber, refusedNumber}
@@ -13,7 +13,7 @@ use Rattle.pool_rows.specs.declared.Counts.{Counts}
 use Rattle.pool_lent.specs.Entries.{entryOf}
 use Rattle.pool_lent.specs.declared.Entry.{Entry}
 use Rattle.parse.specs.Numbers.{noNumber}
-use Rattle.compact.specs.Compact.{gone}
+use Rattle.slide.specs.Slide.{gone}
 use Rattle.wrong_answers.specs.Wrong.{Wrong, readChar, checkUtf8, checkTable, readTable, firstCluster, scan, next, peek, lookAhead, addString, parse, compact}
 
 -- ---- what goes in

@@ -1,13 +1,10 @@
--- `compact::are_good` meets its contract. Assumes nothing.
+-- `marks::are_good` meets its contract. Assumes nothing.
 use mathlib.Core.Path.{sym}
 use Rattle.base.specs.CasesLaws.{denied}
-use Rattle.compact.specs.Compact.{goodMarks}
+use Rattle.marks.specs.Marks.{goodMarks}
 use borrow.Author.Needs.{needs}
-use Rattle.compact.proofs.are_good.Statement.{statement}
-use Rattle.compact.proofs.are_good.Tie as tie
-use Rattle.compact.proofs.are_good.Reads as reads
-use Rattle.compact.proofs.are_good.Lts as lts
-use Rattle.compact.proofs.are_given.Reads as are-given-reads
+use Rattle.marks.proofs.are_good.Statement.{statement}
+use Rattle.marks.proofs.are_good.Tie as tie
 
 returns : tie.Need-returns
 unfolding goodMarks

@@ -1,15 +1,13 @@
--- `compact::are_given` meets its contract: what is left from i on is given exactly where all are. Assumes nothing.
+-- `marks::are_given` meets its contract: what is left from i on is given exactly where all are. Assumes nothing.
 use Prim.Native.Nat.{_-_, _≤_}
 use mathlib.Core.Path.{_≡_, refl, sym, _∙_}
 use native.Mathlib.Omega.{arith}
 use borrow.Author.Needs.{needs}
 use lib.ListN.{length, drop}
-use Rattle.compact.specs.Compact.{allGiven}
-use Rattle.compact.specs.MarkLaws.{given-none, given-bad, given-on}
-use Rattle.compact.proofs.are_given.Statement.{statement}
-use Rattle.compact.proofs.are_given.Tie as tie
-use Rattle.compact.proofs.are_given.Reads as reads
-use Rattle.compact.proofs.are_given.Lts as lts
+use Rattle.marks.specs.Marks.{allGiven}
+use Rattle.marks.specs.MarksLaws.{given-none, given-bad, given-on}
+use Rattle.marks.proofs.are_given.Statement.{statement}
+use Rattle.marks.proofs.are_given.Tie as tie
 
 abbrev Inv-loop : tie.InvT-loop
 Inv-loop marks n i₀ i = (i ≤ length marks) × (allGiven (drop i marks) n ≡ allGiven marks n)

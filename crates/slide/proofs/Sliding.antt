@@ -6,22 +6,21 @@
 use Prim.Native.Nat.{ℕ, suc, _+_, _*_, _/_, _<_, _≤_}
 use native.Mathlib.Omega.{arith}
 use mathlib.Core.Path.{_≡_, refl, sym, ap, _∙_}
-use mathlib.Core.Bool.{Bool, true, false, not}
+use mathlib.Core.Bool.{Bool, true, false}
 use mathlib.Core.List.{List, [], _∷_, _++_}
 use lib.Dec.{eqb}
-use lib.ListN.{length, getD, set, take, drop, length-append, length-drop}
+use lib.ListN.{length, getD, set, drop, length-append, length-drop}
 use lib.Seq.{length-take-le, set-getD}
 use borrow.Author.Tests.{eqb-true, eq-eqb, ne-eqb, not-false}
-use Rattle.base.specs.Pick.{pick}
 use Rattle.pool_rows.specs.Rows.{startOf, lengthOf, stringAt, byteRoom, entryRoom, fitPool}
 use Rattle.pool.specs.Pool.{oneMore, written, entered}
-use Rattle.pool_rows.specs.FitLaws.{room-within, entry-room, Fit, fit-of, within, searchable}
+use Rattle.pool_rows.specs.FitLaws.{room-within, fit-of, within, searchable}
 use Rattle.pool_rows.specs.declared.Counts.{Counts}
-use Rattle.compact.specs.Compact.{kept, keptStrings, keptOwners, newIndex, gone, translated, joined, laidOut, countsOf, headed}
-use Rattle.compact.specs.Compact.{Compacted, stays, Turning, Turns}
-use Rattle.compact.specs.HeadLaws.{head-none, head-long, head-get, head-part, head-set, head-written, head-entered}
-use Rattle.compact.specs.CompactLaws.{kept-long, kept-with, kept-without, new-most, translated-long, translated-more, joined-more, laid-more}
-use Rattle.compact.specs.CompactLaws.{laid-long, kept-bytes}
+use Rattle.slide.specs.Slide.{kept, keptStrings, keptOwners, newIndex, gone, translated, joined, laidOut, headed}
+use Rattle.slide.specs.Slide.{Compacted, stays, Turning, Turns}
+use Rattle.slide.specs.HeadLaws.{head-long, head-get, head-part, head-set, head-written, head-entered}
+use Rattle.slide.specs.SlideLaws.{kept-long, kept-with, kept-without, new-most, translated-long, translated-more, joined-more, laid-more}
+use Rattle.slide.specs.SlideLaws.{laid-long, kept-bytes}
 use Rattle.desks.specs.SpentLaws.{spent, start-spent, all-spent}
 
 -- what is known of entry i of the rows as they were

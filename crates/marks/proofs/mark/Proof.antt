@@ -1,16 +1,14 @@
--- `compact::mark` meets its contract: what the marks from i on do to the row is what all of them do to the row as it was. Assumes nothing.
+-- `marks::mark` meets its contract: what the marks from i on do to the row is what all of them do to the row as it was. Assumes nothing.
 use Prim.Native.Nat.{_-_, _≤_}
 use mathlib.Core.Path.{_≡_, refl, sym, _∙_}
 use native.Mathlib.Omega.{arith}
 use denote.Ref.{now}
 use borrow.Author.Needs.{needs}
 use lib.ListN.{length, drop, length-set}
-use Rattle.compact.specs.Compact.{marked}
-use Rattle.compact.specs.MarkLaws.{given-at, mark-on, marked-none}
-use Rattle.compact.proofs.mark.Statement.{statement}
-use Rattle.compact.proofs.mark.Tie as tie
-use Rattle.compact.proofs.mark.Reads as reads
-use Rattle.compact.proofs.mark.Lts as lts
+use Rattle.marks.specs.Marks.{marked}
+use Rattle.marks.specs.MarksLaws.{given-at, mark-on, marked-none}
+use Rattle.marks.proofs.mark.Statement.{statement}
+use Rattle.marks.proofs.mark.Tie as tie
 
 abbrev Inv-loop : tie.InvT-loop
 Inv-loop moved₀ marks n i₀ moved i = (i ≤ length marks) × (length moved ≡ length moved₀) × (marked moved (drop i marks) ≡ marked moved₀ marks)

@@ -3,19 +3,20 @@
 --     kept-with, kept-without                 one index more
 --     joined-more, laid-more, laid-long       one string more
 --     kept-bytes                              what is kept is no longer than what there was
+--     compacted-same                          only what is kept of the entries in use counts, and what stands behind their words
 -- Assumes nothing.
 use Prim.Native.Nat.{ℕ, zero, suc, _+_, _*_, _<_, _≤_}
 use native.Mathlib.Omega.{arith}
-use native.Mathlib.Numerals.{add-one}
 use mathlib.Core.Path.{_≡_, refl, sym, ap, _∙_}
 use mathlib.Core.Bool.{Bool, true, false}
 use mathlib.Core.List.{List, [], _∷_, _++_, append-assoc, append-nil}
-use lib.ListN.{length, getD, take, drop, length-append, length-take}
+use lib.ListN.{length, getD, drop, length-append, length-take}
 use Rattle.base.specs.Pick.{pick}
 use Rattle.base.specs.PickLaws.{by-test}
 use Rattle.pool_rows.specs.Rows.{startOf, lengthOf, stringAt}
 use Rattle.desks.specs.SpentLaws.{spent}
-use Rattle.compact.specs.Compact.{kept, keptStrings, newIndex, gone, translated, joined, laidOut}
+use Rattle.pool_rows.specs.declared.Counts.{Counts}
+use Rattle.slide.specs.Slide.{kept, keptStrings, newIndex, gone, translated, joined, laidOut, headed, Compacted}
 
 -- ---- what is kept
 
@@ -88,3 +89,41 @@ kept-bytes keep bytes entries (suc n) =
     rw (joined-more ss s)
     (omega (arith, length-append (joined ss) s, length-take (lengthOf entries n) (drop (startOf entries n) bytes), kept-bytes keep bytes entries n)))
     (λ e. rw (append-nil (keptStrings keep bytes entries n)) (omega (arith, kept-bytes keep bytes entries n)))
+
+-- ---- only what is kept counts
+
+module _ (keep keep′ : ℕ → Bool) where
+  kept-same : {A : Type 0} (f : ℕ → A) (n : ℕ) → ((k : ℕ) → k < n → keep k ≡ keep′ k) → kept keep f n ≡ kept keep′ f n
+  unfolding kept
+  kept-same f zero h = refl
+  kept-same f (suc n) h = rw (h n (omega arith), kept-same f n (λ k l. h k (omega arith)))
+
+  new-same : (n : ℕ) → ((k : ℕ) → k < n → keep k ≡ keep′ k) → newIndex keep n ≡ newIndex keep′ n
+  unfolding newIndex
+  new-same zero h = refl
+  new-same (suc n) h = rw (h n (omega arith), new-same n (λ k l. h k (omega arith)))
+
+  translated-same : (n : ℕ) → ((k : ℕ) → k < n → keep k ≡ keep′ k) → translated keep n ≡ translated keep′ n
+  unfolding translated
+  translated-same zero h = refl
+  translated-same (suc n) h =
+      rw (h n (omega arith), new-same n (λ k l. h k (omega arith)), translated-same n (λ k l. h k (omega arith)))
+
+  pub compacted-same : (n : ℕ) (b e o m m′ b′ e′ o′ r : List ℕ) (counts : Counts) → ((k : ℕ) → k < n → keep k ≡ keep′ k) → drop n m ≡ drop n m′
+      → Compacted keep n b e o m b′ e′ o′ r counts → Compacted keep′ n b e o m′ b′ e′ o′ r counts
+  compacted-same n b e o m m′ b′ e′ o′ r counts h d c =
+      let s = kept-same (stringAt b e) n h in
+      let w = kept-same (λ (k : ℕ). getD o k 0) n h in
+      let t = translated-same n h in
+      record {
+        counts-are = rw (← s) (c .counts-are);
+        bytes-left = rw (← s) (c .bytes-left);
+        entries-left = rw (← s) (c .entries-left);
+        owners-left = rw (← w) (c .owners-left);
+        moved-left =
+            c .moved-left
+            ∙ ap (λ (l : ℕ). translated keep n ++ drop l m) (translated-long keep n)
+            ∙ ap (λ (l : List ℕ). translated keep n ++ l) d
+            ∙ ap (λ (l : ℕ). translated keep n ++ drop l m′) (sym (translated-long keep n))
+            ∙ ap (λ (l : List ℕ). headed l m′) t;
+      }

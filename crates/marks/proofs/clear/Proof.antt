@@ -1,15 +1,13 @@
--- `compact::clear` meets its contract: the first i words say gone. Assumes nothing.
+-- `marks::clear` meets its contract: the first i words say gone. Assumes nothing.
 use Prim.Native.Nat.{_-_, _≤_}
-use mathlib.Core.Path.{_≡_, refl, ap, _∙_}
+use mathlib.Core.Path.{_≡_, refl}
 use native.Mathlib.Omega.{arith}
 use borrow.Author.Needs.{needs}
 use lib.ListN.{length, replicate, length-set}
-use Rattle.compact.specs.Compact.{headed, gone}
-use Rattle.compact.specs.MarkLaws.{cleared-one}
-use Rattle.compact.proofs.clear.Statement.{statement}
-use Rattle.compact.proofs.clear.Tie as tie
-use Rattle.compact.proofs.clear.Reads as reads
-use Rattle.compact.proofs.clear.Lts as lts
+use Rattle.slide.specs.Slide.{headed, gone}
+use Rattle.marks.specs.MarksLaws.{cleared-one}
+use Rattle.marks.proofs.clear.Statement.{statement}
+use Rattle.marks.proofs.clear.Tie as tie
 
 abbrev Inv-loop : tie.InvT-loop
 Inv-loop moved₀ n i₀ moved i = (i ≤ n) × (length moved ≡ length moved₀) × (moved ≡ headed (replicate i gone) moved₀)

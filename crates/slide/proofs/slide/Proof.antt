@@ -1,4 +1,4 @@
--- `compact::slide` meets its contract. Assumes nothing.
+-- `slide::slide` meets its contract. Assumes nothing.
 use Prim.Native.Nat.{_-_, _≤_}
 use native.Mathlib.Omega.{arith}
 use native.Mathlib.Numerals.{add-one}
@@ -6,13 +6,10 @@ use mathlib.Core.Path.{_≡_}
 use lib.ListN.{length}
 use denote.Ref.{now}
 use borrow.Author.Needs.{needs}
-use Rattle.compact.specs.Compact.{Compacted, stays}
-use Rattle.compact.proofs.Sliding.{room-at, none-done, asked, turned, end-long}
-use Rattle.compact.proofs.slide.Statement.{statement}
-use Rattle.compact.proofs.slide.Tie as tie
-use Rattle.compact.proofs.slide.Reads as reads
-use Rattle.compact.proofs.slide.Lts as lts
-use Rattle.compact.proofs.keep_one.Reads as keep-one-reads
+use Rattle.slide.specs.Slide.{Compacted, stays}
+use Rattle.slide.proofs.Sliding.{room-at, none-done, asked, turned, end-long}
+use Rattle.slide.proofs.slide.Statement.{statement}
+use Rattle.slide.proofs.slide.Tie as tie
 
 abbrev Inv-loop : tie.InvT-loop
 Inv-loop bytes₀ entries₀ owners₀ moved₀ n laid₀ i₀ bytes entries owners moved laid i =

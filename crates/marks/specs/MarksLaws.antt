@@ -3,26 +3,24 @@
 --     cleared-none, cleared-one           `clear`: one word more says gone
 --     mark-on, marked-long, marked-rest   `mark`: one mark more; the row is as long as it was, and behind the entries as it was
 --     marks-say                           after `clear` and two calls of `mark` a word says exactly whether its index is marked
---     compacted-same                      only what is kept of the entries in use counts, and what stands behind their words
---     rows-kept                           `compact_rows`
+--     marks-rest                          and behind the entries the row is as it was
+--     good-of                             what good marks are
 -- Assumes nothing.
-use Prim.Native.Nat.{ℕ, zero, suc, _+_, _-_, _<_, _≤_}
+use Prim.Native.Nat.{ℕ, zero, suc, _+_, _<_, _≤_}
 use native.Mathlib.Omega.{arith}
 use native.Mathlib.Numerals.{add-one}
 use mathlib.Core.Path.{_≡_, refl, sym, ap, _∙_}
-use mathlib.Core.Bool.{Bool, true, false, not}
-use mathlib.Core.List.{List, [], _∷_, _++_}
-use lib.Dec.{eqb, ltb}
-use lib.ListN.{length, getD, set, take, drop, replicate, length-set, length-replicate, getD-replicate, List·getD-append, replicate-append-replicate}
+use mathlib.Core.Bool.{Bool, true, false}
+use mathlib.Core.List.{List, [], _∷_}
+use lib.Dec.{ltb}
+use lib.ListN.{length, getD, set, drop, replicate, length-set, length-replicate, getD-replicate, List·getD-append, replicate-append-replicate}
 use lib.Seq.{drop-cons, drop-length, getD-set-same, getD-set-other, drop-set-lt}
-use borrow.Author.Tests.{eqb-true, eqb-false, eq-eqb, ne-eqb, ltb-true, ltb-false, lt-ltb, le-ltb}
+use borrow.Author.Tests.{eq-eqb, ne-eqb, lt-ltb, le-ltb}
 use Rattle.base.specs.Pick.{pick}
-use Rattle.base.specs.PickLaws.{by-test, by-lt, by-eq, split-eq}
-use Rattle.pool_rows.specs.Rows.{stringAt}
-use Rattle.pool_rows.specs.declared.Counts.{Counts}
-use Rattle.compact.specs.Compact.{kept, newIndex, gone, translated, headed, isIn, isMarked, allGiven, stays, marked, Compacted}
-use Rattle.compact.specs.CompactLaws.{translated-long}
-use Rattle.compact.specs.HeadLaws.{head-set, head-drop, head-long}
+use Rattle.base.specs.PickLaws.{by-lt, split-eq}
+use Rattle.slide.specs.Slide.{gone, headed, stays}
+use Rattle.slide.specs.HeadLaws.{head-set, head-drop, head-long}
+use Rattle.marks.specs.Marks.{isIn, isMarked, allGiven, goodMarks, marked}
 
 -- ---- marks that were given
 
@@ -131,52 +129,16 @@ module _ (old first second : List ℕ) (n : ℕ) (long : n ≤ length old) where
       ∙ marked-rest (headed (replicate n gone) old) first n e
       ∙ head-drop (replicate n gone) old n (omega (arith, length-replicate n gone))
 
--- ---- only what is kept counts
+-- ---- what good marks are
 
-module _ (keep keep′ : ℕ → Bool) where
-  kept-same : {A : Type 0} (f : ℕ → A) (n : ℕ) → ((k : ℕ) → k < n → keep k ≡ keep′ k) → kept keep f n ≡ kept keep′ f n
-  unfolding kept
-  kept-same f zero h = refl
-  kept-same f (suc n) h = rw (h n (omega arith), kept-same f n (λ k l. h k (omega arith)))
+both : (a b : Bool) → pick a b false ≡ true → (a ≡ true) × (b ≡ true)
+both true b e = (refl, e)
+both false b e = let z : _≡_ {A = ℕ} 0 1 = cc in absurd (omega arith)
 
-  new-same : (n : ℕ) → ((k : ℕ) → k < n → keep k ≡ keep′ k) → newIndex keep n ≡ newIndex keep′ n
-  unfolding newIndex
-  new-same zero h = refl
-  new-same (suc n) h = rw (h n (omega arith), new-same n (λ k l. h k (omega arith)))
-
-  translated-same : (n : ℕ) → ((k : ℕ) → k < n → keep k ≡ keep′ k) → translated keep n ≡ translated keep′ n
-  unfolding translated
-  translated-same zero h = refl
-  translated-same (suc n) h =
-      rw (h n (omega arith), new-same n (λ k l. h k (omega arith)), translated-same n (λ k l. h k (omega arith)))
-
-  pub compacted-same : (n : ℕ) (b e o m m′ b′ e′ o′ r : List ℕ) (counts : Counts) → ((k : ℕ) → k < n → keep k ≡ keep′ k) → drop n m ≡ drop n m′
-      → Compacted keep n b e o m b′ e′ o′ r counts → Compacted keep′ n b e o m′ b′ e′ o′ r counts
-  compacted-same n b e o m m′ b′ e′ o′ r counts h d c =
-      let s = kept-same (stringAt b e) n h in
-      let w = kept-same (λ (k : ℕ). getD o k 0) n h in
-      let t = translated-same n h in
-      record {
-        counts-are = rw (← s) (c .counts-are);
-        bytes-left = rw (← s) (c .bytes-left);
-        entries-left = rw (← s) (c .entries-left);
-        owners-left = rw (← w) (c .owners-left);
-        moved-left =
-            c .moved-left
-            ∙ ap (λ (l : ℕ). translated keep n ++ drop l m) (translated-long keep n)
-            ∙ ap (λ (l : List ℕ). translated keep n ++ l) d
-            ∙ ap (λ (l : ℕ). translated keep n ++ drop l m′) (sym (translated-long keep n))
-            ∙ ap (λ (l : List ℕ). headed l m′) t;
-      }
-
--- what `slide` makes of the row that `clear` and `mark` leave
-pub rows-kept : (first second : List ℕ) (n : ℕ) (b e o m m1 m2 m3 b′ e′ o′ r : List ℕ) (counts : Counts) → n ≤ length m
-    → allGiven first n ≡ true → allGiven second n ≡ true
-    → m1 ≡ headed (replicate n gone) m → m2 ≡ marked m1 first → m3 ≡ marked m2 second
-    → Compacted (stays m3) n b e o m3 b′ e′ o′ r counts → Compacted (isMarked first second) n b e o m b′ e′ o′ r counts
-rows-kept first second n b e o m m1 m2 m3 b′ e′ o′ r counts h f g p q t c =
-    let w : m3 ≡ marked (marked (headed (replicate n gone) m) first) second =
-    t ∙ ap (λ (l : List ℕ). marked l second) (q ∙ ap (λ (l : List ℕ). marked l first) p) in
-    compacted-same (stays m3) (isMarked first second) n b e o m3 m b′ e′ o′ r counts
-    (λ k l. ap (λ (x : List ℕ). stays x k) w ∙ marks-say m first second n h k l)
-    (ap (drop n) w ∙ marks-rest m first second n h f g) c
+pub good-of : (first second moved : List ℕ) (n : ℕ) → goodMarks first second moved n ≡ true
+    → (n ≤ length moved) × (allGiven first n ≡ true) × (allGiven second n ≡ true)
+unfolding goodMarks
+good-of first second moved n =
+    by-lt (λ (t : Bool). t ≡ true → (n ≤ length moved) × (allGiven first n ≡ true) × (allGiven second n ≡ true)) (length moved) n
+    (λ l e. let z : _≡_ {A = ℕ} 0 1 = cc in absurd (omega arith))
+    (λ l e. let p = both _ _ e in (l, p .0, p .1))

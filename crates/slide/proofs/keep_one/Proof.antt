@@ -1,16 +1,12 @@
--- `compact::keep_one` meets its contract. Assumes nothing.
+-- `slide::keep_one` meets its contract. Assumes nothing.
 use native.Mathlib.Omega.{arith}
-use mathlib.Core.Path.{refl}
 use Prim.Native.Nat.{_*_}
 use lib.ListN.{length-set}
 use denote.Ref.{now}
 use borrow.Author.Needs.{needs}
-use Rattle.compact.proofs.Sliding.{turn-gone, turn-kept}
-use Rattle.compact.proofs.keep_one.Statement.{statement}
-use Rattle.compact.proofs.keep_one.Tie as tie
-use Rattle.compact.proofs.keep_one.Reads as reads
-use Rattle.compact.proofs.keep_one.Lts as lts
-use Rattle.compact.proofs.move_down.Reads as move-down-reads
+use Rattle.slide.proofs.Sliding.{turn-gone, turn-kept}
+use Rattle.slide.proofs.keep_one.Statement.{statement}
+use Rattle.slide.proofs.keep_one.Tie as tie
 
 mul-if1 : tie.Need-mul-if1
 mul-if1 c = search needs
