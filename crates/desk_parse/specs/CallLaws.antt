@@ -30,7 +30,6 @@ use Rattle.pool.specs.declared.Added.the-variants as pool
 use Rattle.format.specs.Parse.{stringOf}
 use Rattle.format_options.specs.declared.Part.{Part}
 use Rattle.parse.specs.Call as parse
-use Rattle.parse.specs.CallLaws.{called}
 use Rattle.parse.specs.Plan.{inputOf}
 use Rattle.parse.specs.declared.After.{After}
 use Rattle.parse.specs.declared.Parsed.{Parsed}
@@ -38,7 +37,6 @@ use Rattle.parse.specs.declared.Parsed.the-variants as said
 use Rattle.parse.specs.declared.FormatInput.the-variants as read
 use Rattle.desks.specs.Desks.{Shared, ownerOf, deskOf, other, fitDesks, Fits, entriesFor, bytesFor}
 use Rattle.desks.specs.FitLaws.{fit-of}
-use Rattle.desks.specs.declared.Desks.{Desks}
 use Rattle.desks.specs.declared.Which.{Which}
 use Rattle.desks.specs.declared.Which.the-variants.{First, Second}
 use Rattle.desk_add.specs.Add.{addedFor, sharedAfter}
@@ -46,7 +44,7 @@ use Rattle.desk_add.specs.PartsLaws.{part-fit}
 use Rattle.desk_add.specs.AddLaws.{less-entries, less-bytes, fills-pool, charges-within}
 use Rattle.desk_parse.specs.Call.{Pool, lent, onAdded, addTo, parsed, Comes, comes, ended, call, ParsesFor}
 use Rattle.desk_parse.specs.Own.{ownedUp, desksUp, unfitAnswer}
-use Rattle.desk_parse.specs.MirrorLaws.{Mirrored, mirrors}
+use Rattle.desk_parse.specs.MirrorLaws.{mirrors}
 use Rattle.desk_parse.specs.BesideLaws.{Beside, beside-at-first, same-answer, bytes-then, entries-then, beside-after}
 use Rattle.desk_parse.specs.declared.ParsedFor.{ParsedFor}
 

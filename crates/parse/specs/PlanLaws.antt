@@ -38,7 +38,7 @@ use Rattle.format_options.specs.declared.Part.{Part}
 use Rattle.format_options.specs.declared.Fill.{Fill}
 use Rattle.format_options.specs.declared.Fill.the-variants.{Is, NoFill}
 use Rattle.format.specs.declared.FormatRead.{FormatRead}
-use Rattle.parse.specs.Call.{Pool, pooled, addingAfter, addTo, lent, answer, Comes, comes, Parses}
+use Rattle.parse.specs.Call.{Pool, pooled, addingAfter, addTo, lent, answer, comes, Parses}
 use Rattle.parse.specs.Call as call
 use Rattle.parse.specs.CallLaws.{adds-full, adds-after, adds-fit, two-stages, parses-by, parses-refused, parses-unfit, called}
 use Rattle.parse.specs.Plan.{readOf, inputOf, planOf, CanAdd, isAdding, fillString, CanPlan, addPlan, endBy}

@@ -14,7 +14,6 @@ use Rattle.input.specs.declared.Input.the-variants as input
 use Rattle.pool_rows.specs.Rows.{stringAt}
 use Rattle.pool.specs.Pool.{oneMore, written, entered, numberOf, addedIndex}
 use Rattle.pool.specs.declared.Added.the-variants as added
-use Rattle.parse.specs.declared.Parsed.{Parsed}
 use Rattle.parse.specs.declared.Parsed.the-variants as said
 use Rattle.desks.specs.Desks.{Shared, deskOf, other, ownerOf, fitDesks, Fits}
 use Rattle.desks.specs.declared.Which.{Which}

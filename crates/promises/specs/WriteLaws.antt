@@ -20,7 +20,7 @@ use Rattle.utf8.specs.Encode.{encodeAll}
 use Rattle.utf8.specs.Chars.{chars}
 use Rattle.property.specs.Table.{propertiesAt}
 use Rattle.fitness.specs.Fit.{tableCheck}
-use Rattle.fitness.specs.declared.TableCheck.the-variants.{Fit, BadTable}
+use Rattle.fitness.specs.declared.TableCheck.the-variants.{Fit}
 use Rattle.input.specs.Input as input
 use Rattle.input.specs.Input.{isEdition, inputCheck, onInput}
 use Rattle.input.specs.InputLaws.{is-none, is-table, is-fine, fine-of}
