@@ -13,7 +13,7 @@ use Rattle.pool_rows.specs.declared.Counts.{Counts}
 use Rattle.pool_lent.specs.Entries.{entryOf}
 use Rattle.pool_lent.specs.declared.Entry.{Entry}
 use Rattle.parse.specs.Numbers.{noNumber}
-use Rattle.compact.specs.Compact.{gone}
+use Rattle.slide.specs.Slide.{gone}
 use Rattle.wrong_answers.specs.Wrong.{Wrong, readChar, checkUtf8, checkTable, readTable, firstCluster, scan, next, peek, lookAhead, checkList, rescan, addString, parse, compact}
 
 -- ---- what goes in

@@ -46,6 +46,8 @@ use Rattle.parse.specs.Numbers as numbers
 use Rattle.koto_lexer.specs.Cursors.{nextBy, nextTold, peekBy, lookBy}
 use Rattle.koto_pool.specs.Formats.{parsed}
 use Rattle.desks.specs.Desks.{heldBy, sharedOut, fitDesks}
+use Rattle.slide.specs.Slide as slide
+use Rattle.marks.specs.Marks as marks
 use Rattle.compact.specs.Compact as compact
 use Rattle.koto_desks.specs.Words.{countWords, deskWords, lentBy}
 use Rattle.promises.specs.CasesLaws.{formats-computed}
@@ -234,6 +236,6 @@ unfolding formats-computed numbersOf
 pools-shut-out = others-shut-out ofPools refl
 
 pub desks-shut-out : AllShutOut ofDesks
-unfolding formats-computed heldBy sharedOut fitDesks compact.kept compact.newIndex compact.translated compact.joined compact.laidOut compact.isIn
-    compact.allGiven compact.goodMarks compact.call
+unfolding formats-computed heldBy sharedOut fitDesks slide.kept slide.newIndex slide.translated slide.joined slide.laidOut marks.isIn
+    marks.allGiven marks.goodMarks compact.call
 desks-shut-out = others-shut-out ofDesks refl
