@@ -10,10 +10,12 @@ use std::io;
 
 fn main() -> io::Result<()> {
     let paths: Vec<String> = std::env::args().skip(1).collect();
-    let [script, table] = &paths[..] else { panic!("usage: script_editor SCRIPT TABLE <COMMANDS") };
-    let (source, file) = (std::fs::read(script)?, std::fs::read(table)?);
+    assert_eq!(paths.len(), 2, "usage: script_editor SCRIPT TABLE <COMMANDS");
+    let (source, file) = (std::fs::read(&paths[0])?, std::fs::read(&paths[1])?);
     let mut row = vec![0; TABLE_MOST];
-    let TableFile::Read(runs) = read_table(&file, &mut row) else { panic!("the table's file is refused") };
-    row.truncate(runs);
+    match read_table(&file, &mut row) {
+        TableFile::Read(runs) => row.truncate(runs),
+        refused => panic!("the table's file is refused: {refused:?}"),
+    }
     session::Session::new(source, row).serve(io::stdin().lock(), io::stdout().lock())
 }
