@@ -9,7 +9,7 @@ use Prim.Native.Nat.{ℕ, _+_, _≤_, _<_}
 use native.Mathlib.Omega.{arith}
 use mathlib.Core.Path.{_≡_, refl, sym, ap, subst, _∙_}
 use mathlib.Core.Bool.{true, false}
-use mathlib.Core.List.{List, [], _∷_}
+use mathlib.Core.List.{List}
 use lib.ListN.{length}
 use Rattle.property.specs.Table.{propertiesAt}
 use Rattle.fitness.specs.Fit.{FitTable}
@@ -31,22 +31,15 @@ use Rattle.lexer.specs.Step.{half, step}
 use Rattle.stepping.specs.Invariant.{Ok}
 use Rattle.lexer.specs.declared.Half.{Half}
 use Rattle.lexer.specs.declared.What.the-variants as what
-use Rattle.reading.specs.Reading.{rowOf, Stop, ended, stuck, deep, Reading, stuckReading, stopped, readFrom}
+use Rattle.reading.specs.Reading.{rowOf, ended, stuck, deep, Reading, stuckReading, stopped, readFrom}
 use Rattle.reading.specs.Scan.{standsStill, whole, FillsIn, ReadsOnIn}
 use Rattle.reading.specs.ScanLaws.{fills-none, fills-full, fills-row}
-use Rattle.reading.specs.ShownLaws.{stuck-some}
+use Rattle.reading.specs.ShownLaws.{stuck-some, still-last}
 use Rattle.reading.specs.HeadLaws.{Head, begin-head, left-is, left-token, left-stuck, byte-after, byte-stays, head-again}
 use Rattle.reading.specs.declared.Scanned.{Scanned}
 use Rattle.reading.specs.declared.Scanned.the-variants.{End, Stuck, ListFull}
 
 -- ---- an Error that stands still
-
--- no other record does
-still-last : (why : Stop) (rows : List Row) → (why ≡ stuck → 0 < length rows) → standsStill why rows ≡ false
-still-last stuck [] some = absurd (omega (arith, some refl))
-still-last stuck (r ∷ rows) some = refl
-still-last ended rows some = refl
-still-last deep rows some = refl
 
 module _ {layout : Layout} (l : List ℕ) (k : ℕ) (before after : Lexer) where
   pub stuck-written : k < roomIn layout l → {t : Token} {row : Row} {new : List ℕ} → t ≡ tokenOf error → row ≡ rowOf t before after

@@ -115,6 +115,11 @@ abbrev pub writesIn : Layout → List ℕ → List ℕ → List ℕ → ℕ → 
 writesIn Whole old source table edition n = putRows old (written source table edition n)
 writesIn Half old source table edition n = putHalves old (writtenMarked source table edition n)
 
+-- a list that starts with all records of a reading; every word after them stays
+abbrev pub holdsIn : Layout → List ℕ → Reading → List ℕ
+holdsIn Whole old r = putRows old (r .rows)
+holdsIn Half old r = putHalves old (markedRows r)
+
 -- what a scan ensures: its answer, and every word of the list, the records and then what was there before
 pub record ScansIn (layout : Layout) (source table : List ℕ) (edition : ℕ) (old : List ℕ) (r : Scanned) (new : List ℕ) : Type 0 where
   pub answer : r ≡ scanned source table edition (roomIn layout old)
