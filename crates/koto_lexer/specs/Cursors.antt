@@ -1,14 +1,16 @@
 -- What `koto_next`, `koto_peek` and `koto_look_ahead` return and write, from the inner calls' answers. A cursor goes in as its numbers, with the status as
--- `koto_scan` writes it; any other number there is refusal 8, before the list is looked at.
+-- `koto_scan` or `koto_scan_half` writes it, so that it tells the list's layout; any other number there is refusal 8, before the list is looked at.
 -- Assumes nothing.
 use Prim.Native.Nat.{ℕ}
 use mathlib.Core.Path.{_≡_}
 use mathlib.Core.List.{List}
 use lib.Dec.{eqb}
 use Rattle.base.specs.Pick.{pick}
-use Rattle.reading.specs.Status.{endNumber, stuckNumber}
+use Rattle.reading.specs.Status.{endNumber, stuckNumber, endHalfNumber, stuckHalfNumber}
 use Rattle.lookahead.specs.Told.{recordNumbers, givenTold, peekedTold}
-use Rattle.rows.specs.Row.{room, shownAt}
+use Rattle.layout.specs.Layout.{roomIn, shownIn}
+use Rattle.layout.specs.declared.Layout.{Layout}
+use Rattle.layout.specs.declared.Layout.the-variants.{Whole, Half}
 use Rattle.lookahead.specs.Next as next
 use Rattle.lookahead.specs.Next.{nextOf}
 use Rattle.lookahead.specs.Peek as peek
@@ -25,9 +27,13 @@ use Rattle.lookahead.specs.declared.Peeked.the-variants as peeked
 
 -- ---- the numbers of a cursor
 
--- by the status that a number names, as `koto_scan` writes it; y is for every other number
-abbrev pub byStatus : {A : Type 0} → (Status → A) → A → ℕ → A
-byStatus f y number = pick (eqb number endNumber) (f End) (pick (eqb number stuckNumber) (f Stuck) y)
+-- by the layout and the status that a number names, as the scans write it; y is for every other number
+abbrev pub byStatus : {A : Type 0} → (Layout → Status → A) → A → ℕ → A
+byStatus f y number =
+    pick (eqb number endNumber) (f Whole End)
+    (pick (eqb number stuckNumber) (f Whole Stuck)
+    (pick (eqb number endHalfNumber) (f Half End)
+    (pick (eqb number stuckHalfNumber) (f Half Stuck) y)))
 
 abbrev pub cursorOf : ℕ → ℕ → ℕ → Status → Cursor
 cursorOf taken queued count status = record { taken = taken; queued = queued; count = count; status = status }
@@ -37,7 +43,7 @@ cursorOf taken queued count status = record { taken = taken; queued = queued; co
 -- the answer for these numbers
 abbrev pub nextBy : List ℕ → ℕ → ℕ → ℕ → ℕ → Given
 nextBy list taken queued count status =
-    byStatus (λ (x : Status). nextOf (room list) (shownAt list) (cursorOf taken queued count x)) given.BadState status
+    byStatus (λ (l : Layout) (x : Status). nextOf (roomIn l list) (shownIn l list count) (cursorOf taken queued count x)) given.BadState status
 
 -- what it tells
 abbrev pub nextTold : List ℕ → ℕ → ℕ → ℕ → ℕ → Told
@@ -65,7 +71,7 @@ pub record LookedIs (looked : Peeked) (taken queued newQueued shown : ℕ) (word
 -- the answer of `peek` for these numbers
 abbrev pub peekBy : List ℕ → ℕ → ℕ → ℕ → ℕ → ℕ → Peeked
 peekBy list taken queued count status n =
-    byStatus (λ (x : Status). peekOf (room list) (shownAt list) (cursorOf taken queued count x) n) peeked.BadState status
+    byStatus (λ (l : Layout) (x : Status). peekOf (roomIn l list) (shownIn l list count) (cursorOf taken queued count x) n) peeked.BadState status
 
 -- what `koto_peek` ensures
 abbrev pub PeekIs : List ℕ → ℕ → ℕ → ℕ → ℕ → ℕ → ℕ → ℕ → List ℕ → ℕ → ℕ → Type 0
@@ -74,7 +80,7 @@ PeekIs list taken queued count status n = LookedIs (peekBy list taken queued cou
 -- the answer of `look_ahead` for these numbers
 abbrev pub lookBy : List ℕ → ℕ → ℕ → ℕ → ℕ → ℕ → Peeked
 lookBy list taken queued count status n =
-    byStatus (λ (x : Status). lookAheadOf (room list) (shownAt list) (cursorOf taken queued count x) n) peeked.BadState status
+    byStatus (λ (l : Layout) (x : Status). lookAheadOf (roomIn l list) (shownIn l list count) (cursorOf taken queued count x) n) peeked.BadState status
 
 -- what `koto_look_ahead` ensures
 abbrev pub LookAheadIs : List ℕ → ℕ → ℕ → ℕ → ℕ → ℕ → ℕ → ℕ → List ℕ → ℕ → ℕ → Type 0

@@ -1,6 +1,6 @@
--- What a cursor makes of the status that `koto_scan` writes: how the scan ended, and nothing where it was refused, so that no call over its
+-- What a cursor makes of the status that a scan writes: the layout and how the scan ended, and nothing where it was refused, so that no call over its
 -- list shows anything. And how the contracts come of what is told of an answer.
---     by-end, by-stuck, by-refused    what each number of a scan names
+--     by-end, by-stuck, by-end-half, by-stuck-half, by-refused    what each number of a scan names
 --     next-refused, peek-refused, look-refused    refusal 8, whatever the list and the other numbers are
 --     next-told, looked-told          each number is that of an answer, and the answer is the inner call's
 -- Assumes nothing.
@@ -11,21 +11,29 @@ use Rattle.lookahead.specs.Next as next
 use Rattle.lookahead.specs.Peek as peek
 use Rattle.lookahead.specs.Told.{recordNumbers, givenTold, peekedTold}
 use Rattle.lookahead.specs.declared.answer.Told.{Told}
+use Rattle.layout.specs.declared.Layout.{Layout}
+use Rattle.layout.specs.declared.Layout.the-variants.{Whole, Half}
 use Rattle.cursor.specs.declared.Status.{Status}
 use Rattle.cursor.specs.declared.Status.the-variants.{End, Stuck}
 use Rattle.lookahead.specs.declared.Given.{Given}
 use Rattle.lookahead.specs.declared.Given.the-variants as given
 use Rattle.lookahead.specs.declared.Peeked.{Peeked}
 use Rattle.lookahead.specs.declared.Peeked.the-variants as peeked
-use Rattle.reading.specs.Status.{endNumber, stuckNumber, refusedNumber}
+use Rattle.reading.specs.Status.{endNumber, stuckNumber, refusedNumber, endHalfNumber, stuckHalfNumber}
 use Rattle.koto_lexer.specs.Cursors.{byStatus, nextBy, nextTold, NextIs, LookedIs, peekBy, lookBy}
 
-module _ {A : Type 0} (f : Status → A) (y : A) where
-  pub by-end : byStatus f y endNumber ≡ f End
+module _ {A : Type 0} (f : Layout → Status → A) (y : A) where
+  pub by-end : byStatus f y endNumber ≡ f Whole End
   by-end = refl
 
-  pub by-stuck : byStatus f y stuckNumber ≡ f Stuck
+  pub by-stuck : byStatus f y stuckNumber ≡ f Whole Stuck
   by-stuck = refl
+
+  pub by-end-half : byStatus f y endHalfNumber ≡ f Half End
+  by-end-half = refl
+
+  pub by-stuck-half : byStatus f y stuckHalfNumber ≡ f Half Stuck
+  by-stuck-half = refl
 
   pub by-refused : byStatus f y refusedNumber ≡ y
   by-refused = refl

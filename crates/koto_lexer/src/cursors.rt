@@ -1,13 +1,17 @@
-// `next`, `peek` and `look_ahead` for C. A cursor is its numbers: taken, queued, the count, and the status as a scan writes it.
+// `next`, `peek` and `look_ahead` for C. A cursor is its numbers: taken, queued, the count, and the status as a scan writes it, which tells the
+// list's layout too.
 ghost use mathlib.Core.Path.{_≡_};
 ghost use Rattle.koto_lexer.specs.Cursors.{cursorOf, nextBy, NextIs, LookedIs, peekBy, PeekIs, lookBy, LookAheadIs};
 use cursor::Cursor;
 use cursor::Status;
+use layout::Layout;
 use lookahead::Given;
 use lookahead::Peeked;
 use lookahead::answer;
 use reading::answer::END;
+use reading::answer::END_HALF;
 use reading::answer::STUCK;
+use reading::answer::STUCK_HALF;
 
 fn cursor_of(taken: usize, queued: usize, count: usize, status: Status) -> Cursor
     ensures { λ r. ⌜ r ≡ cursorOf taken queued count status ⌝ }
@@ -22,13 +26,16 @@ fn cursor_of(taken: usize, queued: usize, count: usize, status: Status) -> Curso
 
 // ---- `next`
 
-// The inner call's answer for a cursor of these numbers. Each status has an arm of its own, so that LLVM compiles the call for the one status.
+// The inner call's answer for a cursor of these numbers. Each status has an arm of its own, so that LLVM compiles the call for the one
+// status and the one layout.
 fn next_by(list: &[u32], taken: usize, queued: usize, count: usize, status: u32) -> Given
     ensures { λ r. ⌜ r ≡ nextBy (now (list .entry)) taken queued count status ⌝ }
 {
     match status {
-        END => lookahead::next(list, cursor_of(taken, queued, count, Status::End)),
-        STUCK => lookahead::next(list, cursor_of(taken, queued, count, Status::Stuck)),
+        END => lookahead::next(Layout::Whole, list, cursor_of(taken, queued, count, Status::End)),
+        STUCK => lookahead::next(Layout::Whole, list, cursor_of(taken, queued, count, Status::Stuck)),
+        END_HALF => lookahead::next(Layout::Half, list, cursor_of(taken, queued, count, Status::End)),
+        STUCK_HALF => lookahead::next(Layout::Half, list, cursor_of(taken, queued, count, Status::Stuck)),
         _ => Given::BadState,
     }
 }
@@ -85,8 +92,10 @@ fn peek_by(list: &[u32], taken: usize, queued: usize, count: usize, status: u32,
     ensures { λ r. ⌜ r ≡ peekBy (now (list .entry)) taken queued count status n ⌝ }
 {
     match status {
-        END => lookahead::peek(list, cursor_of(taken, queued, count, Status::End), n),
-        STUCK => lookahead::peek(list, cursor_of(taken, queued, count, Status::Stuck), n),
+        END => lookahead::peek(Layout::Whole, list, cursor_of(taken, queued, count, Status::End), n),
+        STUCK => lookahead::peek(Layout::Whole, list, cursor_of(taken, queued, count, Status::Stuck), n),
+        END_HALF => lookahead::peek(Layout::Half, list, cursor_of(taken, queued, count, Status::End), n),
+        STUCK_HALF => lookahead::peek(Layout::Half, list, cursor_of(taken, queued, count, Status::Stuck), n),
         _ => Peeked::BadState,
     }
 }
@@ -117,8 +126,10 @@ fn look_by(list: &[u32], taken: usize, queued: usize, count: usize, status: u32,
     ensures { λ r. ⌜ r ≡ lookBy (now (list .entry)) taken queued count status n ⌝ }
 {
     match status {
-        END => lookahead::look_ahead(list, cursor_of(taken, queued, count, Status::End), n),
-        STUCK => lookahead::look_ahead(list, cursor_of(taken, queued, count, Status::Stuck), n),
+        END => lookahead::look_ahead(Layout::Whole, list, cursor_of(taken, queued, count, Status::End), n),
+        STUCK => lookahead::look_ahead(Layout::Whole, list, cursor_of(taken, queued, count, Status::Stuck), n),
+        END_HALF => lookahead::look_ahead(Layout::Half, list, cursor_of(taken, queued, count, Status::End), n),
+        STUCK_HALF => lookahead::look_ahead(Layout::Half, list, cursor_of(taken, queued, count, Status::Stuck), n),
         _ => Peeked::BadState,
     }
 }

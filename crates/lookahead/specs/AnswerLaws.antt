@@ -7,13 +7,15 @@
 --     peek-far, peek-as-is, peek-full, peek-more     `peek`, by its tests
 --     look-unfit, look-full, look-is                 `look_ahead`, by its tests
 --     look-queued                                    it shows queued token n of the cursor that has queued what is lacking
+--     next-same, peek-same, look-same                lists that show the same below the cursor's count answer the same
 -- Assumes nothing.
 use Prim.Native.Nat.{ℕ, _+_, _-_, _≤_, _<_}
 use native.Mathlib.Omega.{arith}
-use mathlib.Core.Path.{_≡_, refl, sym, _∙_}
+use mathlib.Core.Path.{_≡_, refl, sym, ap, _∙_}
 use mathlib.Core.Bool.{true, false}
-use lib.Dec.{ltb}
+use lib.Dec.{eqb, ltb}
 use borrow.Author.Tests.{lt-ltb, le-ltb, eq-eqb, ne-eqb}
+use Rattle.base.specs.Pick.{pick}
 use Rattle.base.specs.PickLaws.{split-lt}
 use Rattle.rows.specs.declared.Row.{Row}
 use Rattle.rows.specs.declared.RowAt.{RowAt}
@@ -23,7 +25,7 @@ use Rattle.cursor.specs.CursorLaws.{record-at, there-end, queued-for}
 use Rattle.cursor.specs.declared.Status.{Status}
 use Rattle.cursor.specs.declared.Status.the-variants.{End, Stuck}
 use Rattle.cursor.specs.declared.Cursor.{Cursor}
-use Rattle.lookahead.specs.Seen.{seenAt}
+use Rattle.lookahead.specs.Seen.{seenBy, seenAt}
 use Rattle.lookahead.specs.Next.{givenBy, nextOf}
 use Rattle.lookahead.specs.Peek.{shownBy, queuedAt, peekOf}
 use Rattle.lookahead.specs.LookAhead.{lookAheadOf}
@@ -160,3 +162,38 @@ look-queued room shown c n f h =
     (λ k.
     let e = see-nothing shown c n refl (none-there c n k (c .status) refl) in
     sym (queued-none shown (queueing c (queuedFor c n)) n k) ∙ look-is room shown c n f h refl e refl)
+
+-- ---- lists that show the same below the cursor's count
+
+seen-same : (shown other : ℕ → RowAt) (c : Cursor) (n : ℕ) → ((i : ℕ) → i < c .count → shown i ≡ other i) → seenAt shown c n ≡ seenAt other c n
+unfolding seenAt
+seen-same shown other c n same =
+    split-lt (ahead c n) (c .count)
+    (λ h. ap (λ (r : RowAt). pick (ltb (ahead c n) (c .count)) (seenBy (ahead c n) r) seen.Nothing) (same (ahead c n) h))
+    (λ h. rw (le-ltb (ahead c n) (c .count) h))
+
+queued-same : (shown other : ℕ → RowAt) (c : Cursor) (n : ℕ) → ((i : ℕ) → i < c .count → shown i ≡ other i) → queuedAt shown c n ≡ queuedAt other c n
+unfolding queuedAt
+queued-same shown other c n same = ap (λ (s : Seen). pick (ltb n (c .queued)) (shownBy c s) (peeked.Nothing c)) (seen-same shown other c n same)
+
+module _ (room : ℕ) (shown other : ℕ → RowAt) (c : Cursor) (same : (i : ℕ) → i < c .count → shown i ≡ other i) where
+  pub next-same : nextOf room shown c ≡ nextOf room other c
+  unfolding nextOf
+  next-same = ap (λ (s : Seen). pick (isFit room c) (givenBy c s) given.BadState) (seen-same shown other c 0 same)
+
+  pub peek-same : (n : ℕ) → peekOf room shown c n ≡ peekOf room other c n
+  unfolding peekOf queuedOne
+  peek-same n =
+      let one = queued-same shown other (queuedOne c) n same in
+      let none = queued-same shown other c n same in
+      λ i. pick (isFit room c)
+      (pick (ltb (c .queued + 1) n) peeked.PeekTooFar (pick (mustQueue c n) (pick (eqb (c .queued) queueMost) peeked.QueueFull (one i)) (none i)))
+      peeked.BadState
+
+  pub look-same : (n : ℕ) → lookAheadOf room shown c n ≡ lookAheadOf room other c n
+  unfolding lookAheadOf
+  look-same n =
+      ap
+      (λ (s : Seen).
+      pick (isFit room c) (pick (ltb queueMost (queuedFor c n)) peeked.QueueFull (shownBy (queueing c (queuedFor c n)) s)) peeked.BadState)
+      (seen-same shown other c n same)

@@ -1,5 +1,5 @@
 -- Document 01, "Look-ahead": what a cursor sees. Of a list it is asked for how many records it has room (`room`), and what it shows at an
--- index (`shown`); the layout of its records is known in the crate `rows`.
+-- index (`shown`); the layouts of its records are known in the crate `layout`.
 -- Assumes nothing.
 use Prim.Native.Nat.{ℕ}
 use lib.Dec.{ltb}

@@ -2,19 +2,20 @@
 // `look_ahead`, which looks as the comment there says (document 02, C-1).
 //
 // The Rust keeps the tokens that it has looked at in a `VecDeque`. Here the list has all of them, so the queue is two numbers over it: the
-// queued tokens are those from `taken` on. This crate shows records through the crate `rows`, and knows neither a record's words nor what
-// was scanned. Left out is `KotoLexer::source`: the caller has the source.
+// queued tokens are those from `taken` on. This crate shows records through the crate `layout`, in either layout (document 02, C-5), and knows
+// neither a record's words nor what was scanned. Left out is `KotoLexer::source`: the caller has the source.
 pub mod answer;
 
 ghost use mathlib.Core.Path.{_≡_};
 ghost use Prim.Native.Nat.{_≤_};
-ghost use Rattle.rows.specs.Row.{room, shownAt};
+ghost use Rattle.layout.specs.Layout.{roomIn, shownIn};
 ghost use Rattle.lookahead.specs.Seen.{seenAt};
 ghost use Rattle.lookahead.specs.Next.{nextOf};
 ghost use Rattle.lookahead.specs.Peek.{shownBy, queuedAt, peekOf};
 ghost use Rattle.lookahead.specs.LookAhead.{lookAheadOf};
 use cursor::Cursor;
 use cursor::QUEUE_MOST;
+use layout::Layout;
 use rows::Row;
 use rows::RowAt;
 
@@ -52,13 +53,13 @@ pub enum Peeked {
 }
 
 // The token that comes after n others.
-fn see(list: &[u32], cursor: Cursor, n: usize) -> Seen
-    requires { ⌜ cursor .count ≤ room (now list) ⌝ }
-    ensures { λ r. ⌜ r ≡ seenAt (shownAt (now (list .entry))) cursor n ⌝ }
+fn see(layout: Layout, list: &[u32], cursor: Cursor, n: usize) -> Seen
+    requires { ⌜ cursor .count ≤ roomIn layout (now list) ⌝ }
+    ensures { λ r. ⌜ r ≡ seenAt (shownIn layout (now (list .entry)) (cursor .count)) cursor n ⌝ }
 {
     let i = cursor.ahead(n);
     if i < cursor.count {
-        return match rows::row_at(list, i) {
+        return match layout.shown(list, cursor.count, i) {
             RowAt::Fit(row) => Seen::Token(row),
             RowAt::Unfit => Seen::BadRecord(i),
         };
@@ -67,13 +68,13 @@ fn see(list: &[u32], cursor: Cursor, n: usize) -> Seen
 }
 
 // Hands out the next token. Refused are an unfit cursor, then a record that may not be shown.
-pub fn next(list: &[u32], cursor: Cursor) -> Given
-    ensures { λ r. ⌜ r ≡ nextOf (room (now (list .entry))) (shownAt (now (list .entry))) cursor ⌝ }
+pub fn next(layout: Layout, list: &[u32], cursor: Cursor) -> Given
+    ensures { λ r. ⌜ r ≡ nextOf (roomIn layout (now (list .entry))) (shownIn layout (now (list .entry)) (cursor .count)) cursor ⌝ }
 {
-    if !cursor.is_fit(rows::room(list)) {
+    if !cursor.is_fit(layout.room(list)) {
         return Given::BadState;
     }
-    match see(list, cursor, 0) {
+    match see(layout, list, cursor, 0) {
         Seen::Token(row) => Given::Token {
             row,
             cursor: cursor.moved_on(),
@@ -95,47 +96,47 @@ fn show(cursor: Cursor, seen: Seen) -> Peeked
 }
 
 // Shows queued token n, or that not so many are queued.
-fn queued_at(list: &[u32], cursor: Cursor, n: usize) -> Peeked
-    requires { ⌜ cursor .count ≤ room (now list) ⌝ }
-    ensures { λ r. ⌜ r ≡ queuedAt (shownAt (now (list .entry))) cursor n ⌝ }
+fn queued_at(layout: Layout, list: &[u32], cursor: Cursor, n: usize) -> Peeked
+    requires { ⌜ cursor .count ≤ roomIn layout (now list) ⌝ }
+    ensures { λ r. ⌜ r ≡ queuedAt (shownIn layout (now (list .entry)) (cursor .count)) cursor n ⌝ }
 {
     if n < cursor.queued {
-        return show(cursor, see(list, cursor, n));
+        return show(cursor, see(layout, list, cursor, n));
     }
     Peeked::Nothing { cursor }
 }
 
 // Queues one more token, if there is one and n is at most what is queued, and shows queued token n. Refused are an unfit cursor, then an n
 // that is too far, then a full queue, then a record that may not be shown.
-pub fn peek(list: &[u32], cursor: Cursor, n: usize) -> Peeked
-    ensures { λ r. ⌜ r ≡ peekOf (room (now (list .entry))) (shownAt (now (list .entry))) cursor n ⌝ }
+pub fn peek(layout: Layout, list: &[u32], cursor: Cursor, n: usize) -> Peeked
+    ensures { λ r. ⌜ r ≡ peekOf (roomIn layout (now (list .entry))) (shownIn layout (now (list .entry)) (cursor .count)) cursor n ⌝ }
 {
-    if !cursor.is_fit(rows::room(list)) {
+    if !cursor.is_fit(layout.room(list)) {
         return Peeked::BadState;
     }
     if cursor.queued + 1 < n {
         return Peeked::PeekTooFar;
     }
     if !cursor.must_queue(n) {
-        return queued_at(list, cursor, n);
+        return queued_at(layout, list, cursor, n);
     }
     if cursor.queued == QUEUE_MOST {
         return Peeked::QueueFull;
     }
-    queued_at(list, cursor.queued_one(), n)
+    queued_at(layout, list, cursor.queued_one(), n)
 }
 
 // Shows the token that the (n+1)th following `next` would hand out, and queues what is lacking for it. Refused are an unfit cursor, then more
 // tokens than may be queued, then a record that may not be shown.
-pub fn look_ahead(list: &[u32], cursor: Cursor, n: usize) -> Peeked
-    ensures { λ r. ⌜ r ≡ lookAheadOf (room (now (list .entry))) (shownAt (now (list .entry))) cursor n ⌝ }
+pub fn look_ahead(layout: Layout, list: &[u32], cursor: Cursor, n: usize) -> Peeked
+    ensures { λ r. ⌜ r ≡ lookAheadOf (roomIn layout (now (list .entry))) (shownIn layout (now (list .entry)) (cursor .count)) cursor n ⌝ }
 {
-    if !cursor.is_fit(rows::room(list)) {
+    if !cursor.is_fit(layout.room(list)) {
         return Peeked::BadState;
     }
     if cursor.overfills(n) {
         return Peeked::QueueFull;
     }
     let after = cursor.queued_for(n);
-    show(after, see(list, cursor, n))
+    show(after, see(layout, list, cursor, n))
 }

@@ -6,6 +6,7 @@ pub mod ReadingLaws
 pub mod AlikeLaws
 pub mod ShownLaws
 pub mod ScanLaws
+pub mod StartsLaws
 pub mod WholeLaws
 pub mod HeadLaws
 pub mod GoingLaws

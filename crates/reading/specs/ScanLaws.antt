@@ -1,4 +1,4 @@
--- What a scan's loop and its callers may use of `Scan`.
+-- What a scan's loop and its callers may use of `Scan`, in either layout.
 --     fills-none, fills-full, fills-row    a reading with no record; one that has a record and no room; one more record
 --     room-writes                          whatever the room, those records that have it are written
 --     scans-refused                        a scan that a refusal meets before any work
@@ -21,59 +21,88 @@ use Rattle.input.specs.Input.{inputCheck}
 use Rattle.input.specs.InputLaws.{by-input}
 use Rattle.input.specs.declared.Refusal.{Refusal}
 use Rattle.input.specs.declared.Input.the-variants as input
-use Rattle.rows.specs.Row.{room, putRow, putRows, putRowsAt}
-use Rattle.rows.specs.RowLaws.{put-room, puts-none, puts-next, rows-none, rows-one-by-one}
+use Rattle.rows.specs.Row.{putRows, putRowsAt}
+use Rattle.rows.specs.RowLaws as rows
 use Rattle.rows.specs.declared.Row.{Row}
+use Rattle.half_rows.specs.Half.{Marked, marked, putHalves, putHalvesAt}
+use Rattle.half_rows.specs.HalfLaws as half
+use Rattle.layout.specs.Layout.{roomIn, putIn}
+use Rattle.layout.specs.LayoutLaws.{put-room}
+use Rattle.layout.specs.declared.Layout.{Layout}
+use Rattle.layout.specs.declared.Layout.the-variants.{Whole, Half}
 use Rattle.state.specs.State.{startState}
 use Rattle.state.specs.declared.State.{State}
 use Rattle.reading.specs.Reading.{Stop, ended, stuck, deep, Reading, onto, stopped}
-use Rattle.reading.specs.Scan.{endOf, whole, byRoom, Fills, ReadsOn, readingOf, scanned, writtenBy, written, Scans, countOf}
+use Rattle.reading.specs.Scan.{standsStill, markAll, markedRows, endOf, whole, byRoom, putsIn, FillsIn, ReadsOnIn}
+use Rattle.reading.specs.Scan.{readingOf, scanned, writtenBy, written, writtenMarked, writesIn, ScansIn, countOf}
 use Rattle.reading.specs.declared.Scanned.{Scanned}
 use Rattle.reading.specs.declared.Scanned.the-variants.{Refused, ListFull}
 
-take-none : (n : ℕ) → take {A = Row} n [] ≡ []
+take-none : {A : Type 0} (n : ℕ) → take {A = A} n [] ≡ []
 take-none zero = refl
 take-none (suc n) = refl
 
-module _ (l : List ℕ) (k b : ℕ) where
+-- ---- the words of a list
+
+-- no record is put where none has room, and where none is left
+puts-zero : (layout : Layout) (l : List ℕ) (k : ℕ) (r : Reading) → putsIn layout l k 0 r ≡ l
+puts-zero Whole l k r = rows.puts-none l k
+puts-zero Half l k r = half.puts-none l k
+
+puts-stopped : (layout : Layout) (l : List ℕ) (k n : ℕ) (why : Stop) → putsIn layout l k n (stopped why) ≡ l
+unfolding markAll
+puts-stopped Whole l k n why = ap (putRowsAt l k) (take-none n) ∙ rows.puts-none l k
+puts-stopped Half l k n why = ap (putHalvesAt l k) (take-none n) ∙ half.puts-none l k
+
+-- the first of some is put, and then the others
+puts-onto : (layout : Layout) (l : List ℕ) (k n : ℕ) (row : Row) (r : Reading)
+    → putsIn layout l k (suc n) (onto row r) ≡ putsIn layout (putIn layout l k (marked row (standsStill (r .stop) (r .rows)))) (k + 1) n r
+unfolding markAll
+puts-onto Whole l k n row r = rows.puts-next l k row (take n (r .rows))
+puts-onto Half l k n row r = half.puts-next l k (marked row (standsStill (r .stop) (r .rows))) (take n (markedRows r))
+
+-- ---- a reading that goes on
+
+module _ {layout : Layout} (l : List ℕ) (k b : ℕ) where
   -- no record is left
-  pub fills-none : (why : Stop) → k ≤ room l → Fills l k b (stopped why) (whole (room l) k b why) l
+  pub fills-none : (why : Stop) → k ≤ roomIn layout l → FillsIn layout l k b (stopped why) (whole (roomIn layout l) k b why) l
   unfolding endOf
   fills-none why h =
       record {
-        answer = rw (add-zero k, le-ltb (room l) k h);
-        words = sym (ap (putRowsAt l k) (take-none (room l - k)) ∙ puts-none l k);
+        answer = rw (add-zero k, le-ltb (roomIn layout l) k h);
+        words = sym (puts-stopped layout l k (roomIn layout l - k) why);
       }
 
   -- a record is left and has no room
-  pub fills-full : (row : Row) (r : Reading) → k ≡ room l → Fills l k b (onto row r) (ListFull k b) l
+  pub fills-full : (row : Row) (r : Reading) → k ≡ roomIn layout l → FillsIn layout l k b (onto row r) (ListFull k b) l
   unfolding endOf
   fills-full row r h =
-      let z : room l - k ≡ 0 = omega arith in
+      let z : roomIn layout l - k ≡ 0 = omega arith in
       record {
-        answer = rw (lt-ltb (room l) (k + suc (length (r .rows))) (omega arith), z, h);
-        words = rw z (sym (puts-none l k));
+        answer = rw (lt-ltb (roomIn layout l) (k + suc (length (r .rows))) (omega arith), z, h);
+        words = rw z (sym (puts-zero layout l k (onto row r)));
       }
 
   -- a record has room: it is written, and the rest goes on after it
-  pub fills-row : (row : Row) (r : Reading) (x : Scanned) (new : List ℕ) → k < room l → Fills (putRow l k row) (k + 1) (row .end) r x new
-      → Fills l k b (onto row r) x new
+  pub fills-row : (row : Row) (r : Reading) (x : Scanned) (new : List ℕ) → k < roomIn layout l
+      → FillsIn layout (putIn layout l k (marked row (standsStill (r .stop) (r .rows)))) (k + 1) (row .end) r x new → FillsIn layout l k b (onto row r) x new
   unfolding endOf
   fills-row row r x new h f =
-      let same : room (putRow l k row) ≡ room l = put-room l k row h in
-      let n : room l - k ≡ suc (room l - (k + 1)) = omega arith in
-      let m : k + suc (length (r .rows)) ≡ k + 1 + length (r .rows) = omega arith in
+      let m : Marked = marked row (standsStill (r .stop) (r .rows)) in
+      let same : roomIn layout (putIn layout l k m) ≡ roomIn layout l = put-room layout l k m h in
+      let n : roomIn layout l - k ≡ suc (roomIn layout l - (k + 1)) = omega arith in
+      let one : k + suc (length (r .rows)) ≡ k + 1 + length (r .rows) = omega arith in
       record {
-        answer = f .answer ∙ ap (λ (i : ℕ). byRoom i (k + 1) (row .end) r) same ∙ rw (n, m);
+        answer = f .answer ∙ ap (λ (i : ℕ). byRoom i (k + 1) (row .end) r) same ∙ rw (n, one);
         words = f .words
-            ∙ ap (λ (i : ℕ). putRowsAt (putRow l k row) (k + 1) (take (i - (k + 1)) (r .rows))) same
-            ∙ sym (ap (λ (i : ℕ). putRowsAt l k (take i (row ∷ r .rows))) n ∙ puts-next l k row (take (room l - (k + 1)) (r .rows)));
+            ∙ ap (λ (i : ℕ). putsIn layout (putIn layout l k m) (k + 1) (i - (k + 1)) r) same
+            ∙ sym (ap (λ (i : ℕ). putsIn layout l k i (onto row r)) n ∙ puts-onto layout l k (roomIn layout l - (k + 1)) row r);
       }
 
 -- ---- a scan
 
 -- whatever the room, those records that have it are written
-pub room-writes : (n k b : ℕ) (r : Reading) (rows : List Row) → writtenBy (byRoom n k b r) rows ≡ rows
+pub room-writes : {A : Type 0} (n k b : ℕ) (r : Reading) (rows : List A) → writtenBy (byRoom n k b r) rows ≡ rows
 room-writes n k b r rows =
     by-test (λ (x : Scanned). writtenBy x rows ≡ rows) (ltb n (k + length (r .rows))) (λ _. refl) (λ _. stops (r .stop))
   where
@@ -82,39 +111,50 @@ room-writes n k b r rows =
     stops stuck = refl
     stops deep = by-test (λ (x : Scanned). writtenBy x rows ≡ rows) (ltb (k + length (r .rows)) n) (λ _. refl) (λ _. refl)
 
-module _ {source table : List ℕ} {edition : ℕ} {old : List ℕ} where
-  -- a refusal that writes nothing
-  refused : {r : Scanned} → scanned source table edition (room old) ≡ r → writtenBy r (take (room old) (readingOf source table edition .rows)) ≡ []
-      → Scans source table edition old r old
-  unfolding written
-  refused {r} e w =
-      record {
-        answer = sym e;
-        words = sym (ap (putRows old) (ap (λ (x : Scanned). writtenBy x (take (room old) (readingOf source table edition .rows))) e ∙ w) ∙ rows-none old);
-      }
+module _ (old source table : List ℕ) (edition n : ℕ) where
+  -- a refusal that comes before any work
+  writes-none : (layout : Layout) {x : Refusal} → scanned source table edition n ≡ Refused x → writesIn layout old source table edition n ≡ old
+  unfolding written writtenMarked
+  writes-none Whole e =
+      ap (λ (r : Scanned). putRows old (writtenBy r (take n (readingOf source table edition .rows)))) e ∙ rows.rows-none old
+  writes-none Half e =
+      ap (λ (r : Scanned). putHalves old (writtenBy r (take n (markedRows (readingOf source table edition))))) e ∙ half.halves-none old
 
-  pub scans-refused : {x : Refusal} → inputCheck sourceMost source table edition ≡ input.Refused x → Scans source table edition old (Refused x) old
+  -- and none
+  writes-all : (layout : Layout) → scanned source table edition n ≡ byRoom n 0 0 (readingOf source table edition)
+      → putsIn layout old 0 (n - 0) (readingOf source table edition) ≡ writesIn layout old source table edition n
+  unfolding written writtenMarked
+  writes-all Whole e =
+      let all : List Row = take n (readingOf source table edition .rows) in
+      let z : n - 0 ≡ n = omega arith in
+      ap (λ (i : ℕ). putRowsAt old 0 (take i (readingOf source table edition .rows))) z
+      ∙ rows.rows-one-by-one old all
+      ∙ sym (ap (λ (x : Scanned). putRows old (writtenBy x all)) e ∙ ap (putRows old) (room-writes n 0 0 (readingOf source table edition) all))
+  writes-all Half e =
+      let all : List Marked = take n (markedRows (readingOf source table edition)) in
+      let z : n - 0 ≡ n = omega arith in
+      ap (λ (i : ℕ). putHalvesAt old 0 (take i (markedRows (readingOf source table edition)))) z
+      ∙ half.halves-one-by-one old all
+      ∙ sym (ap (λ (x : Scanned). putHalves old (writtenBy x all)) e ∙ ap (putHalves old) (room-writes n 0 0 (readingOf source table edition) all))
+
+module _ {layout : Layout} {source table : List ℕ} {edition : ℕ} {old : List ℕ} where
+  -- a refusal that writes nothing
+  pub scans-refused : {x : Refusal} → inputCheck sourceMost source table edition ≡ input.Refused x
+      → ScansIn layout source table edition old (Refused x) old
   unfolding scanned
-  scans-refused e = refused (rw e) refl
+  scans-refused {x} c =
+      let e : scanned source table edition (roomIn layout old) ≡ Refused x = rw c in
+      record { answer = sym e; words = sym (writes-none old source table edition (roomIn layout old) layout e) }
 
   -- no refusal before any work: the records are read from the start
   pub scans-fine : {st : State} {r : Scanned} {new : List ℕ} → inputCheck sourceMost source table edition ≡ input.Fine → st ≡ startState
-      → ReadsOn (propertiesAt table) edition source st 0 old r new → Scans source table edition old r new
-  unfolding scanned written
+      → ReadsOnIn layout (propertiesAt table) edition source st 0 old r new → ScansIn layout source table edition old r new
+  unfolding scanned
   scans-fine {st} {r} {new} c q g =
-      let f : Fills old 0 0 (readingOf source table edition) r new =
-      subst (λ (x : State). ReadsOn (propertiesAt table) edition source x 0 old r new) q g in
-      let e : scanned source table edition (room old) ≡ byRoom (room old) 0 0 (readingOf source table edition) =
-      rw c in
-      let rows : List Row = take (room old) (readingOf source table edition .rows) in
-      let z : room old - 0 ≡ room old = omega arith in
-      record {
-        answer = f .answer ∙ sym e;
-        words = f .words
-            ∙ ap (λ (n : ℕ). putRowsAt old 0 (take n (readingOf source table edition .rows))) z
-            ∙ rows-one-by-one old rows
-            ∙ sym (ap (λ (x : Scanned). putRows old (writtenBy x rows)) e ∙ ap (putRows old) (room-writes (room old) 0 0 (readingOf source table edition) rows));
-      }
+      let f : FillsIn layout old 0 0 (readingOf source table edition) r new =
+      subst (λ (x : State). ReadsOnIn layout (propertiesAt table) edition source x 0 old r new) q g in
+      let e : scanned source table edition (roomIn layout old) ≡ byRoom (roomIn layout old) 0 0 (readingOf source table edition) = rw c in
+      record { answer = f .answer ∙ sym e; words = f .words ∙ writes-all old source table edition (roomIn layout old) layout e }
 
 -- ---- how many records a scan counts
 
@@ -138,6 +178,6 @@ module _ (n : ℕ) where
       (λ _. omega arith) (room-counts 0 0 (readingOf source table edition))
 
 -- no second answer and no second list fits
-pub one-answer : (source table : List ℕ) (edition : ℕ) (old : List ℕ) (r q : Scanned) (new other : List ℕ) → Scans source table edition old r new → Scans source table edition old q other
-    → (r ≡ q) × (new ≡ other)
+pub one-answer : {layout : Layout} (source table : List ℕ) (edition : ℕ) (old : List ℕ) (r q : Scanned) (new other : List ℕ)
+    → ScansIn layout source table edition old r new → ScansIn layout source table edition old q other → (r ≡ q) × (new ≡ other)
 one-answer source table edition old r q new other a b = (a .answer ∙ sym (b .answer), a .words ∙ sym (b .words))

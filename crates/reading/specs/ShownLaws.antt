@@ -2,12 +2,13 @@
 --     depth-low        a lexer whose copies agree has at most 64 modes
 --     row-fits         so the record of a token that may be shown may be shown
 --     reading-shown    each of its records
---     stuck-some       the Error that advanced nothing is a record
+--     steps-some, stuck-some    the Error that advanced nothing is a record
+--     still-last       so no other record stands still
 -- Assumes nothing.
 use Prim.Native.Nat.{ℕ, zero, suc, _≤_, _<_}
 use native.Mathlib.Omega.{arith}
 use mathlib.Core.Path.{_≡_, refl}
-use mathlib.Core.Bool.{true, and-eq-true-iff}
+use mathlib.Core.Bool.{true, false, and-eq-true-iff}
 use mathlib.Core.List.{List, [], _∷_}
 use lib.Dec.{leb}
 use lib.ListN.{length, getD}
@@ -29,7 +30,8 @@ use Rattle.stepping.specs.InvariantLaws.{step-ok}
 use Rattle.stepping.specs.ReadsLaws.{token-reads}
 use Rattle.lexer.specs.declared.What.{What}
 use Rattle.lexer.specs.declared.What.the-variants as what
-use Rattle.reading.specs.Reading.{rowOf, stuck, Reading, afterStep, readIn, readFrom}
+use Rattle.reading.specs.Reading.{rowOf, Stop, ended, stuck, deep, Reading, afterStep, readIn, readFrom}
+use Rattle.reading.specs.Scan.{standsStill}
 
 pub depth-low : (st : State) → Agrees st → st .lexer .depth ≤ depthMost
 depth-low st a = omega (arith, a .depth, a .most)
@@ -87,8 +89,21 @@ after-some go before after what.Stuck e = omega arith
 after-some go before after what.ModesFull e = let z : _≡_ {A = ℕ} 0 1 = cc in absurd (omega arith)
 after-some go before after what.End e = let z : _≡_ {A = ℕ} 0 1 = cc in absurd (omega arith)
 
+pub steps-some : (n : ℕ) (look : ℕ → ℕ) (edition : ℕ) (s : List ℕ) (st : State) → readIn n look edition s st .stop ≡ stuck
+    → 0 < length (readIn n look edition s st .rows)
+unfolding readIn
+steps-some zero look edition s st e = let z : _≡_ {A = ℕ} 0 1 = cc in absurd (omega arith)
+steps-some (suc n) look edition s st e =
+    after-some (readIn n look edition s) (st .lexer) (step look edition s st .state) (step look edition s st .what) e
+
 pub stuck-some : (look : ℕ → ℕ) (edition : ℕ) (s : List ℕ) (st : State) → readFrom look edition s st .stop ≡ stuck
     → 0 < length (readFrom look edition s st .rows)
-unfolding readFrom readIn
-stuck-some look edition s st =
-    after-some (readIn (measure s st) look edition s) (st .lexer) (step look edition s st .state) (step look edition s st .what)
+unfolding readFrom
+stuck-some look edition s st = steps-some (suc (measure s st)) look edition s st
+
+-- so no record stands still behind which a reading goes on
+pub still-last : (why : Stop) (rows : List Row) → (why ≡ stuck → 0 < length rows) → standsStill why rows ≡ false
+still-last stuck [] some = absurd (omega (arith, some refl))
+still-last stuck (r ∷ rows) some = refl
+still-last ended rows some = refl
+still-last deep rows some = refl

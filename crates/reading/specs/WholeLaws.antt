@@ -14,10 +14,14 @@ use Rattle.input.specs.Input.{inputCheck, Readable, onInput}
 use Rattle.input.specs.InputLaws.{fine-of}
 use Rattle.input.specs.declared.Input.{Input}
 use Rattle.input.specs.declared.Input.the-variants as input
-use Rattle.rows.specs.Row.{room, putRows}
-use Rattle.rows.specs.declared.Row.{Row}
+use Rattle.rows.specs.Row.{putRows}
+use Rattle.half_rows.specs.Half.{putHalves}
+use Rattle.layout.specs.Layout.{roomIn}
+use Rattle.layout.specs.declared.Layout.{Layout}
+use Rattle.layout.specs.declared.Layout.the-variants.{Whole, Half}
 use Rattle.reading.specs.Reading.{Stop, ended, stuck, deep}
-use Rattle.reading.specs.Scan.{endOf, whole, byRoom, readingOf, scanned, writtenBy, written, Scans}
+use Rattle.reading.specs.Scan.{markedRows, endOf, whole, byRoom, readingOf, scanned, writtenBy, written, writtenMarked, writesIn, holdsIn, ScansIn}
+use Rattle.reading.specs.StartsLaws.{marks-length}
 use Rattle.reading.specs.declared.Scanned.{Scanned}
 use Rattle.reading.specs.declared.Scanned.the-variants.{End, Stuck, Refused, ListFull, ModesFull}
 
@@ -59,25 +63,31 @@ module _ (source table : List ℕ) (edition room : ℕ) where
       by-check input.Fine e = read-means (fine-of sourceMost source table edition e)
       by-check (input.Refused x) e = tt
 
-module _ (source table : List ℕ) (edition : ℕ) (old new : List ℕ) (n b : ℕ) where
-  -- all records are written
-  all-written : {r : Scanned} → Scans source table edition old r new → length (readingOf source table edition .rows) ≤ room old
-      → ((rows : List Row) → writtenBy r rows ≡ rows) → new ≡ putRows old (readingOf source table edition .rows)
-  unfolding written
-  all-written p h e =
-      p .words
-      ∙ ap (putRows old)
-      (ap (λ (x : Scanned). writtenBy x (take (room old) (readingOf source table edition .rows))) (sym (p .answer))
-      ∙ e (take (room old) (readingOf source table edition .rows))
-      ∙ take-all (room old) (readingOf source table edition .rows) h)
+-- all records are written
+module _ (old source table : List ℕ) (edition n : ℕ) (h : length (readingOf source table edition .rows) ≤ n) {r : Scanned}
+    (a : r ≡ scanned source table edition n) (e : (A : Type 0) (rows : List A) → writtenBy r rows ≡ rows) where
+  -- those that have room are all
+  writes-them : {A : Type 0} (rows : List A) → length rows ≤ n → writtenBy (scanned source table edition n) (take n rows) ≡ rows
+  writes-them {A} rows k = ap (λ (x : Scanned). writtenBy x (take n rows)) (sym a) ∙ e A (take n rows) ∙ take-all n rows k
 
-  meant : {r : Scanned} → Scans source table edition old r new → Means source table edition (room old) r
-  meant p = subst (Means source table edition (room old)) (sym (p .answer)) (scanned-means source table edition (room old))
+  writes-whole : (layout : Layout) → writesIn layout old source table edition n ≡ holdsIn layout old (readingOf source table edition)
+  unfolding written writtenMarked
+  writes-whole Whole = ap (putRows old) (writes-them (readingOf source table edition .rows) h)
+  writes-whole Half =
+      let q = readingOf source table edition in ap (putHalves old) (writes-them (markedRows q) (omega (arith, marks-length (q .stop) (q .rows))))
 
-  pub end-whole : Scans source table edition old (End n b) new
-      → ReadWhole source table edition (room old) n ended × (new ≡ putRows old (readingOf source table edition .rows))
-  end-whole p = let w = meant p in (w, all-written p (omega (arith, w .counted, w .has-room)) (λ rows. refl))
+module _ {layout : Layout} (source table : List ℕ) (edition : ℕ) (old new : List ℕ) (n b : ℕ) where
+  meant : {r : Scanned} → ScansIn layout source table edition old r new → Means source table edition (roomIn layout old) r
+  meant p = subst (Means source table edition (roomIn layout old)) (sym (p .answer)) (scanned-means source table edition (roomIn layout old))
 
-  pub stuck-whole : Scans source table edition old (Stuck n b) new
-      → ReadWhole source table edition (room old) n stuck × (new ≡ putRows old (readingOf source table edition .rows))
-  stuck-whole p = let w = meant p in (w, all-written p (omega (arith, w .counted, w .has-room)) (λ rows. refl))
+  all-written : {r : Scanned} → ScansIn layout source table edition old r new → length (readingOf source table edition .rows) ≤ roomIn layout old
+      → ((A : Type 0) (rows : List A) → writtenBy r rows ≡ rows) → new ≡ holdsIn layout old (readingOf source table edition)
+  all-written p h e = p .words ∙ writes-whole old source table edition (roomIn layout old) h (p .answer) e layout
+
+  pub end-whole : ScansIn layout source table edition old (End n b) new
+      → ReadWhole source table edition (roomIn layout old) n ended × (new ≡ holdsIn layout old (readingOf source table edition))
+  end-whole p = let w = meant p in (w, all-written p (omega (arith, w .counted, w .has-room)) (λ A rows. refl))
+
+  pub stuck-whole : ScansIn layout source table edition old (Stuck n b) new
+      → ReadWhole source table edition (roomIn layout old) n stuck × (new ≡ holdsIn layout old (readingOf source table edition))
+  stuck-whole p = let w = meant p in (w, all-written p (omega (arith, w .counted, w .has-room)) (λ A rows. refl))

@@ -1,7 +1,7 @@
 // A scan's answer, number by number, for whoever prints it or hands it on.
 ghost use mathlib.Core.Path.{_≡_};
 ghost use Rattle.reading.specs.Scan.{numberOf, placeOf, countOf};
-ghost use Rattle.reading.specs.Status.{statusOf};
+ghost use Rattle.reading.specs.Status.{statusOf, halfStatusOf};
 use crate::Scanned;
 use base::refusals::LIST_FULL;
 use base::refusals::MODES_FULL;
@@ -14,6 +14,11 @@ pub const STUCK: u32 = 1;
 
 // The scan was refused: a cursor made of this is refused too.
 pub const REFUSED: u32 = 2;
+
+// The same as the first two of a list with records at half the size: a cursor over it carries its layout.
+pub const END_HALF: u32 = 3;
+
+pub const STUCK_HALF: u32 = 4;
 
 // The refusal's number; 0 where there is no refusal.
 pub fn number_of(scanned: Scanned) -> u32
@@ -61,6 +66,19 @@ pub fn status_of(scanned: Scanned) -> u32
     match scanned {
         Scanned::End { count: _, byte: _ } => END,
         Scanned::Stuck { count: _, byte: _ } => STUCK,
+        Scanned::Refused(_) => REFUSED,
+        Scanned::ListFull { count: _, byte: _ } => REFUSED,
+        Scanned::ModesFull { count: _, byte: _ } => REFUSED,
+    }
+}
+
+// How it ended, into records at half the size.
+pub fn half_status_of(scanned: Scanned) -> u32
+    ensures { λ r. ⌜ r ≡ halfStatusOf scanned ⌝ }
+{
+    match scanned {
+        Scanned::End { count: _, byte: _ } => END_HALF,
+        Scanned::Stuck { count: _, byte: _ } => STUCK_HALF,
         Scanned::Refused(_) => REFUSED,
         Scanned::ListFull { count: _, byte: _ } => REFUSED,
         Scanned::ModesFull { count: _, byte: _ } => REFUSED,

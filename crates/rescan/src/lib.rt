@@ -30,6 +30,7 @@ use position::Place;
 use position::Position;
 use position::Span;
 use reading::Scanned;
+use layout::Layout;
 use rows::Row;
 use state::Lexer;
 use state::State;
@@ -106,7 +107,7 @@ fn read_behind(
     }
     rows::copy::copy_rows(old_list, list, kept);
     let start = resume(row_before(old_list, kept));
-    scan::read_on(source, table, edition, start, list, kept)
+    scan::read_on(Layout::Whole, source, table, edition, start, list, kept)
 }
 
 // A rescan whose new source was not refused.

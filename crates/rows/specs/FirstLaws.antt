@@ -4,17 +4,20 @@
 --     fits-packs                            a record that may be shown can be put
 --     fits-first                            and may be shown where nothing stands above its depth
 --     below-fit, below-unfit                what is shown, by the test
+--     upper-over, upper-low                 the depth and what stands above it, tested as one number
 -- Assumes nothing.
 use mathlib.Core.Path.{_≡_}
-use mathlib.Core.Bool.{true, false, and-eq-true-iff}
-use Prim.Native.Nat.{ℕ, _+_, _*_}
+use mathlib.Core.Bool.{true, false, _&&_, and-eq-true-iff}
+use Prim.Native.Nat.{ℕ, _+_, _*_, _/_, _≤_, _<_}
 use native.Mathlib.Omega.{arith}
-use lib.Dec.{leb}
-use borrow.Author.Tests.{leb-true}
+use lib.Dec.{eqb, leb}
+use borrow.Author.Tests.{leb-true, eq-eqb, ne-eqb, le-leb, lt-leb}
+use Rattle.base.specs.PickLaws.{split-eq}
+use Rattle.base.specs.CasesLaws.{and-no}
 use Rattle.token.specs.Kind.{kindMost}
 use Rattle.token.specs.Detail.{detailAllowed, fits}
 use Rattle.token.specs.DetailLaws.{allowed-most}
-use Rattle.rows.specs.First.{aboveUnit, firstOf, Packs, kindIn, detailIn, depthIn, aboveIn, depthMost, rowFits, fitsBelow, shownBelow}
+use Rattle.rows.specs.First.{depthUnit, aboveUnit, firstOf, Packs, kindIn, detailIn, depthIn, aboveIn, depthMost, rowFits, fitsBelow, shownBelow}
 use Rattle.rows.specs.declared.Row.{Row}
 use Rattle.rows.specs.declared.RowAt.the-variants.{Fit, Unfit}
 
@@ -56,3 +59,17 @@ below-fit above r e = rw e
 
 pub below-unfit : (above : ℕ) (r : Row) → fitsBelow above r ≡ false → shownBelow above r ≡ Unfit
 below-unfit above r e = rw e
+
+-- ---- the depth and what stands above it, as one number
+
+module _ (first : ℕ) (r : Row) (e : r .depth ≡ depthIn first) where
+  pub upper-over : depthMost < first / depthUnit → fitsBelow (aboveIn first) r ≡ false
+  unfolding fitsBelow rowFits
+  upper-over h =
+      split-eq (aboveIn first) 0
+      (λ z. rw (eq-eqb (aboveIn first) 0 z, lt-leb (r .depth) depthMost (omega arith)))
+      (λ n. and-no (eqb (aboveIn first) 0) (leb (r .depth) depthMost && fits (r .kind) (r .detail)) (ne-eqb (aboveIn first) 0 n))
+
+  pub upper-low : first / depthUnit ≤ depthMost → fitsBelow (aboveIn first) r ≡ fits (r .kind) (r .detail)
+  unfolding fitsBelow rowFits
+  upper-low h = rw (eq-eqb (aboveIn first) 0 (omega arith), le-leb (r .depth) depthMost (omega arith))

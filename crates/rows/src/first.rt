@@ -1,7 +1,7 @@
 // The first number of a record (documents 01 and 02, C-4): the kind in bits 0 to 6, the detail in 7 to 19, the depth in 20 to 27. What stands above
 // them is a layout's own matter; here is only said that it must be 0 where the record is shown.
 ghost use mathlib.Core.Path.{_≡_};
-ghost use Rattle.rows.specs.First.{firstOf, Packs, shownBelow};
+ghost use Rattle.rows.specs.First.{firstOf, Packs, depthIn, aboveIn, shownBelow};
 use crate::Row;
 use crate::RowAt;
 use token::detail_allowed;
@@ -30,14 +30,13 @@ pub fn first_of(row: Row) -> u32
     row.kind + KIND_ROOM * row.detail + DEPTH_UNIT * row.depth
 }
 
-// The record, or that it is none that may be shown (refusal 9), where this stands above the depth in its first number.
-pub fn shown_below(above: u32, row: Row) -> RowAt
-    ensures { λ r. ⌜ r ≡ shownBelow above row ⌝ }
+// The record, or that it is none that may be shown (refusal 9), where this is its first number without what its layout allows above the depth. The
+// depth and what stands above it are one number, so one test is enough for both.
+pub fn shown_by(first: u32, row: Row) -> RowAt
+    requires { ⌜ row .depth ≡ depthIn first ⌝ }
+    ensures { λ r. ⌜ r ≡ shownBelow (aboveIn first) row ⌝ }
 {
-    if above != 0 {
-        return RowAt::Unfit;
-    }
-    if DEPTH_MOST < row.depth {
+    if DEPTH_MOST < first / DEPTH_UNIT {
         return RowAt::Unfit;
     }
     if KIND_MOST < row.kind {

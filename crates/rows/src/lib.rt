@@ -6,13 +6,12 @@ ghost use mathlib.Core.Path.{_≡_};
 ghost use Prim.Native.Nat.{_*_, _<_};
 ghost use Rattle.rows.specs.First.{Packs};
 ghost use Rattle.rows.specs.Row.{rowWords, room, putRow, rowFrom, firstAt, shownAt};
-use crate::first::ABOVE_UNIT;
 use crate::first::DEPTH_ROOM;
 use crate::first::DEPTH_UNIT;
 use crate::first::DETAIL_ROOM;
 use crate::first::KIND_ROOM;
 use crate::first::first_of;
-use crate::first::shown_below;
+use crate::first::shown_by;
 
 pub mod copy;
 pub mod first;
@@ -104,5 +103,5 @@ pub fn row_at(list: &[u32], i: usize) -> RowAt
     ensures { λ r. ⌜ r ≡ shownAt (now (list .entry)) i ⌝ }
 {
     let at = ROW_WORDS * i;
-    shown_below(list[at] / ABOVE_UNIT, read_row(list, i))
+    shown_by(list[at], read_row(list, i))
 }

@@ -9,6 +9,7 @@ pub use calls::call_at;
 use cursor::Cursor;
 use cursor::Status;
 use libc::STDOUT_FILENO;
+use layout::Layout;
 use lookahead::Given;
 use lookahead::Peeked;
 use lookahead::answer;
@@ -102,9 +103,9 @@ pub fn ask(list: &[u32], cursor: Cursor, call: Call) -> Told
     ensures { λ r. ⌜ r ≡ toldOf (now (list .entry)) cursor call ⌝ }
 {
     match call {
-        Call::Next => told_given(cursor, lookahead::next(list, cursor)),
-        Call::Peek(n) => told_peeked(cursor, lookahead::peek(list, cursor, n)),
-        Call::LookAhead(n) => told_peeked(cursor, lookahead::look_ahead(list, cursor, n)),
+        Call::Next => told_given(cursor, lookahead::next(Layout::Whole, list, cursor)),
+        Call::Peek(n) => told_peeked(cursor, lookahead::peek(Layout::Whole, list, cursor, n)),
+        Call::LookAhead(n) => told_peeked(cursor, lookahead::look_ahead(Layout::Whole, list, cursor, n)),
     }
 }
 

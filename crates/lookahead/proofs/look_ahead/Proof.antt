@@ -3,7 +3,7 @@ use mathlib.Core.Path.{_≡_, sym, _∙_}
 use mathlib.Core.Bool.{true}
 use denote.Ref.{now}
 use borrow.Author.Tests.{not-true, not-false, ltb-false}
-use Rattle.rows.specs.Row.{room}
+use Rattle.layout.specs.Layout.{roomIn}
 use Rattle.cursor.specs.Cursor.{isFit}
 use Rattle.cursor.specs.CursorLaws.{fits-of}
 use Rattle.lookahead.specs.AnswerLaws.{look-unfit, look-full, look-is}
@@ -12,7 +12,7 @@ use Rattle.lookahead.proofs.look_ahead.Statement.{statement}
 use Rattle.lookahead.proofs.look_ahead.Tie as tie
 
 -- the cursor is fit
-fit : (c : tie.Else1) → let a = c .before .before .before .before .args in isFit (room (now (a .list))) (a .cursor) ≡ true
+fit : (c : tie.Else1) → let a = c .before .before .before .before .args in isFit (roomIn (a .layout) (now (a .list))) (a .cursor) ≡ true
 fit c = rw (← c .before .before .room .ensures) (sym (c .before .is-fit .ensures) ∙ not-false _ (c .if1 .left))
 
 room-requires : tie.Need-room-requires

@@ -4,7 +4,7 @@ use mathlib.Core.Path.{_≡_, sym, ap, _∙_}
 use mathlib.Core.Bool.{true}
 use denote.Ref.{now}
 use borrow.Author.Tests.{not-true, not-false}
-use Rattle.rows.specs.Row.{room, shownAt}
+use Rattle.layout.specs.Layout.{roomIn, shownIn}
 use Rattle.cursor.specs.Cursor.{isFit, mustQueue, queuedOne}
 use Rattle.cursor.specs.CursorLaws.{fits-of}
 use Rattle.lookahead.specs.Peek.{queuedAt, peekOf}
@@ -18,7 +18,7 @@ abbrev start : tie.Else3 → tie.Start
 start c = c .before .before .before .before .before .before .before .before
 
 -- the cursor is fit
-fit : (c : tie.Else1) → let a = c .before .before .before .before .args in isFit (room (now (a .list))) (a .cursor) ≡ true
+fit : (c : tie.Else1) → let a = c .before .before .before .before .args in isFit (roomIn (a .layout) (now (a .list))) (a .cursor) ≡ true
 fit c = rw (← c .before .before .room .ensures) (sym (c .before .is-fit .ensures) ∙ not-false _ (c .if1 .left))
 
 room-requires : tie.Need-room-requires
@@ -70,12 +70,13 @@ queued-at-requires-2 c κs =
     rw (c .queued-one .ensures) (fits-of _ _ (fit (c .before .before .before .before .before .before .before)) .count)
 
 returns-5 : tie.Need-returns-5
+unfolding queuedOne
 returns-5 c =
     let not-full = c .before .before in
     let tested = not-full .before .before .before in
     let a = start (not-full .before .before) .args in
     c .queued-at2 .ensures
-    ∙ ap (λ (x : Cursor). queuedAt (shownAt (now (a .list))) x (a .n)) (c .before .queued-one .ensures)
+    ∙ ap (λ (x : Cursor). queuedAt (shownIn (a .layout) (now (a .list)) (x .count)) x (a .n)) (c .before .queued-one .ensures)
     ∙ peek-more _ _ _ _ (fit (tested .before .before .before)) (tested .before .if2 .left)
     (must (not-full .before .before)) (not-full .if4 .left)
 

@@ -7,8 +7,8 @@ use Rattle.lookahead.proofs.see.Tie as tie
 ahead-requires : tie.Need-ahead-requires
 ahead-requires c κs = search needs
 
-row-at-requires : tie.Need-row-at-requires
-row-at-requires c κs = search needs
+shown-requires : tie.Need-shown-requires
+shown-requires c κs = search needs
 
 enum-known-row : tie.Need-enum-known-row
 enum-known-row c = search needs
@@ -20,14 +20,14 @@ returns : tie.Need-returns
 returns c =
     let at-row = c .before .before .before in
     let s = at-row .before .before .before in
-    see-token _ _ (s .before .before .args .n) (s .ahead .ensures) (at-row .before .if1 .taken) (at-row .row-at .ensures)
+    see-token _ _ (s .before .before .args .n) (s .ahead .ensures) (at-row .before .if1 .taken) (at-row .shown .ensures)
     (c .before .row .given .1)
 
 returns-2 : tie.Need-returns-2
 returns-2 c =
     let at-row = c .before .before in
     let s = at-row .before .before .before in
-    see-bad _ _ (s .before .before .args .n) (s .ahead .ensures) (at-row .before .if1 .taken) (at-row .row-at .ensures)
+    see-bad _ _ (s .before .before .args .n) (s .ahead .ensures) (at-row .before .if1 .taken) (at-row .shown .ensures)
     (c .enum-told .given .1)
 
 returns-3 : tie.Need-returns-3
@@ -38,4 +38,4 @@ returns-3 c =
 pub see-spec : {M : Type 1} → statement M
 see-spec =
     tie.close
-    (tie.spec ahead-requires row-at-requires enum-known-row enum-told returns returns-2 returns-3)
+    (tie.spec ahead-requires shown-requires enum-known-row enum-told returns returns-2 returns-3)

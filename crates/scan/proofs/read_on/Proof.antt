@@ -12,11 +12,11 @@ use Rattle.scan.proofs.read_on.Statement.{statement}
 use Rattle.scan.proofs.read_on.Tie as tie
 
 abbrev Inv-loop : tie.InvT-loop
-Inv-loop source table edition list₀ first lexer₀ codes₀ count₀ list lexer codes count =
-    Going source table edition (stateOf lexer₀ codes₀) count₀ list₀ (stateOf lexer codes) count list
+Inv-loop layout source table edition list₀ first lexer₀ codes₀ count₀ list lexer codes count =
+    Going layout source table edition (stateOf lexer₀ codes₀) count₀ list₀ (stateOf lexer codes) count list
 
 abbrev μ-loop : tie.MeasureT-loop
-μ-loop source table edition list₀ first lexer₀ codes₀ count₀ list lexer codes count = measure source (stateOf lexer codes)
+μ-loop layout source table edition list₀ first lexer₀ codes₀ count₀ list lexer codes count = measure source (stateOf lexer codes)
 
 -- ---- places: the function's start, the token that was found, that its record has room, and that it is made
 
@@ -40,7 +40,7 @@ at-row c = c .before .before .before
 loop-holds : tie.Need-loop-holds Inv-loop μ-loop
 loop-holds c =
     let p = c .before .before .before .before .before .pre in
-    begins _ _ _ _ _ _ (p .0) (p .1) (p .2)
+    begins _ _ _ _ _ _ _ (p .0) (p .1) (p .2)
 
 read-half-requires : tie.Need-read-half-requires Inv-loop μ-loop
 read-half-requires c κs = (c .loop .inv .head .ok .fine, c .loop .inv .head .fit)
@@ -69,8 +69,8 @@ row-of-requires c κs =
     let h = at-half (at-token (c .before)) in
     (rw (h .read-half .ensures) (bounds (h .before .loop .inv .head)), low (h .before .loop .inv .head))
 
-put-row-requires : tie.Need-put-row-requires Inv-loop μ-loop
-put-row-requires c κs =
+put-requires : tie.Need-put-requires Inv-loop μ-loop
+put-requires c κs =
     let r = with-room c in
     let t = at-token r in
     let h = at-half t in (
@@ -100,7 +100,7 @@ loop-again c =
     let t = at-token r in
     let h = at-half t in
     again (h .before .loop .inv) _ (found-by (h .before .loop .inv .head) (h .read-half .ensures) (t .what .given .1)) (omega (arith, r .if1 .left, r .before .room .ensures))
-    (made (h .before .loop .inv .head) _ (h .read-half .ensures) (row .row-of .ensures)) (c .before .before .before .before .put-row .ensures)
+    (made (h .before .loop .inv .head) _ (h .read-half .ensures) (row .row-of .ensures)) (c .before .before .before .before .put .ensures)
     (keeps-is (h .before .loop .inv .head) (h .read-half .ensures) (c .enum-told .given .1))
 
 apply-requires : tie.Need-apply-requires Inv-loop μ-loop
@@ -122,7 +122,7 @@ loop-again-2 c =
     let t = at-token r in
     let h = at-half t in
     again (h .before .loop .inv) _ (found-by (h .before .loop .inv .head) (h .read-half .ensures) (t .what .given .1)) (omega (arith, r .if1 .left, r .before .room .ensures))
-    (made (h .before .loop .inv .head) _ (h .read-half .ensures) (row .row-of .ensures)) (c .before .before .before .before .before .put-row .ensures)
+    (made (h .before .loop .inv .head) _ (h .read-half .ensures) (row .row-of .ensures)) (c .before .before .before .before .before .put .ensures)
     (changes-is (h .before .loop .inv .head) (h .read-half .ensures) (c .apply .ensures))
 
 -- ---- the other ways out
@@ -137,7 +137,7 @@ stuck-requires c κs =
     (rw (h .read-half .ensures) (omega (arith, b .0, b .1), omega (arith, b .1)), (low (h .before .loop .inv .head), h .before .loop .inv .within))
 
 same-length-2 : tie.Need-same-length-2 Inv-loop μ-loop
-same-length-2 c = c .before .before .stuck .kept .0 ∙ c .before .before .before .before .before .before .before .before .loop .inv .long
+same-length-2 c = c .before .before .stuck .kept .1 .0 ∙ c .before .before .before .before .before .before .before .before .loop .inv .long
 
 returns-2 : tie.Need-returns-2 Inv-loop μ-loop
 returns-2 c =
@@ -192,7 +192,7 @@ read-on-spec =
     same-length
     returns
     row-of-requires
-    put-row-requires
+    put-requires
     add-count
     enum-told
     loop-less

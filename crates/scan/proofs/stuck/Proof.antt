@@ -16,24 +16,28 @@ token-of-requires c κs = search needs
 row-of-requires : tie.Need-row-of-requires
 row-of-requires c κs = search needs
 
-put-row-requires : tie.Need-put-row-requires
-put-row-requires c κs = (
-  omega (arith, c .before .before .before .if1 .taken, c .before .before .before .before .room .ensures),
-  error-packs (c .before .before .before .before .before .before .before .args .before) (c .before .before .before .before .before .before .before .args .after) (c .before .before .before .before .before .before .before .pre .1 .0) (c .before .token-of .ensures) (c .row-of .ensures),
-)
+put-requires : tie.Need-put-requires
+put-requires c κs =
+    let tested = c .before .before .before in
+    let start = tested .before .before .before .before in (
+      omega (arith, tested .if1 .taken, tested .before .room .ensures),
+      error-packs (start .args .before) (start .args .after) (start .pre .1 .0) (c .before .before .token-of .ensures) (c .before .row-of .ensures),
+    )
 
-add-t15 : tie.Need-add-t15
-add-t15 c = search needs
+add-t16 : tie.Need-add-t16
+add-t16 c = search needs
 
 same-length : tie.Need-same-length
 same-length c = search needs
 
 returns : tie.Need-returns
 returns c =
-    let at-row = c .before .before .before in
-    stuck-written _ _ (at-row .before .before .before .before .before .before .before .args .before)
-    (at-row .before .before .before .before .before .before .before .args .after) (omega (arith, at-row .before .before .before .if1 .taken, at-row .before .before .before .before .room .ensures))
-    (at-row .before .token-of .ensures) (at-row .row-of .ensures) (c .before .before .put-row .ensures)
+    let at-put = c .before .before in
+    let at-row = at-put .before .before in
+    let tested = at-row .before .before in
+    let start = tested .before .before .before .before in
+    stuck-written _ _ (start .args .before) (start .args .after) (omega (arith, tested .if1 .taken, tested .before .room .ensures))
+    (at-row .before .token-of .ensures) (at-row .row-of .ensures) (at-put .put .ensures)
 
 same-length-2 : tie.Need-same-length-2
 same-length-2 c = search needs
@@ -49,8 +53,8 @@ stuck-spec =
     room-requires
     token-of-requires
     row-of-requires
-    put-row-requires
-    add-t15
+    put-requires
+    add-t16
     same-length
     returns
     same-length-2

@@ -1,4 +1,4 @@
--- `scan::scan` meets its contract: a refusal of `check_input` is the answer, and where there is none it reads on from the start.
+-- `scan::scan_in` meets its contract: a refusal of `check_input` is the answer, and where there is none it reads on from the start.
 -- Assumes nothing.
 use mathlib.Core.Path.{sym, subst, _∙_}
 use native.Mathlib.Omega.{arith}
@@ -8,8 +8,8 @@ use Rattle.input.specs.InputLaws.{fine-of}
 use Rattle.stepping.specs.Invariant.{Ok}
 use Rattle.stepping.specs.InvariantLaws.{start-ok}
 use Rattle.reading.specs.ScanLaws.{scans-refused, scans-fine}
-use Rattle.scan.proofs.scan.Statement.{statement}
-use Rattle.scan.proofs.scan.Tie as tie
+use Rattle.scan.proofs.scan_in.Statement.{statement}
+use Rattle.scan.proofs.scan_in.Tie as tie
 
 check-input-requires : tie.Need-check-input-requires
 check-input-requires c κs = search needs
@@ -44,8 +44,8 @@ returns-2 c =
     let told = at-new .before in
     scans-fine (sym (told .before .before .check-input .ensures) ∙ told .enum-told .given .1) (at-new .new .ensures) (c .before .before .read-on .ensures)
 
-pub scan-spec : {M : Type 1} → statement M
-scan-spec =
+pub scan-in-spec : {M : Type 1} → statement M
+scan-in-spec =
     tie.close
     (tie.spec
     check-input-requires
