@@ -1,6 +1,8 @@
 // `next`, `peek` and `look_ahead` for C. A cursor is its numbers: taken, queued, the count, and the status as a scan writes it, which tells the
 // list's layout too.
 ghost use mathlib.Core.Path.{_≡_};
+ghost use Prim.Native.Nat.{_≤_, _<_};
+ghost use Rattle.reading.specs.Status.{endHalfNumber};
 ghost use Rattle.koto_lexer.specs.Cursors.{cursorOf, nextBy, NextIs, LookedIs, peekBy, PeekIs, lookBy, LookAheadIs};
 use cursor::Cursor;
 use cursor::Status;
@@ -26,22 +28,59 @@ fn cursor_of(taken: usize, queued: usize, count: usize, status: Status) -> Curso
 
 // ---- `next`
 
-// The inner call's answer for a cursor of these numbers. Each status has an arm of its own, so that LLVM compiles the call for the one
-// status and the one layout.
-fn next_by(list: &[u32], taken: usize, queued: usize, count: usize, status: u32) -> Given
+// The inner call's answer over a whole list, for a cursor of these numbers. Each status has an arm of its own, so that LLVM compiles the call for
+// the one status and the one layout.
+fn next_whole(list: &[u32], taken: usize, queued: usize, count: usize, status: u32) -> Given
+    requires { ⌜ status < endHalfNumber ⌝ }
     ensures { λ r. ⌜ r ≡ nextBy (now (list .entry)) taken queued count status ⌝ }
 {
     match status {
         END => lookahead::next(Layout::Whole, list, cursor_of(taken, queued, count, Status::End)),
         STUCK => lookahead::next(Layout::Whole, list, cursor_of(taken, queued, count, Status::Stuck)),
+        _ => Given::BadState,
+    }
+}
+
+// The same over a half list.
+fn next_half(list: &[u32], taken: usize, queued: usize, count: usize, status: u32) -> Given
+    requires { ⌜ endHalfNumber ≤ status ⌝ }
+    ensures { λ r. ⌜ r ≡ nextBy (now (list .entry)) taken queued count status ⌝ }
+{
+    match status {
         END_HALF => lookahead::next(Layout::Half, list, cursor_of(taken, queued, count, Status::End)),
         STUCK_HALF => lookahead::next(Layout::Half, list, cursor_of(taken, queued, count, Status::Stuck)),
         _ => Given::BadState,
     }
 }
 
+// `koto_next` over a half list.
+fn koto_next_half(
+    list: &[u32],
+    taken: &mut usize,
+    queued: &mut usize,
+    count: usize,
+    status: u32,
+    shown: &mut u32,
+    record: &mut [u32; 10],
+    place: &mut usize,
+) -> u32
+    requires { ⌜ endHalfNumber ≤ status ⌝ }
+    ensures { λ r. ⌜ NextIs (now (list .entry)) (now (taken .entry)) (now (queued .entry)) count status
+        (now (taken .exit)) (now (queued .exit)) (now (shown .exit)) (now («record» .exit)) (now (place .exit)) r ⌝ }
+{
+    let given = next_half(list, *taken, *queued, count, status);
+    let told = answer::given_told(given, *taken, *queued);
+    *taken = told.taken;
+    *queued = told.queued;
+    *shown = told.shown;
+    answer::put_record(record, told.row);
+    *place = answer::given_place(given);
+    answer::given_number(given)
+}
+
 // Hands out the next token, and moves the cursor on. Refused are a cursor that is unfit with 8, then a record that may not be shown with 9;
-// both leave the cursor.
+// both leave the cursor. A half list goes another way at once: where the two met behind the inner call, LLVM would put the answer of a whole list
+// into memory too, which costs a tenth.
 #[no_mangle]
 pub extern "C" fn koto_next(
     list: &[u32],
@@ -56,7 +95,10 @@ pub extern "C" fn koto_next(
     ensures { λ r. ⌜ NextIs (now (list .entry)) (now (taken .entry)) (now (queued .entry)) count status
         (now (taken .exit)) (now (queued .exit)) (now (shown .exit)) (now («record» .exit)) (now (place .exit)) r ⌝ }
 {
-    let given = next_by(list, *taken, *queued, count, status);
+    if END_HALF <= status {
+        return koto_next_half(list, taken, queued, count, status, shown, record, place);
+    }
+    let given = next_whole(list, *taken, *queued, count, status);
     let told = answer::given_told(given, *taken, *queued);
     *taken = told.taken;
     *queued = told.queued;

@@ -1,0 +1,43 @@
+-- `cursors::koto_next_half` meets its contract: each number is that of the inner call's answer. Assumes nothing.
+use Rattle.koto_lexer.specs.CursorsLaws.{next-told}
+use borrow.Author.Needs.{needs}
+use Rattle.koto_lexer.proofs.cursors.koto_next_half.Statement.{statement}
+use Rattle.koto_lexer.proofs.cursors.koto_next_half.Tie as tie
+
+next-half-requires : tie.Need-next-half-requires
+next-half-requires c κs = search needs
+
+given-told-requires : tie.Need-given-told-requires
+given-told-requires c κs = search needs
+
+put-record-requires : tie.Need-put-record-requires
+put-record-requires c κs = search needs
+
+given-place-requires : tie.Need-given-place-requires
+given-place-requires c κs = search needs
+
+given-number-requires : tie.Need-given-number-requires
+given-number-requires c κs = search needs
+
+returns : tie.Need-returns
+returns c =
+    let at-place = c .before in
+    let at-record = at-place .before in
+    let at-told = at-record .before .before in
+    next-told
+    (at-told .before .next-half .ensures)
+    (at-told .given-told .ensures)
+    (at-record .put-record .ensures)
+    (at-place .given-place .ensures)
+    (c .given-number .ensures)
+
+pub koto-next-half-spec : {M : Type 1} → statement M
+koto-next-half-spec =
+    tie.close
+    (tie.spec
+    next-half-requires
+    given-told-requires
+    put-record-requires
+    given-place-requires
+    given-number-requires
+    returns)
