@@ -2,33 +2,15 @@
  *
  * It prints what the list program koto_list prints, for scripts of up to 1 MiB and with the full property table, and has an exit status of
  * its own for each kind of failure; or the same with names of kinds, as JSON, or as the script itself, painted (names.c, json.c, paint.c). With --check
- * it says whether a list that another lexer printed so is the script's. With --pad it prints the lines of a file, each padded to a width.
+ * it says whether a list that another lexer printed so is the script's (checking.c). With --pad it prints the lines of a file, each padded to a width
+ * (padding.c).
  */
-#include <stdbool.h>
-#include <stdint.h>
-#include <stdio.h>
 #include <stdlib.h>
 #include <string.h>
 #include <unistd.h>
 
 #include "forms.h"
-#include "koto_lexer.h"
-
-/* Exit statuses. */
-enum {
-    FINE = 0,
-    SCAN_REFUSED = 1,
-    PAD_REFUSED = 1,
-    BAD_USAGE = 2,
-    NO_SCRIPT = 3,
-    NO_TABLE = 4,
-    TABLE_REFUSED = 5,
-    NO_MEMORY = 6,
-    NO_OUTPUT = 7,
-    STILL_ARRIVING = 8,
-    LIST_DIFFERS = 9,
-    NO_LIST = 10
-};
+#include "kotolex.h"
 
 /* The table's file, from the folder of the program. */
 #define TABLE_FILE "data/full.kpt"
@@ -86,17 +68,7 @@ typedef struct {
     bool help;
 } options;
 
-typedef struct {
-    uint8_t *at;
-    size_t len;
-} bytes;
-
-typedef struct {
-    uint32_t *at;
-    size_t len;
-} words;
-
-static int fail(int status, const char *what, const char *name) {
+int fail(int status, const char *what, const char *name) {
     fprintf(stderr, "kotolex: %s%s%s\n", what, name[0] == '\0' ? "" : ": ", name);
     return status;
 }
@@ -113,8 +85,7 @@ static const char **option_of(const char *word, options *to) {
     return NULL;
 }
 
-/* Reads a number of at most 19 digits. False for another word. */
-static bool read_number(const char *word, uint64_t *to) {
+bool read_number(const char *word, uint64_t *to) {
     size_t len = strlen(word);
     if (len == 0 || 19 < len || strspn(word, "0123456789") != len) {
         return false;
@@ -123,8 +94,7 @@ static bool read_number(const char *word, uint64_t *to) {
     return true;
 }
 
-/* Reads a number of 32 bits. False for another word. */
-static bool read_number_32(const char *word, uint32_t *to) {
+bool read_number_32(const char *word, uint32_t *to) {
     uint64_t number;
     if (!read_number(word, &number) || UINT32_MAX < number) {
         return false;
@@ -220,8 +190,7 @@ static bool path_beside(const char *program, char *path, size_t room) {
     return 0 < len && (size_t)len < room;
 }
 
-/* Opens a file, or standard input. NULL if it can't be opened. */
-static FILE *open_file(const char *path) {
+FILE *open_file(const char *path) {
     return is_standard_input(path) ? stdin : fopen(path, "rb");
 }
 
@@ -241,7 +210,7 @@ static int read_file(const char *path, size_t room, int failed, bytes *to) {
     return whole ? FINE : fail(failed, "can't read", path);
 }
 
-static int print_refused(uint32_t number, size_t place, int status) {
+int print_refused(uint32_t number, size_t place, int status) {
     printf("refused %u %zu\n", (unsigned)number, place);
     return status;
 }
@@ -467,181 +436,6 @@ static int list_tokens(const options *asked, const char *file, bytes script, wor
     return status;
 }
 
-/* ---- checking a list ---- */
-
-/* A line has ten numbers of at most ten digits. */
-#define LINE_ROOM 256
-#define LINE_NUMBERS 10
-/* The first word of no record that a scan writes. */
-#define NO_RECORD UINT32_MAX
-
-/* Another lexer's list, with its count and its status. */
-typedef struct {
-    words records;
-    size_t count;
-    uint32_t status;
-} foreign;
-
-/* Splits a line into numbers of 32 bits. How many they are; 0 where a word is another or they are too many. */
-static size_t read_numbers(char *line, uint32_t *to) {
-    size_t n = 0;
-    for (char *word = strtok(line, " \n"); word != NULL; word = strtok(NULL, " \n")) {
-        if (n == LINE_NUMBERS || !read_number_32(word, &to[n])) {
-            return 0;
-        }
-        n++;
-    }
-    return n;
-}
-
-/* Puts a record behind those that were read: kind, detail, the seven numbers that stand in a list as they are, depth. */
-static bool put_record(const uint32_t *numbers, foreign *to, size_t *room) {
-    if (to->records.len == *room) {
-        size_t more = *room == 0 ? KOTO_RECORD_WORDS * 1024 : 2 * *room;
-        uint32_t *at = realloc(to->records.at, more * sizeof *at);
-        if (at == NULL) {
-            return false;
-        }
-        to->records.at = at;
-        *room = more;
-    }
-    /* Numbers that have no room beside each other would be read as others. */
-    bool fits = numbers[0] < 128 && numbers[1] < 8192 && numbers[9] < 256;
-    uint32_t *record = to->records.at + to->records.len;
-    record[0] = fits ? numbers[0] + 128 * numbers[1] + 1048576 * numbers[9] : NO_RECORD;
-    memcpy(record + 1, numbers + 2, (KOTO_RECORD_WORDS - 1) * sizeof *record);
-    to->records.len += KOTO_RECORD_WORDS;
-    return true;
-}
-
-/* Reads the last line: how the list ended. False for another line. */
-static bool read_end(char *line, foreign *to) {
-    static const char *const ends[] = {"end ", "stuck ", "refused "};
-    uint32_t numbers[LINE_NUMBERS];
-    for (uint32_t status = KOTO_END; status <= KOTO_REFUSED; status++) {
-        size_t len = strlen(ends[status]);
-        if (strncmp(line, ends[status], len) == 0) {
-            bool whole = read_numbers(line + len, numbers) == 2;
-            to->status = status;
-            to->count = status == KOTO_REFUSED ? to->records.len / KOTO_RECORD_WORDS : numbers[0];
-            return whole;
-        }
-    }
-    return false;
-}
-
-/* Reads the lines of a list. */
-static int read_lines(FILE *file, const char *path, foreign *to) {
-    char line[LINE_ROOM];
-    uint32_t numbers[LINE_NUMBERS];
-    size_t room = 0;
-    while (fgets(line, sizeof line, file) != NULL) {
-        if (strchr("0123456789", line[0]) == NULL) {
-            bool whole = read_end(line, to) && fgetc(file) == EOF;
-            return whole ? FINE : fail(NO_LIST, "no list as kotolex prints it", path);
-        }
-        /* A line that is longer than the room would be taken for two. */
-        if (strchr(line, '\n') == NULL || read_numbers(line, numbers) != LINE_NUMBERS) {
-            break;
-        }
-        if (!put_record(numbers, to, &room)) {
-            return fail(NO_MEMORY, "no memory for the list", path);
-        }
-    }
-    return fail(NO_LIST, "no list as kotolex prints it", path);
-}
-
-/* Checks the list of a file against the script. */
-static int check_list(bytes script, words table, uint32_t edition, const char *path) {
-    FILE *file = open_file(path);
-    if (file == NULL) {
-        return fail(NO_LIST, "can't open", path);
-    }
-    foreign list = {{NULL, 0}, 0, KOTO_REFUSED};
-    int status = read_lines(file, path, &list);
-    fclose(file);
-    if (status == FINE) {
-        uint32_t none = 0, same;
-        size_t differs, place;
-        const uint32_t *records = list.records.at == NULL ? &none : list.records.at;
-        uint32_t refused = koto_check_list(script.at, script.len, table.at, table.len, edition, records, list.records.len, list.count,
-                                           list.status, &same, &differs, &place);
-        if (refused != 0) {
-            status = print_refused(refused, place, refused == KOTO_CUT_UTF8 ? STILL_ARRIVING : SCAN_REFUSED);
-        } else if (same == 1) {
-            puts("same");
-        } else {
-            printf("differs %zu\n", differs);
-            status = LIST_DIFFERS;
-        }
-    }
-    free(list.records.at);
-    return status;
-}
-
-/* ---- padding ---- */
-
-typedef struct {
-    uint64_t alignment;
-    uint64_t width;
-    bool filled;
-    const uint8_t *fill;
-    size_t fill_len;
-} padding;
-
-/* Reads the words of --pad. False where one is not as the help says; whether a number is a width the library says. */
-static bool read_padding(const options *asked, padding *to) {
-    static const char *const sides[] = {"default", "left", "center", "right"};
-    for (to->alignment = 0; asked->align != NULL && strcmp(asked->align, sides[to->alignment]) != 0;) {
-        to->alignment++;
-        if (to->alignment == sizeof sides / sizeof sides[0]) {
-            return false;
-        }
-    }
-    if (!read_number(asked->width, &to->width)) {
-        return false;
-    }
-    to->filled = asked->fill != NULL;
-    const char *fill = to->filled ? asked->fill : " ";
-    to->fill = (const uint8_t *)fill;
-    to->fill_len = strlen(fill);
-    return true;
-}
-
-/* Pads one line and prints it. */
-static int pad_line(const uint8_t *line, size_t len, const padding *by, words table, uint32_t edition) {
-    /* Room for the line and as many fills as the width asks for; what is refused needs none. */
-    size_t room = len + (by->width <= UINT32_MAX && by->fill_len <= KOTO_TEXT_MOST ? (size_t)by->width * by->fill_len : 0);
-    uint8_t *buffer = malloc(room + 1);
-    if (buffer == NULL) {
-        return fail(NO_MEMORY, "no memory for a padded line", "");
-    }
-    size_t padded, place;
-    uint32_t refused = koto_pad(line, len, by->alignment, by->width, by->filled, by->fill, by->fill_len, table.at, table.len,
-                                edition, buffer, room, &padded, &place);
-    if (refused == 0) {
-        fwrite(buffer, 1, padded, stdout);
-        putchar('\n');
-    }
-    free(buffer);
-    return refused == 0 ? FINE : print_refused(refused, place, PAD_REFUSED);
-}
-
-/* Pads each line of a file. What stands behind the last newline is a line, if it is something. */
-static int pad_lines(bytes text, words table, uint32_t edition, const padding *by) {
-    if (text.len > KOTO_SOURCE_MOST) {
-        return print_refused(KOTO_TOO_LONG, 0, PAD_REFUSED);
-    }
-    int status = FINE;
-    for (size_t start = 0; status == FINE && start < text.len;) {
-        const uint8_t *newline = memchr(text.at + start, '\n', text.len - start);
-        size_t end = newline == NULL ? text.len : (size_t)(newline - text.at);
-        status = pad_line(text.at + start, end - start, by, table, edition);
-        start = end + 1;
-    }
-    return status;
-}
-
 /* Does what is asked for with one script. */
 static int run_one(const options *asked, const char *file, bytes script, words table, uint32_t edition, const padding *by) {
     if (asked->width != NULL) {
@@ -658,7 +452,7 @@ static int run(const options *asked, uint32_t edition, const char *program) {
     char beside[PATH_ROOM];
     padding by;
     edit given;
-    if ((asked->width != NULL && !read_padding(asked, &by)) || (asked->edit != NULL && !read_edit(asked->edit, &given))) {
+    if ((asked->width != NULL && !read_padding(asked->width, asked->align, asked->fill, &by)) || (asked->edit != NULL && !read_edit(asked->edit, &given))) {
         fputs(HELP, stderr);
         return BAD_USAGE;
     }
