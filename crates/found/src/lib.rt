@@ -13,7 +13,7 @@ use state::Lexer;
 use state::Taken;
 use token::kinds;
 
-// The token that follows: its kind and detail, where it ends, and what becomes of the modes. The kind Error says that none was found, and that
+// The token that follows: its kind and detail, where it ends, the indent of its line, and what becomes of the modes. The kind Error says that none was found, and that
 // the whole read step is to be taken.
 pub struct Found {
     pub kind: u8,
@@ -21,6 +21,7 @@ pub struct Found {
     pub end: usize,
     pub line: u32,
     pub column: u32,
+    pub indent: u32,
     pub change: Change,
 }
 
@@ -34,6 +35,7 @@ pub fn nothing() -> Found
         end: 0,
         line: 0,
         column: 0,
+        indent: 0,
         change: Change::Keep,
     }
 }
@@ -51,13 +53,14 @@ pub fn along(lexer: Lexer, kind: u8, detail: u16, len: usize, change: Change) ->
         end: lexer.place.current_byte.0 + len,
         line: end.line,
         column: end.column.0 + (len as u32),
+        indent: lexer.indent,
         change,
     }
 }
 
 // The token that reaches so far.
-pub fn to(kind: u8, end: Reach) -> Found
-    ensures { λ r. ⌜ r ≡ foundTo kind end ⌝ }
+pub fn to(lexer: Lexer, kind: u8, end: Reach) -> Found
+    ensures { λ r. ⌜ r ≡ foundTo kind end lexer ⌝ }
 {
     let position = end.position;
     Found {
@@ -66,6 +69,7 @@ pub fn to(kind: u8, end: Reach) -> Found
         end: end.byte.0,
         line: position.line,
         column: position.column.0,
+        indent: lexer.indent,
         change: Change::Keep,
     }
 }
@@ -82,6 +86,7 @@ pub fn of(taken: Taken) -> Found
         end: taken.lexer.place.current_byte.0,
         line: end.line,
         column: end.column.0,
+        indent: taken.lexer.indent,
         change,
     }
 }

@@ -6,7 +6,7 @@ use mathlib.Core.Path.{_≡_}
 use mathlib.Core.Bool.{true, false}
 use mathlib.Core.List.{List, [], _∷_}
 use lib.Dec.{eqb}
-use Rattle.token.specs.Kind.{error, whitespace}
+use Rattle.token.specs.Kind.{error}
 use Rattle.words.specs.Words.{startsWith}
 use Rattle.symbols.specs.Symbols.{symbolOf}
 use Rattle.symbols.specs.declared.SymbolAt.the-variants.{Is}
@@ -22,10 +22,9 @@ use Rattle.found.specs.declared.Found.{Found}
 abbrev pub equals : ℕ
 equals = 61
 
--- a kind that changes no template's modes, and is not whitespace
+-- a kind that changes no template's modes
 pub record Plain (kind : ℕ) : Type 0 where
   pub keeps : (mode : ℕ) → symbolChange mode kind ≡ Keep
-  pub no-blank : eqb kind whitespace ≡ false
 
 -- the byte b is a symbol of this kind, whatever follows
 pub record Single (b kind : ℕ) : Type 0 where

@@ -21,7 +21,7 @@ use Rattle.base.specs.PickLaws.{split-lt}
 use Rattle.base.specs.CasesLaws.{told-yes, told-no}
 use Rattle.utf8.specs.Encode.{encodeAll}
 use Rattle.utf8.specs.CharsLaws.{chars-well}
-use Rattle.token.specs.Kind.{error, whitespace, colon, curlyOpen, curlyClose, arrow, subtract, subtractAssign, dot}
+use Rattle.token.specs.Kind.{error, colon, curlyOpen, curlyClose, arrow, subtract, subtractAssign, dot}
 use Rattle.token.specs.Token.{tokenOf}
 use Rattle.words.specs.Words.{startsWith, firstIn}
 use Rattle.symbols.specs.Symbols.{symbolIn, symbolOf}
@@ -71,12 +71,11 @@ module _ (s : List ℕ) (l : Lexer) (o : Stands s (reachOf l)) (h : reachOf l .b
       (sym (chars-well _ (o .well) .0) ∙ drop-cons s (reachOf l .byte .0) 0 h ∙ ap (λ (x : ℕ). x ∷ drop (suc (reachOf l .byte .0)) s) e)
 
   pub finds-sign : {f : Found} (b kind len : ℕ) (change : Change) → getD s (reachOf l .byte .0) 0 ≡ b → f ≡ foundAlong kind 0 len change l
-      → (eqb kind error ≡ false → symbolOf (b ∷ drop (reachOf l .byte .0 + 1) s) ≡ Is kind len) → symbolChange (l .mode) kind ≡ change
-      → eqb kind whitespace ≡ false → SignIs s l f
-  finds-sign {f} b kind len change e q is c w =
+      → (eqb kind error ≡ false → symbolOf (b ∷ drop (reachOf l .byte .0 + 1) s) ≡ Is kind len) → symbolChange (l .mode) kind ≡ change → SignIs s l f
+  finds-sign {f} b kind len change e q is c =
       record {
         is = λ n.
-            finds-along kind 0 len change w q
+            finds-along {l = l} kind 0 len change q
             (ap (λ (x : List ℕ). symbolToken (symbolOf x) l) (left b e)
             ∙ ap (λ (x : SymbolAt). symbolToken x l) (is (ap (λ (x : Found). eqb (x .kind) error) (sym q) ∙ n))
             ∙ ap (λ (x : Change). record { token = tokenOf kind; lexer = advancedLine len l; change = x }) c)
@@ -86,11 +85,11 @@ module _ (s : List ℕ) (l : Lexer) (o : Stands s (reachOf l)) (h : reachOf l .b
 -- the same, where the byte is known
 pub finds-sign-at : (s : List ℕ) (l : Lexer) → Stands s (reachOf l) → {f : Found} (b kind len : ℕ) (change : Change) → byteAt s (reachOf l .byte .0) ≡ b → b < 128
     → f ≡ foundAlong kind 0 len change l → symbolOf (b ∷ drop (reachOf l .byte .0 + 1) s) ≡ Is kind len → symbolChange (l .mode) kind ≡ change
-    → eqb kind whitespace ≡ false → SignIs s l f
-finds-sign-at s l o b kind len change e k q is c w =
+    → SignIs s l f
+finds-sign-at s l o b kind len change e k q is c =
     let h = byte-within s (reachOf l .byte .0) b e (omega arith) in
     let g : byteAt s (reachOf l .byte .0) ≡ getD s (reachOf l .byte .0) 0 = rw (lt-ltb (reachOf l .byte .0) (length s) h) in
-    finds-sign s l o h b kind len change (sym g ∙ e) q (λ _. is) c w
+    finds-sign s l o h b kind len change (sym g ∙ e) q (λ _. is) c
 
 -- ---- kinds by a byte
 
@@ -98,21 +97,19 @@ either : {A : Type 0} (t : Bool) (a : A) → pick t a a ≡ a
 either true a = refl
 either false a = refl
 
--- no symbol of a template, and not whitespace
+-- no symbol of a template
 abbrev isPlain : ℕ → Bool
-isPlain kind = not (eqb kind curlyOpen) && (not (eqb kind colon) && (not (eqb kind curlyClose) && not (eqb kind whitespace)))
+isPlain kind = not (eqb kind curlyOpen) && (not (eqb kind colon) && not (eqb kind curlyClose))
 
 pub plain-kind : (kind : ℕ) → isPlain kind ≡ true → Plain kind
 unfolding symbolChange
 plain-kind kind e =
     let a = and-eq-true-iff (not (eqb kind curlyOpen)) _ .0 e in
     let b = and-eq-true-iff (not (eqb kind colon)) _ .0 (a .1) in
-    let c = and-eq-true-iff (not (eqb kind curlyClose)) _ .0 (b .1) in
     record {
       keeps = λ mode.
-          rw (not-true (eqb kind curlyOpen) (a .0), not-true (eqb kind colon) (b .0), not-true (eqb kind curlyClose) (c .0), either (eqb mode (modeCode templateExprInlineMap 0)) Keep)
+          rw (not-true (eqb kind curlyOpen) (a .0), not-true (eqb kind colon) (b .0), not-true (eqb kind curlyClose) (b .1), either (eqb mode (modeCode templateExprInlineMap 0)) Keep)
           (either (eqb mode (modeCode templateExpr 0)) Keep);
-      no-blank = not-true (eqb kind whitespace) (c .1);
     }
 
 pub single-of : {b : ℕ} (d kind : ℕ) → isPlain kind ≡ true → ((rest : List ℕ) → symbolOf (d ∷ rest) ≡ Is kind 1) → b ≡ d → Single b kind

@@ -23,7 +23,7 @@ unfolding startsWith
 returns c =
     let start = c .before .before .before .before in
     finds-sign-at _ (start .args .lexer) (start .pre .0) 58 colon 1 _ (start .pre .1) (omega arith) (c .along .ensures) (colon-is .is _ refl)
-    (opens-format (c .before .if1 .taken)) refl
+    (opens-format (c .before .if1 .taken))
 
 along-requires-2 : tie.Need-along-requires-2
 along-requires-2 c κs = search needs
@@ -33,7 +33,7 @@ unfolding startsWith
 returns-2 c =
     let start = c .before .before .before .before in
     finds-sign-at _ (start .args .lexer) (start .pre .0) 58 colon 1 _ (start .pre .1) (omega arith) (c .along2 .ensures) (colon-is .is _ refl)
-    (stays (c .before .if1 .left) colon refl) refl
+    (stays (c .before .if1 .left) colon refl)
 
 pub colon-spec : {M : Type 1} → statement M
 colon-spec = tie.close (tie.spec mul-if1 mul-t5 along-requires returns along-requires-2 returns-2)

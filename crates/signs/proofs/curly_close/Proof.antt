@@ -20,7 +20,7 @@ unfolding startsWith
 returns c =
     let start = c .before .before .before .before in
     finds-sign-at _ (start .args .lexer) (start .pre .0) 125 curlyClose 1 _ (start .pre .1) (omega arith) (c .along .ensures) (curly-close-is .is _ refl)
-    (closes (c .before .if1 .taken)) refl
+    (closes (c .before .if1 .taken))
 
 mul-if2 : tie.Need-mul-if2
 mul-if2 c = search needs
@@ -34,7 +34,7 @@ returns-2 c =
     let one = c .before .before .before in
     let start = one .before .before .before in
     finds-sign-at _ (start .args .lexer) (start .pre .0) 125 curlyClose 1 _ (start .pre .1) (omega arith) (c .along2 .ensures) (curly-close-is .is _ refl)
-    (closes-map (one .if1 .left) (c .before .if2 .taken)) refl
+    (closes-map (one .if1 .left) (c .before .if2 .taken))
 
 along-requires-3 : tie.Need-along-requires-3
 along-requires-3 c κs = search needs
@@ -45,7 +45,7 @@ returns-3 c =
     let one = c .before .before .before in
     let start = one .before .before .before in
     finds-sign-at _ (start .args .lexer) (start .pre .0) 125 curlyClose 1 _ (start .pre .1) (omega arith) (c .along3 .ensures) (curly-close-is .is _ refl)
-    (closes-none (one .if1 .left) (c .before .if2 .left)) refl
+    (closes-none (one .if1 .left) (c .before .if2 .left))
 
 pub curly-close-spec : {M : Type 1} → statement M
 curly-close-spec =

@@ -23,7 +23,7 @@ unfolding startsWith
 returns c =
     let start = c .before .before .before .before in
     finds-sign-at _ (start .args .lexer) (start .pre .0) 123 curlyOpen 1 _ (start .pre .1) (omega arith) (c .along .ensures) (curly-open-is .is _ refl)
-    (opens-map (c .before .if1 .taken)) refl
+    (opens-map (c .before .if1 .taken))
 
 along-requires-2 : tie.Need-along-requires-2
 along-requires-2 c κs = search needs
@@ -33,7 +33,7 @@ unfolding startsWith
 returns-2 c =
     let start = c .before .before .before .before in
     finds-sign-at _ (start .args .lexer) (start .pre .0) 123 curlyOpen 1 _ (start .pre .1) (omega arith) (c .along2 .ensures) (curly-open-is .is _ refl)
-    (stays (c .before .if1 .left) curlyOpen refl) refl
+    (stays (c .before .if1 .left) curlyOpen refl)
 
 pub curly-open-spec : {M : Type 1} → statement M
 curly-open-spec =

@@ -30,7 +30,7 @@ returns-2 c =
     let test = c .before in
     let start = test .before .before .before in
     finds-sign-at _ (start .args .lexer) (start .pre .0) 46 dot 1 _ (start .pre .1) (omega arith) (c .along .ensures)
-    (dot-alone _ (starts-no (now (start .args .source)) (start .args .lexer .place .«current_byte» .0 + 1) 46 _ (omega arith) (test .before .byte-at .ensures) (test .if1 .left))) (plain-kind dot refl .keeps _) refl
+    (dot-alone _ (starts-no (now (start .args .source)) (start .args .lexer .place .«current_byte» .0 + 1) 46 _ (omega arith) (test .before .byte-at .ensures) (test .if1 .left))) (plain-kind dot refl .keeps _)
 
 pub dot-spec : {M : Type 1} → statement M
 dot-spec =

@@ -24,7 +24,7 @@ returns c =
     let b = one .before in
     let start = b .before .before in
     finds-sign-at _ (start .args .lexer) (start .pre .0) 45 arrow 2 _ (start .pre .1) (omega arith) (c .along .ensures)
-    (minus-arrow _ (starts-yes (now (start .args .source)) (start .args .lexer .place .«current_byte» .0 + 1) 62 _ (omega arith) (b .byte-at .ensures) (one .if1 .taken))) (plain-kind arrow refl .keeps _) refl
+    (minus-arrow _ (starts-yes (now (start .args .source)) (start .args .lexer .place .«current_byte» .0 + 1) 62 _ (omega arith) (b .byte-at .ensures) (one .if1 .taken))) (plain-kind arrow refl .keeps _)
 
 along-requires-2 : tie.Need-along-requires-2
 along-requires-2 c κs = search needs
@@ -38,7 +38,7 @@ returns-2 c =
     finds-sign-at _ (start .args .lexer) (start .pre .0) 45 subtractAssign 2 _ (start .pre .1) (omega arith) (c .along2 .ensures)
     (minus-equals _ (starts-no (now (start .args .source)) (start .args .lexer .place .«current_byte» .0 + 1) 62 _ (omega arith) (b .byte-at .ensures) (one .if1 .left))
     (starts-yes (now (start .args .source)) (start .args .lexer .place .«current_byte» .0 + 1) 61 _ (omega arith) (b .byte-at .ensures) (two .if2 .taken)))
-    (plain-kind subtractAssign refl .keeps _) refl
+    (plain-kind subtractAssign refl .keeps _)
 
 along-requires-3 : tie.Need-along-requires-3
 along-requires-3 c κs = search needs
@@ -52,7 +52,7 @@ returns-3 c =
     finds-sign-at _ (start .args .lexer) (start .pre .0) 45 subtract 1 _ (start .pre .1) (omega arith) (c .along3 .ensures)
     (minus-alone _ (starts-no (now (start .args .source)) (start .args .lexer .place .«current_byte» .0 + 1) 62 _ (omega arith) (b .byte-at .ensures) (one .if1 .left))
     (starts-no (now (start .args .source)) (start .args .lexer .place .«current_byte» .0 + 1) 61 _ (omega arith) (b .byte-at .ensures) (two .if2 .left)))
-    (plain-kind subtract refl .keeps _) refl
+    (plain-kind subtract refl .keeps _)
 
 pub minus-spec : {M : Type 1} → statement M
 minus-spec =

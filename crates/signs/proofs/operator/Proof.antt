@@ -30,7 +30,7 @@ returns c =
     let start = test .before .before .before in
     let r = d .with-equals .ensures in
     finds-sign _ (start .args .lexer) (start .pre .0) (start .pre .1) _ _ 2 _ refl (c .along .ensures)
-    (λ n. r .is n _ (starts-yes (now (start .args .source)) (start .args .lexer .place .«current_byte» .0 + 1) 61 _ (omega arith) (test .before .byte-at .ensures) (test .if1 .taken))) (r .plain .keeps _) (r .plain .no-blank)
+    (λ n. r .is n _ (starts-yes (now (start .args .source)) (start .args .lexer .place .«current_byte» .0 + 1) 61 _ (omega arith) (test .before .byte-at .ensures) (test .if1 .taken))) (r .plain .keeps _)
 
 shared-slice-read-alone : tie.Need-shared-slice-read-alone
 shared-slice-read-alone c = search needs
@@ -48,7 +48,7 @@ returns-2 c =
     let start = test .before .before .before in
     let r = d .alone .ensures in
     finds-sign _ (start .args .lexer) (start .pre .0) (start .pre .1) _ _ 1 _ refl (c .along2 .ensures)
-    (λ n. r .is n _ (starts-no (now (start .args .source)) (start .args .lexer .place .«current_byte» .0 + 1) 61 _ (omega arith) (test .before .byte-at .ensures) (test .if1 .left))) (r .plain .keeps _) (r .plain .no-blank)
+    (λ n. r .is n _ (starts-no (now (start .args .source)) (start .args .lexer .place .«current_byte» .0 + 1) 61 _ (omega arith) (test .before .byte-at .ensures) (test .if1 .left))) (r .plain .keeps _)
 
 pub operator-spec : {M : Type 1} → statement M
 operator-spec =

@@ -19,7 +19,7 @@ returns c =
     let d = c .before in
     let start = d .before .before .before in
     let r = d .single .ensures in
-    finds-sign _ (start .args .lexer) (start .pre .0) (start .pre .1) _ _ 1 _ refl (c .along .ensures) (λ n. r .is n _) (r .plain .keeps _) (r .plain .no-blank)
+    finds-sign _ (start .args .lexer) (start .pre .0) (start .pre .1) _ _ 1 _ refl (c .along .ensures) (λ n. r .is n _) (r .plain .keeps _)
 
 pub single-sign-spec : {M : Type 1} → statement M
 single-sign-spec =
