@@ -11,8 +11,9 @@ use denote.Ref.{now}
 use Rattle.base.specs.RangeLaws.{under}
 use Rattle.utf8.specs.Read.{isTail}
 use Rattle.property.specs.Table.{propertiesAt}
-use Rattle.text.specs.Stands.{Stands, charsFrom}
-use Rattle.state.specs.Lexer.{reachOf, settled}
+use Rattle.token.specs.Kind.{error}
+use Rattle.text.specs.Stands.{Stands}
+use Rattle.state.specs.Lexer.{reachOf}
 use Rattle.state.specs.declared.Lexer.{Lexer}
 use Rattle.lexer.specs.Step.{halfOf}
 use Rattle.lexer.specs.ArmLaws.{remaining-end, half-none, half-some}
@@ -75,9 +76,9 @@ returns-4 c =
     let l = start .args .lexer in
     let s = now (start .args .source) in
     let table = now (start .args .table) in
-    let found = subst (λ (x : Lexer). TokenFinds s table x _) (g .settle .ensures) (d .find .ensures) in
+    let found = subst (λ (x : Lexer). TokenFinds s table x (d .find .result)) (g .settle .ensures) (d .find .ensures) in
     c .found-half .ensures
-    ∙ ap (halfOf l) (sym (found (start .args .edition) .is (ne-eqb _ _ (i .if3 .left))))
+    ∙ ap (halfOf l) (sym (found (start .args .edition) .is (ne-eqb (d .find .result .kind) error (i .if3 .left))))
     ∙ sym (half-some (propertiesAt table) (start .args .edition) s l (no-tail e) (start .pre .0 .whole (no-tail e)) (e .before .before .if1 .left))
 
 pub fast-half-spec : {M : Type 1} → statement M

@@ -11,6 +11,9 @@ use Rattle.reading.specs.ScanLaws.{scans-refused, scans-fine}
 use Rattle.fast.proofs.scan_fast.Statement.{statement}
 use Rattle.fast.proofs.scan_fast.Tie as tie
 
+classes-requires : tie.Need-classes-requires
+classes-requires c κs = search needs
+
 check-input-requires : tie.Need-check-input-requires
 check-input-requires c κs = search needs
 
@@ -25,11 +28,15 @@ new-requires c κs = search needs
 
 read-on-requires : tie.Need-read-on-requires
 read-on-requires c κs =
-    let d = c .before .before in
-    let g = fine-of _ _ _ _ (sym (d .before .before .check-input .ensures) ∙ d .enum-told .given .1) in (
-      subst (Ok _) (sym (c .before .new .ensures)) (start-ok _ (g .short) (g .well)),
-      fit-of _ (g .fit),
-      omega arith,
+    let told = c .before .before .before in
+    let asked = told .before .before in
+    let g = fine-of _ _ _ _ (sym (asked .check-input .ensures) ∙ told .enum-told .given .1) in (
+      (
+        subst (Ok _) (sym (c .before .new .ensures)) (start-ok _ (g .short) (g .well)),
+        fit-of _ (g .fit),
+        omega arith,
+      ),
+      asked .before .classes .ensures,
     )
 
 returns : tie.Need-returns
@@ -41,13 +48,14 @@ same-length c = search needs
 returns-2 : tie.Need-returns-2
 returns-2 c =
     let at-new = c .before .before .before .before in
-    let told = at-new .before in
+    let told = at-new .before .before in
     scans-fine (sym (told .before .before .check-input .ensures) ∙ told .enum-told .given .1) (at-new .new .ensures) (c .before .before .read-on .ensures)
 
 pub scan-fast-spec : {M : Type 1} → statement M
 scan-fast-spec =
     tie.close
     (tie.spec
+    classes-requires
     check-input-requires
     enum-known-refusal
     enum-told
