@@ -31,7 +31,7 @@ use token::kinds;
 use token::token_of;
 
 // A token is left that would push a 65th mode. Where its record has no room either, that is said.
-fn full(room: usize, count: usize, byte: usize) -> Scanned
+pub fn full(room: usize, count: usize, byte: usize) -> Scanned
     ensures { λ r. ⌜ r ≡ whole room count byte deep ⌝ }
 {
     if count < room {
@@ -41,7 +41,7 @@ fn full(room: usize, count: usize, byte: usize) -> Scanned
 }
 
 // An Error stands still: its record is the last, if it has room.
-fn stuck(layout: Layout, list: &mut [u32], count: usize, before: Lexer, after: Lexer) -> Scanned
+pub fn stuck(layout: Layout, list: &mut [u32], count: usize, before: Lexer, after: Lexer) -> Scanned
     requires { ⌜ (after .place .«previous_byte» .0 ≤ sourceMost) × (after .place .«current_byte» .0 ≤ sourceMost) ⌝ }
     requires { ⌜ (before .depth ≤ depthMost) × (count ≤ roomIn layout (now list)) ⌝ }
     ensures { λ r. ⌜ FillsIn layout (now (list .entry)) count (reachOf after .byte .0) (stuckReading before after) r (now (list .exit)) ⌝ }

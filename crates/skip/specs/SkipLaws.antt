@@ -1,0 +1,71 @@
+-- Laws of bytes that pass a test.
+--     counts-none, counts-more       a block that is counted: before its first byte, and at one byte more
+--     passes-none, passes-one, passes-on     bytes that are passed: none, one more, and those behind them
+--     passes-count                   what was counted of a block is passed
+-- Assumes nothing.
+use Prim.Native.Nat.{ℕ, _+_, _-_, _≤_, _<_}
+use native.Mathlib.Omega.{arith}
+use mathlib.Core.Path.{_≡_, refl, sym, subst}
+use mathlib.Core.Bool.{Bool, true, false}
+use mathlib.Core.List.{List}
+use lib.Dec.{ltb}
+use lib.ListN.{length, getD}
+use Rattle.base.specs.Pick.{pick}
+use Rattle.base.specs.PickLaws.{by-lt, by-test, split-eq, split-lt}
+use Rattle.skip.specs.Skip.{Passed, Counts}
+
+module _ {test : ℕ → Bool} {s : List ℕ} {i : ℕ} where
+  -- ---- a block
+
+  pub counts-none : (most : ℕ) → Counts test s i most 0 most
+  counts-none most = record { less = omega arith; stays = λ j h k. absurd (omega arith) }
+
+  module _ {most k n : ℕ} (c : Counts test s i most k n) where
+    -- where the byte passes, or n falls to its place
+    same : {m : ℕ} → m ≤ n → (k < m → test (getD s (i + k) 0) ≡ true) → Counts test s i most (k + 1) m
+    same {m} h t =
+        record {
+          less = omega (arith, c .less);
+          stays = λ j a b. split-eq j k (λ e. subst (λ (x : ℕ). test (getD s (i + x) 0) ≡ true) (sym e) (t (omega arith))) (λ e. c .stays j (omega arith) (omega arith));
+        }
+
+    at-out : (t : Bool) → t ≡ test (getD s (i + k) 0) → (p : ℕ) → p ≡ pick t most k → Counts test s i most (k + 1) (pick (ltb p n) p n)
+    at-out true e p f = by-lt (λ (m : ℕ). Counts test s i most (k + 1) m) p n (λ h. same (omega arith) (λ _. sym e)) (λ h. same (omega arith) (λ _. sym e))
+    at-out false e p f =
+        by-lt (λ (m : ℕ). Counts test s i most (k + 1) m) p n (λ h. same (omega arith) (λ g. absurd (omega arith)))
+        (λ h. same (omega arith) (λ g. absurd (omega arith)))
+
+    pub counts-more : {t : Bool} {r : ℕ} → t ≡ test (getD s (i + k) 0) → r ≡ pick (ltb (pick t most k) n) (pick t most k) n
+        → Counts test s i most (k + 1) r
+    counts-more {t} e f = subst (Counts test s i most (k + 1)) (sym f) (at-out t e (pick t most k) refl)
+
+  -- ---- one after the other
+
+  pub passes-none : i ≤ length s → Passed test s i i
+  passes-none h = record { on = omega arith; within = h; stays = λ k a b. absurd (omega arith) }
+
+  module _ {j : ℕ} (p : Passed test s i j) where
+    pub passes-one : j < length s → test (getD s j 0) ≡ true → Passed test s i (j + 1)
+    passes-one h t =
+        record {
+          on = omega (arith, p .on);
+          within = omega arith;
+          stays = λ k a b. split-eq k j (λ e. rw e t) (λ e. p .stays k a (omega arith));
+        }
+
+    pub passes-on : {k : ℕ} → Passed test s j k → Passed test s i k
+    passes-on q =
+        record {
+          on = omega (arith, p .on, q .on);
+          within = q .within;
+          stays = λ m a b. split-lt m j (λ l. p .stays m a l) (λ l. q .stays m l b);
+        }
+
+  -- what was counted of a block
+  pub passes-count : {most n : ℕ} → i + most ≤ length s → Counts test s i most most n → Passed test s i (i + n)
+  passes-count {most} {n} h c =
+      record {
+        on = omega arith;
+        within = omega (arith, c .less);
+        stays = λ k a b. let e : i + (k - i) ≡ k = omega arith in rw e at (c .stays (k - i) (omega arith) (omega (arith, c .less)));
+      }

@@ -1,0 +1,85 @@
+// How far the bytes from a place on stay in what a loop passes, by blocks: printable ASCII characters but for three. It knows no characters above
+// 127, no tokens and no states.
+//
+// A block is counted with no branch that depends on its bytes, as the smallest place of one that does not stay; LLVM makes vector instructions
+// of that, and a block costs the same wherever its bytes end.
+ghost use mathlib.Core.Path.{_≡_};
+ghost use Prim.Native.Nat.{_+_, _≤_};
+ghost use lib.Dec.{ltb};
+ghost use lib.ListN.{length};
+ghost use Rattle.base.specs.Pick.{pick};
+ghost use Rattle.skip.specs.Skip.{staysBut, Counts, Passed};
+use base::between;
+
+// A printable ASCII character that is none of the three.
+fn stays(x: u8, a: u8, b: u8, c: u8) -> bool
+    ensures { λ r. ⌜ r ≡ staysBut a b c x ⌝ }
+{
+    between(x, b' ', b'~') & (x != a) & (x != b) & (x != c)
+}
+
+// The place k of a byte that does not stay; of one that does, `most`.
+fn place_out(stays: bool, k: u8, most: u8) -> u8
+    ensures { λ r. ⌜ r ≡ pick stays most k ⌝ }
+{
+    if stays {
+        return most;
+    }
+    k
+}
+
+// The count `n` of bytes that stay, once the byte at the place k is looked at too.
+pub fn counted(n: u8, k: u8, stays: bool, most: u8) -> u8
+    ensures { λ r. ⌜ r ≡ pick (ltb (pick stays most k) n) (pick stays most k) n ⌝ }
+{
+    let place = place_out(stays, k, most);
+    if place < n {
+        return place;
+    }
+    n
+}
+
+// How many of the 64 bytes from `at` on stay before the first that does not.
+fn count64(source: &[u8], at: usize, a: u8, b: u8, c: u8) -> usize
+    requires { ⌜ at + 64 ≤ length (now source) ⌝ }
+    ensures { λ r. ⌜ Counts (staysBut a b c) (now (source .entry)) at 64 64 r ⌝ }
+{
+    let mut n = 64u8;
+    let mut k = 0u8;
+    while k < 64 {
+        n = counted(n, k, stays(source[at + (k as usize)], a, b, c), 64);
+        k += 1;
+    }
+    n as usize
+}
+
+// The same by single bytes, to the end.
+fn skip_singly(source: &[u8], at: usize, a: u8, b: u8, c: u8) -> usize
+    requires { ⌜ at ≤ length (now source) ⌝ }
+    ensures { λ r. ⌜ Passed (staysBut a b c) (now (source .entry)) at r ⌝ }
+{
+    let mut i = at;
+    while i < source.len() {
+        if !stays(source[i], a, b, c) {
+            return i;
+        }
+        i += 1;
+    }
+    i
+}
+
+// How far the bytes from `at` on stay. It may stop before one that would.
+pub fn skip(source: &[u8], at: usize, a: u8, b: u8, c: u8) -> usize
+    requires { ⌜ at ≤ length (now source) ⌝ }
+    ensures { λ r. ⌜ Passed (staysBut a b c) (now (source .entry)) at r ⌝ }
+{
+    let mut i = at;
+    while 64 <= source.len() - i {
+        let n = count64(source, i, a, b, c);
+        if n < 64 {
+            return i + n;
+        }
+        i += 64;
+    }
+    skip_singly(source, i, a, b, c)
+}
