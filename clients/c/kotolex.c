@@ -40,7 +40,7 @@ enum {
 #define PATH_ROOM 4096
 
 static const char HELP[] =
-    "usage: kotolex FILE [--profile] [--table FILE] [--edition N]\n"
+    "usage: kotolex FILE [--profile | --half] [--table FILE] [--edition N]\n"
     "       kotolex FILE --old FILE [--edit PLACE,REMOVED] [--table FILE] [--edition N]\n"
     "       kotolex FILE --check LIST [--table FILE] [--edition N]\n"
     "       kotolex FILE --pad WIDTH [--align default|left|center|right] [--fill CLUSTER] [--table FILE] [--edition N]\n"
@@ -62,6 +62,7 @@ static const char HELP[] =
     "line that is refused; the place is one of that line, or of the fill.\n"
     "\n"
     "  --profile      refuse raw strings and templates inside templates too: refused 21 and the index of the first such token, from 0\n"
+    "  --half         scan into records at half the size; what is printed is the same\n"
     "  --table FILE   the property table; without it, " TABLE_FILE " beside the program\n"
     "  --edition N    the edition of Unicode's cluster rules: 1 as before Unicode 15.1, without GB9c; 2, with it, if none is given\n"
     "  --check LIST   the other lexer's list, as this program prints it\n"
@@ -89,6 +90,7 @@ typedef struct {
     const char *fill;
     const char *edition;
     bool profile;
+    bool half;
     bool help;
 } options;
 
@@ -147,6 +149,8 @@ static bool read_options(int argc, char **argv, options *to) {
             to->help = true;
         } else if (strcmp(argv[i], "--profile") == 0) {
             to->profile = true;
+        } else if (strcmp(argv[i], "--half") == 0) {
+            to->half = true;
         } else if (place != NULL) {
             i++;
             if (i == argc || *place != NULL) {
@@ -160,7 +164,7 @@ static bool read_options(int argc, char **argv, options *to) {
         }
     }
     /* One thing at a time; and what belongs to a width or to an old script only with it. */
-    int asked = to->profile + (to->list != NULL) + (to->old != NULL) + (to->width != NULL);
+    int asked = to->profile + to->half + (to->list != NULL) + (to->old != NULL) + (to->width != NULL);
     bool pads = to->width != NULL || (to->align == NULL && to->fill == NULL);
     bool edits = to->old != NULL || to->edit == NULL;
     return to->help || (to->script != NULL && asked <= 1 && pads && edits);
@@ -231,12 +235,13 @@ static void print_record(const koto_record *r) {
            (unsigned)r->depth);
 }
 
-/* Prints the records of a list. It is walked as one that ends, whatever the scan's status is, so that each record comes once. */
-static void print_records(words list, size_t count) {
+/* Prints the records of a list. It is walked as one that ends, whatever the scan's status is, so that each record comes once; `end` is KOTO_END or,
+ * for a list with records at half the size, KOTO_END_HALF. */
+static void print_records(words list, size_t count, uint32_t end) {
     size_t taken = 0, queued = 0, place;
     uint32_t shown;
     koto_record record;
-    while (koto_next(list.at, list.len, &taken, &queued, count, KOTO_END, &shown, &record, &place) == 0 && shown == 1) {
+    while (koto_next(list.at, list.len, &taken, &queued, count, end, &shown, &record, &place) == 0 && shown == 1) {
         print_record(&record);
     }
 }
@@ -249,15 +254,16 @@ typedef struct {
     size_t byte;
 } answer;
 
-/* A list for a script. NULL if there is no memory. A script of n bytes has at most n + n/3 records (docs/PROMISES.md, `never-full`). */
-static words list_for(bytes script) {
-    words list = {NULL, KOTO_RECORD_WORDS * (script.len + script.len / 3)};
+/* A list for a script, with records of so many words. NULL if there is no memory. A script of n bytes has at most n + n/3 records
+ * (docs/PROMISES.md, `never-full`). */
+static words list_for(bytes script, size_t record_words) {
+    words list = {NULL, record_words * (script.len + script.len / 3)};
     /* malloc may answer a request for nothing by nothing. */
     list.at = malloc((list.len + 1) * sizeof *list.at);
     return list;
 }
 
-/* koto_scan, or koto_scan_profile. */
+/* koto_scan, koto_scan_half or koto_scan_profile. */
 typedef uint32_t (*scanner)(const uint8_t *, size_t, const uint32_t *, size_t, uint32_t, uint32_t *, size_t, uint32_t *, size_t *, size_t *);
 
 static answer scan(scanner by, bytes script, words table, uint32_t edition, words list) {
@@ -311,7 +317,7 @@ static int scan_edited(const options *asked, bytes script, words table, uint32_t
     words old_list = {NULL, 0};
     int status = read_file(asked->old, SCRIPT_ROOM, NO_SCRIPT, &old);
     if (status == FINE) {
-        old_list = list_for(old);
+        old_list = list_for(old, KOTO_RECORD_WORDS);
         status = old_list.at != NULL ? FINE : fail(NO_MEMORY, "no memory for the list", "");
     }
     if (status == FINE) {
@@ -331,19 +337,20 @@ static int scan_edited(const options *asked, bytes script, words table, uint32_t
 
 /* Scans the script and prints what was written and how it ended. */
 static int list_tokens(const options *asked, bytes script, words table, uint32_t edition) {
-    words list = list_for(script);
+    words list = list_for(script, asked->half ? KOTO_HALF_RECORD_WORDS : KOTO_RECORD_WORDS);
     if (list.at == NULL) {
         return fail(NO_MEMORY, "no memory for the list", "");
     }
     answer said = {0, 0, 0, 0};
     int status = FINE;
     if (asked->old == NULL) {
-        said = scan(asked->profile ? koto_scan_profile : koto_scan, script, table, edition, list);
+        scanner by = asked->profile ? koto_scan_profile : asked->half ? koto_scan_half : koto_scan;
+        said = scan(by, script, table, edition, list);
     } else {
         status = scan_edited(asked, script, table, edition, list, &said);
     }
     if (status == FINE) {
-        print_records(list, said.count);
+        print_records(list, said.count, asked->half ? KOTO_END_HALF : KOTO_END);
     }
     free(list.at);
     if (status != FINE) {
@@ -352,7 +359,7 @@ static int list_tokens(const options *asked, bytes script, words table, uint32_t
     if (said.refused != 0) {
         return print_refused(said.refused, said.byte, said.refused == KOTO_CUT_UTF8 ? STILL_ARRIVING : SCAN_REFUSED);
     }
-    printf("%s %zu %zu\n", said.end == KOTO_STUCK ? "stuck" : "end", said.count, said.byte);
+    printf("%s %zu %zu\n", said.end == KOTO_STUCK || said.end == KOTO_STUCK_HALF ? "stuck" : "end", said.count, said.byte);
     return FINE;
 }
 
@@ -563,7 +570,7 @@ static int run(const options *asked, uint32_t edition, const char *program) {
 }
 
 int main(int argc, char **argv) {
-    options asked = {NULL, NULL, NULL, NULL, NULL, NULL, NULL, NULL, NULL, false, false};
+    options asked = {NULL, NULL, NULL, NULL, NULL, NULL, NULL, NULL, NULL, false, false, false};
     uint32_t edition = KOTO_WITH_GB9C;
     int status = FINE;
     if (!read_options(argc, argv, &asked) || (asked.edition != NULL && !read_number_32(asked.edition, &edition))) {

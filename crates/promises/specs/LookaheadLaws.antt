@@ -322,13 +322,10 @@ module _ (layout : Layout) (source table : List ℕ) (edition : ℕ) (old : List
       old (roomIn layout old) i d (omega (arith, w .counted, w .has-room)) h (length (q .rows)) h (omega arith) layout
 
 module _ {layout : Layout} (source table : List ℕ) (edition : ℕ) (old new : List ℕ) where
-  abbrev stream : Stream
-  stream = rustStream source table edition
-
   -- from what was read whole and written
   from-whole : (n : ℕ) (stop : Stop) (status : Status) (c : Cursor) → ReadWhole source table edition (roomIn layout old) n stop
       → new ≡ holdsIn layout old (readingOf source table edition) → c ≡ startCursor n status → (status ≡ Stuck → stop ≡ stuck)
-      → Streams stream (readingOf source table edition .rows) status → HandsOut layout new (readingOf source table edition .rows) stream c
+      → Streams (rustStream source table edition) (readingOf source table edition .rows) status → HandsOut layout new (readingOf source table edition .rows) (rustStream source table edition) c
   from-whole n stop status c w p e k same =
       let rows : List Row = readingOf source table edition .rows in
       let begin : c ≡ startCursor (length rows) status = e ∙ ap (λ (m : ℕ). startCursor m status) (w .counted) in
@@ -337,26 +334,26 @@ module _ {layout : Layout} (source table : List ℕ) (edition : ℕ) (old new : 
       let list : List ℕ = holdsIn layout old (readingOf source table edition) in
       let has-room : length rows ≤ roomIn layout list =
       omega (arith, w .counted, w .has-room, holds-room layout source table edition old n stop w) in
-      subst (λ (l : List ℕ). HandsOut layout l rows stream c) (sym p)
-      (subst (HandsOut layout list rows stream) (sym begin)
-      (hands-out layout list rows status has-room (holds-shown layout source table edition old n stop w) some stream same))
+      subst (λ (l : List ℕ). HandsOut layout l rows (rustStream source table edition) c) (sym p)
+      (subst (HandsOut layout list rows (rustStream source table edition)) (sym begin)
+      (hands-out layout list rows status has-room (holds-shown layout source table edition old n stop w) some (rustStream source table edition) same))
 
   -- to its end, and until it stood still
   pub ended-hands : (n : ℕ) (c : Cursor) → ReadWhole source table edition (roomIn layout old) n ended
       → new ≡ holdsIn layout old (readingOf source table edition) → c ≡ startCursor n End
-      → HandsOut layout new (readingOf source table edition .rows) stream c
+      → HandsOut layout new (readingOf source table edition .rows) (rustStream source table edition) c
   ended-hands n c w p e =
       from-whole n ended End c w p e (λ s. absurd (let z : _≡_ {A = ℕ} 0 1 = cc in omega arith))
       (stream-promise source table edition (w .readable) .at-end (w .stops))
 
   pub stuck-hands : (n : ℕ) (c : Cursor) → ReadWhole source table edition (roomIn layout old) n stuck
       → new ≡ holdsIn layout old (readingOf source table edition) → c ≡ startCursor n Stuck
-      → HandsOut layout new (readingOf source table edition .rows) stream c
+      → HandsOut layout new (readingOf source table edition .rows) (rustStream source table edition) c
   stuck-hands n c w p e =
       from-whole n stuck Stuck c w p e (λ s. refl) (stream-promise source table edition (w .readable) .at-stuck (w .stops))
 
   pub after-a-scan : (r : Scanned) → ScansIn layout source table edition old r new → (c : Cursor) → BeginsAt r c
-      → HandsOut layout new (readingOf source table edition .rows) stream c
+      → HandsOut layout new (readingOf source table edition .rows) (rustStream source table edition) c
   after-a-scan (scanned.End n b) p c e = let w = end-whole source table edition old new n b p in ended-hands n c (w .0) (w .1) e
   after-a-scan (scanned.Stuck n b) p c e = let w = stuck-whole source table edition old new n b p in stuck-hands n c (w .0) (w .1) e
   after-a-scan (scanned.Refused x) p c e = absurd e

@@ -112,8 +112,7 @@ module _ (s table : List ℕ) (edition : ℕ) (fit : FitTable table) (ok : Ok s 
         rows.rows-shown old (take n (q .rows)) i d (in-take n i (q .rows) h k) (ap rowFits row-is ∙ fits) ∙ ap Fit row-is
     firsts-shown count l m Half =
         half.halves-shown old (take n (markedRows q)) mark count i in-marked marked-fits
-        (λ e. let last = marks-last (q .stop) (q .rows) i mark k (ap (λ (x : Marked). x .still) (sym marked-is) ∙ e) in
-        (
+        (λ e. let last = marks-last (q .stop) (q .rows) i mark k (ap (λ (x : Marked). x .still) (sym marked-is) ∙ e) in (
           ap (λ (r : Row). r .kind) marked-row ∙ stuck-error (propertiesAt table) edition s startState i d (last .0) (last .1),
           omega (arith, last .1),
         )) starts
