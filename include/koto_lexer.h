@@ -26,7 +26,7 @@
 #include <stddef.h>
 #include <stdint.h>
 
-#define KOTO_LEXER_VERSION "0.12.0"
+#define KOTO_LEXER_VERSION "0.13.0"
 
 #ifdef __cplusplus
 extern "C" {
@@ -49,7 +49,8 @@ extern "C" {
  *    8 BAD_STATE                   a cursor or a pool that is unfit, desks that are (see koto_desk_add_string), or a list, another lexer's or an
  *                                  old one, that is shorter than its count
  *    9 BAD_RECORD                  a record that may not be shown: its kind is over 80, it may not have its detail, its depth is over 64, or
- *                                  bits 28 to 31 of its first word are not 0. Place: its index
+ *                                  bits 28 to 31 of its first word are not 0; at half the size bit 28 may be 1, on an Error that is the
+ *                                  last record. Place: its index
  *   10 EXPECTED_NUMBER             a precision has no digit. Value: the code point that stands there
  *   11 FORMAT_NUMBER_IS_TOO_LARGE  Value: the first value over 4,294,967,295
  *   12 UNEXPECTED_TOKEN            Value: the code point
@@ -92,15 +93,18 @@ extern "C" {
 /* ---- How a scan ends: the status, which a cursor over its list carries ----
  *
  * END: after the last record nothing comes. STUCK: the last record is an Error that advanced nothing, and comes for ever. REFUSED: the scan
- * was refused, and a cursor made of this is refused too (8).
+ * was refused, and a cursor made of this is refused too (8). END_HALF and STUCK_HALF: END and STUCK of koto_scan_half, so that a cursor
+ * carries the layout of its list.
  */
 
 #define KOTO_END 0u
 #define KOTO_STUCK 1u
 #define KOTO_REFUSED 2u
+#define KOTO_END_HALF 3u
+#define KOTO_STUCK_HALF 4u
 
 /* ---- Limits: bytes of a source, of a format string, and of a text and a fill; numbers of a table, tokens queued, words of a record in a
- * list ---- */
+ * list, whole and at half the size ---- */
 
 #define KOTO_SOURCE_MOST 1048576u
 #define KOTO_FORMAT_MOST 65535u
@@ -108,6 +112,7 @@ extern "C" {
 #define KOTO_TABLE_MOST 8000u
 #define KOTO_QUEUE_MOST 65535u
 #define KOTO_RECORD_WORDS 8u
+#define KOTO_HALF_RECORD_WORDS 5u
 
 /* ---- Editions of the cluster rules (UAX #29), which every call with a table takes behind it ----
  *
@@ -375,6 +380,18 @@ uint32_t koto_first_cluster(const uint8_t *source, size_t source_len, const uint
 uint32_t koto_scan(const uint8_t *source, size_t source_len, const uint32_t *table, size_t table_len, uint32_t edition,
                    uint32_t *list, size_t list_len, uint32_t *status, size_t *count, size_t *byte);
 
+/* Scans as koto_scan does, into records at half the size. A record is KOTO_HALF_RECORD_WORDS words of the list: kind + 128 * detail + 1,048,576 *
+ * depth, end, end line, end column, indent. It starts where the record before it ends, the first at zeros. An Error that stands still, the last
+ * record at KOTO_STUCK_HALF, has 268,435,456 (bit 28) more in its first word, and starts where the record before it starts. What koto_next,
+ * koto_peek and koto_look_ahead show of this list is what they show of the one that koto_scan writes.
+ *
+ * in       as koto_scan; the list's room is its length by KOTO_HALF_RECORD_WORDS
+ * out      as koto_scan, with status KOTO_END_HALF or KOTO_STUCK_HALF
+ * refused  as koto_scan
+ */
+uint32_t koto_scan_half(const uint8_t *source, size_t source_len, const uint32_t *table, size_t table_len, uint32_t edition,
+                        uint32_t *list, size_t list_len, uint32_t *status, size_t *count, size_t *byte);
+
 /* Scans as koto_scan does, and then refuses a source that is not in the site profile: one with a raw string, or with a template inside a
  * template. The token that is forbidden is the start of the raw string, or the "{" that opens the inner template. A "{" that opens a map in a
  * template, or stands in that map, is allowed.
@@ -413,13 +430,14 @@ uint32_t koto_rescan(const uint8_t *old, size_t old_len, const uint32_t *old_lis
 
 /* Hands out the next token of a scan, and moves the cursor on.
  *
- * A cursor is the numbers taken, queued, count and status. After a scan it is 0, 0, and the scan's count and status. It is unfit where the
- * list has no room for count records, taken is over count, more is queued than is left (KOTO_END), the last record is taken (KOTO_STUCK),
- * over KOTO_QUEUE_MOST are queued, or the status is another number.
+ * A cursor is the numbers taken, queued, count and status. After a scan it is 0, 0, and the scan's count and status; the status tells whether
+ * the list has whole records or records at half the size. It is unfit where the list has no room for count records, taken is over count, more is
+ * queued than is left (KOTO_END, KOTO_END_HALF), the last record is taken (KOTO_STUCK, KOTO_STUCK_HALF), over KOTO_QUEUE_MOST are queued, or the
+ * status is another number.
  *
  * in       the list that the scan wrote; the cursor
- * out      shown: 1, and record: the token; or 0, where all are taken at KOTO_END, and record: zeros. taken, queued: the cursor after it; at
- *            KOTO_STUCK the last record is never taken. place: 0
+ * out      shown: 1, and record: the token; or 0, where all are taken and the last does not come for ever, and record: zeros. taken,
+ *            queued: the cursor after it; a last record that comes for ever is never taken. place: 0
  * refused  in this order, each with shown 0 and record zeros; taken and queued stay
  *          8 BAD_STATE. place: 0
  *          9 BAD_RECORD. place: the record's index
@@ -447,7 +465,7 @@ uint32_t koto_peek(const uint32_t *list, size_t list_len, size_t taken, size_t *
  *
  * in       the list that the scan wrote; the cursor (see koto_next); n, from 0
  * out      shown: 1, and record: the token; or 0, where there is none, and record: zeros. queued: how many are queued after it, the larger of
- *            what was and of n + 1, but at KOTO_END no more than is left. place: 0
+ *            what was and of n + 1, but no more than is left where the last record does not come for ever. place: 0
  * refused  in this order, each with shown 0 and record zeros; queued stays
  *          8 BAD_STATE. place: 0
  *          7 QUEUE_FULL: over KOTO_QUEUE_MOST would be queued. place: 0

@@ -24,7 +24,7 @@
 
 /* Fits a screen of 80 times 24 (clients/README.md says more). */
 static const char HELP[] =
-    "usage: kotolex FILE.. [--profile] [--names | --json | --paint]\n"
+    "usage: kotolex FILE.. [--profile | --half] [--names | --json | --paint]\n"
     "       kotolex FILE --old FILE [--edit PLACE,REMOVED] [--names | ..]\n"
     "       kotolex FILE --check LIST\n"
     "       kotolex FILE --pad WIDTH [--align SIDE] [--fill CLUSTER]\n"
@@ -33,6 +33,7 @@ static const char HELP[] =
     "  --json         as JSON, an object a line\n"
     "  --paint        as the script, coloured on a terminal; --paint=always, anywhere\n"
     "  --profile      refuse raw strings and templates inside templates too\n"
+    "  --half         scan into records at half the size; the output is the same\n"
     "  --old FILE     as after an edit of this file: the one found, or --edit P,R\n"
     "  --check LIST   say whether another lexer's list is FILE's: same, differs INDEX\n"
     "  --pad WIDTH    print FILE's lines padded: --align left, center or right\n"
@@ -65,6 +66,7 @@ typedef struct {
     /* Of PAINT: colours also where the output is no terminal. */
     bool always;
     bool profile;
+    bool half;
     bool help;
 } options;
 
@@ -130,7 +132,7 @@ static int standard_inputs(const options *asked) {
 /* Whether what is asked for goes together: one thing at a time; one file where another belongs to it; a form only for lists; and what belongs to a
  * width or to an old script only with it. */
 static bool fits_together(const options *asked) {
-    int asked_for = asked->profile + (asked->list != NULL) + (asked->old != NULL) + (asked->width != NULL);
+    int asked_for = asked->profile + asked->half + (asked->list != NULL) + (asked->old != NULL) + (asked->width != NULL);
     bool lists = asked->list == NULL && asked->width == NULL;
     bool files = asked->count == 1 || (asked->count > 1 && lists && asked->old == NULL);
     bool pads = asked->width != NULL || (asked->align == NULL && asked->fill == NULL);
@@ -154,6 +156,8 @@ static bool read_options(int argc, char **argv, options *to) {
             to->always = strchr(argv[i], '=') != NULL;
         } else if (strcmp(argv[i], "--profile") == 0) {
             to->profile = true;
+        } else if (strcmp(argv[i], "--half") == 0) {
+            to->half = true;
         } else if (place != NULL) {
             i++;
             if (i == argc || *place != NULL) {
@@ -285,12 +289,13 @@ static void paint_rest(printer *to) {
     }
 }
 
-/* Prints the records of a list. It is walked as one that ends, whatever the scan's status is, so that each record comes once. */
-static void print_records(printer *to, words list, size_t count) {
+/* Prints the records of a list. It is walked as one that ends, whatever the scan's status is, so that each record comes once; `end` is KOTO_END or,
+ * for a list with records at half the size, KOTO_END_HALF. */
+static void print_records(printer *to, words list, size_t count, uint32_t end) {
     size_t taken = 0, queued = 0, place;
     uint32_t shown;
     koto_record record;
-    while (koto_next(list.at, list.len, &taken, &queued, count, KOTO_END, &shown, &record, &place) == 0 && shown == 1) {
+    while (koto_next(list.at, list.len, &taken, &queued, count, end, &shown, &record, &place) == 0 && shown == 1) {
         if (to->as == JSON) {
             json_record(to->file, &record);
         } else if (to->as == PAINT) {
@@ -309,15 +314,16 @@ typedef struct {
     size_t byte;
 } answer;
 
-/* A list for a script. NULL if there is no memory. A script of n bytes has at most n + n/3 records (docs/PROMISES.md, `never-full`). */
-static words list_for(bytes script) {
-    words list = {NULL, KOTO_RECORD_WORDS * (script.len + script.len / 3)};
+/* A list for a script, with records of so many words. NULL if there is no memory. A script of n bytes has at most n + n/3 records
+ * (docs/PROMISES.md, `never-full`). */
+static words list_for(bytes script, size_t record_words) {
+    words list = {NULL, record_words * (script.len + script.len / 3)};
     /* malloc may answer a request for nothing by nothing. */
     list.at = malloc((list.len + 1) * sizeof *list.at);
     return list;
 }
 
-/* koto_scan, or koto_scan_profile. */
+/* koto_scan, koto_scan_half or koto_scan_profile. */
 typedef uint32_t (*scanner)(const uint8_t *, size_t, const uint32_t *, size_t, uint32_t, uint32_t *, size_t, uint32_t *, size_t *, size_t *);
 
 static answer scan(scanner by, bytes script, words table, uint32_t edition, words list) {
@@ -371,7 +377,7 @@ static int scan_edited(const options *asked, bytes script, words table, uint32_t
     words old_list = {NULL, 0};
     int status = read_file(asked->old, SCRIPT_ROOM, NO_SCRIPT, &old);
     if (status == FINE) {
-        old_list = list_for(old);
+        old_list = list_for(old, KOTO_RECORD_WORDS);
         status = old_list.at != NULL ? FINE : fail(NO_MEMORY, "no memory for the list", "");
     }
     if (status == FINE) {
@@ -398,12 +404,13 @@ static int print_end(printer *to, const answer *said) {
     if (said->refused != 0) {
         return say_refused(to->as, to->file, said->refused, said->byte, said->refused == KOTO_CUT_UTF8 ? STILL_ARRIVING : SCAN_REFUSED);
     }
-    const char *end = said->end == KOTO_STUCK ? "stuck" : "end";
+    bool stuck = said->end == KOTO_STUCK || said->end == KOTO_STUCK_HALF;
+    const char *end = stuck ? "stuck" : "end";
     if (to->as == JSON) {
         json_end(to->file, end, said->count, said->byte);
     } else if (to->as != PAINT) {
         printf("%s %zu %zu\n", end, said->count, said->byte);
-    } else if (said->end == KOTO_STUCK) {
+    } else if (stuck) {
         fflush(stdout);
         fprintf(stderr, "kotolex: %s: stuck %zu %zu\n", to->file, said->count, said->byte);
     }
@@ -412,14 +419,15 @@ static int print_end(printer *to, const answer *said) {
 
 /* Scans the script and prints what was written and how it ended. */
 static int list_tokens(const options *asked, const char *file, bytes script, words table, uint32_t edition) {
-    words list = list_for(script);
+    words list = list_for(script, asked->half ? KOTO_HALF_RECORD_WORDS : KOTO_RECORD_WORDS);
     if (list.at == NULL) {
         return fail(NO_MEMORY, "no memory for the list", "");
     }
     answer said = {0, 0, 0, 0};
     int status = FINE;
     if (asked->old == NULL) {
-        said = scan(asked->profile ? koto_scan_profile : koto_scan, script, table, edition, list);
+        scanner by = asked->profile ? koto_scan_profile : asked->half ? koto_scan_half : koto_scan;
+        said = scan(by, script, table, edition, list);
     } else {
         status = scan_edited(asked, script, table, edition, list, &said);
     }
@@ -429,7 +437,7 @@ static int list_tokens(const options *asked, const char *file, bytes script, wor
         if (asked->count > 1 && asked->as != JSON) {
             printf("file %s\n", file);
         }
-        print_records(&to, list, said.count);
+        print_records(&to, list, said.count, asked->half ? KOTO_END_HALF : KOTO_END);
         status = print_end(&to, &said);
     }
     free(list.at);

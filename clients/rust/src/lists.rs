@@ -6,13 +6,20 @@ use crate::Edition;
 /// The numbers of a record in a list
 pub const RECORD_WORDS: usize = 8;
 
-/// How a scan ended that wrote a list
+/// The numbers of a record in a list at half the size
+pub const HALF_RECORD_WORDS: usize = 5;
+
+/// How a scan ended that wrote a list, and the list's layout
 #[derive(Clone, Copy, Debug, PartialEq, Eq)]
 pub enum Status {
     /// After the last record nothing comes.
     End,
     /// The last record comes for ever.
     Stuck,
+    /// `End`, of a list with records at half the size
+    EndHalf,
+    /// `Stuck`, of a list with records at half the size
+    StuckHalf,
 }
 
 /// What a scan answers: the count of records written and the current byte, or a refusal with its place
@@ -99,9 +106,19 @@ pub const fn room_for(source_len: usize) -> usize {
     RECORD_WORDS * (source_len + source_len / 3)
 }
 
+/// The same of a list with records at half the size
+pub const fn half_room_for(source_len: usize) -> usize {
+    HALF_RECORD_WORDS * (source_len + source_len / 3)
+}
+
 /// Writes the records of a source at the start of the list.
 pub fn scan(source: &[u8], table: &[u32], edition: Edition, list: &mut [u32]) -> Scanned {
     scan_by(raw::koto_scan, source, table, edition, list).scanned()
+}
+
+/// Writes the records of a source at half the size; [`Scanned::half_cursor`] is the cursor over them.
+pub fn scan_half(source: &[u8], table: &[u32], edition: Edition, list: &mut [u32]) -> Scanned {
+    scan_by(raw::koto_scan_half, source, table, edition, list).scanned()
 }
 
 /// Scans as [`scan`] does, and then refuses a source that is not in the site profile; the list keeps the whole scan.
@@ -151,7 +168,7 @@ impl Scanned {
     /// A scan's answer by its numbers
     pub(crate) fn of(refused: u32, status: u32, count: usize, byte: usize) -> Scanned {
         match refused {
-            0 if status == raw::STUCK => Scanned::Stuck { count, byte },
+            0 if status == raw::STUCK || status == raw::STUCK_HALF => Scanned::Stuck { count, byte },
             0 => Scanned::End { count, byte },
             1 => Scanned::TooLong,
             2 => Scanned::BadTable(byte),
@@ -174,11 +191,20 @@ impl Scanned {
         }
     }
 
-    /// A cursor before the first record; none after a refusal
+    /// A cursor before the first record that [`scan`] wrote; none after a refusal
     pub fn cursor(self) -> Option<Cursor> {
+        self.begin(Status::End, Status::Stuck)
+    }
+
+    /// A cursor before the first record that [`scan_half`] wrote; none after a refusal
+    pub fn half_cursor(self) -> Option<Cursor> {
+        self.begin(Status::EndHalf, Status::StuckHalf)
+    }
+
+    fn begin(self, end: Status, stuck: Status) -> Option<Cursor> {
         let (count, status) = match self {
-            Scanned::End { count, .. } => (count, Status::End),
-            Scanned::Stuck { count, .. } => (count, Status::Stuck),
+            Scanned::End { count, .. } => (count, end),
+            Scanned::Stuck { count, .. } => (count, stuck),
             _ => return None,
         };
         Some(Cursor { taken: 0, queued: 0, count, status })
@@ -191,6 +217,8 @@ impl Status {
         match self {
             Status::End => raw::END,
             Status::Stuck => raw::STUCK,
+            Status::EndHalf => raw::END_HALF,
+            Status::StuckHalf => raw::STUCK_HALF,
         }
     }
 }

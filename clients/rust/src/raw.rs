@@ -64,6 +64,8 @@ pub struct Options {
 pub const NONE: u64 = u64::MAX;
 pub const END: u32 = 0;
 pub const STUCK: u32 = 1;
+pub const END_HALF: u32 = 3;
+pub const STUCK_HALF: u32 = 4;
 
 /// A call that looks ahead: [`koto_peek`] or [`koto_look_ahead`]
 pub type Look = unsafe extern "C" fn(
@@ -79,7 +81,7 @@ pub type Look = unsafe extern "C" fn(
     place: *mut usize,
 ) -> u32;
 
-/// A call that scans: [`koto_scan`] or [`koto_scan_profile`]
+/// A call that scans: [`koto_scan`], [`koto_scan_half`] or [`koto_scan_profile`]
 pub type Scan = unsafe extern "C" fn(
     source: *const u8,
     source_len: usize,
@@ -115,6 +117,18 @@ extern "C" {
         place: *mut usize,
     ) -> u32;
     pub fn koto_scan(
+        source: *const u8,
+        source_len: usize,
+        table: *const u32,
+        table_len: usize,
+        edition: u32,
+        list: *mut u32,
+        list_len: usize,
+        status: *mut u32,
+        count: *mut usize,
+        byte: *mut usize,
+    ) -> u32;
+    pub fn koto_scan_half(
         source: *const u8,
         source_len: usize,
         table: *const u32,

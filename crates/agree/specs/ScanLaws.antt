@@ -18,12 +18,15 @@ use Rattle.input.specs.declared.Refusal.{Refusal}
 use Rattle.input.specs.declared.Input.{Input}
 use Rattle.input.specs.declared.Input.the-variants as input
 use Rattle.cluster.specs.FirstLaws.{Agree}
-use Rattle.rows.specs.Row.{room, putRows}
-use Rattle.rows.specs.declared.Row.{Row}
+use Rattle.rows.specs.Row.{putRows}
+use Rattle.half_rows.specs.Half.{putHalves}
+use Rattle.layout.specs.Layout.{roomIn}
+use Rattle.layout.specs.declared.Layout.{Layout}
+use Rattle.layout.specs.declared.Layout.the-variants.{Whole, Half}
 use Rattle.state.specs.State.{startState}
 use Rattle.state.specs.declared.State.{State}
 use Rattle.reading.specs.Reading.{Reading, readFrom}
-use Rattle.reading.specs.Scan.{byRoom, readingOf, scanned, writtenBy, written, Scans}
+use Rattle.reading.specs.Scan.{markedRows, byRoom, readingOf, scanned, writtenBy, written, writtenMarked, writesIn, ScansIn}
 use Rattle.reading.specs.declared.Scanned.{Scanned}
 use Rattle.reading.specs.declared.Scanned.the-variants.{Refused}
 use Rattle.agree.specs.ReadingLaws.{remaining-agrees, read-agrees}
@@ -67,26 +70,38 @@ module _ (source t u : List ℕ) (edition : ℕ) (fit : tableCheck t ≡ Fit) (a
   scanned-agrees n = on-reading-agrees Refused (byRoom n 0 0)
 
   -- nothing is written where a refusal comes before any work
-  none-written : (v : List ℕ) (n : ℕ) {x : Refusal} → inputCheck sourceMost source v edition ≡ input.Refused x → (rows : List Row)
+  none-written : {A : Type 0} (v : List ℕ) (n : ℕ) {x : Refusal} → inputCheck sourceMost source v edition ≡ input.Refused x → (rows : List A)
       → writtenBy (scanned source v edition n) rows ≡ []
   unfolding scanned
   none-written v n e rows = rw e
 
-  pub written-agrees : (n : ℕ) → written source t edition n ≡ written source u edition n
-  unfolding written
-  written-agrees n = go (inputCheck sourceMost source t edition) refl
+  -- of the readings' records, whatever is told of them
+  writes-agree : {A : Type 0} (told : Reading → List A) (n : ℕ)
+      → writtenBy (scanned source t edition n) (take n (told (readingOf source t edition)))
+      ≡ writtenBy (scanned source u edition n) (take n (told (readingOf source u edition)))
+  writes-agree {A} told n = go (inputCheck sourceMost source t edition) refl
     where
       go : (c : Input) → inputCheck sourceMost source t edition ≡ c
-          → writtenBy (scanned source t edition n) (take n (readingOf source t edition .rows))
-          ≡ writtenBy (scanned source u edition n) (take n (readingOf source u edition .rows))
-      go input.Fine e = λ i. writtenBy (scanned-agrees n i) (take n (rests e startState i .rows))
+          → writtenBy (scanned source t edition n) (take n (told (readingOf source t edition)))
+          ≡ writtenBy (scanned source u edition n) (take n (told (readingOf source u edition)))
+      go input.Fine e = λ i. writtenBy (scanned-agrees n i) (take n (told (rests e startState i)))
       go (input.Refused x) e =
-          none-written t n e (take n (readingOf source t edition .rows))
-          ∙ sym (none-written u n (sym same-input ∙ e) (take n (readingOf source u edition .rows)))
+          none-written t n e (take n (told (readingOf source t edition)))
+          ∙ sym (none-written u n (sym same-input ∙ e) (take n (told (readingOf source u edition))))
 
-  pub scan-agrees : {old new : List ℕ} {r : Scanned} → Scans source t edition old r new → Scans source u edition old r new
-  scan-agrees {old} p =
+  pub written-agrees : (n : ℕ) → written source t edition n ≡ written source u edition n
+  unfolding written
+  written-agrees = writes-agree (λ r. r .rows)
+
+  words-agree : (layout : Layout) (old : List ℕ) (n : ℕ) → writesIn layout old source t edition n ≡ writesIn layout old source u edition n
+  unfolding writtenMarked
+  words-agree Whole old n = ap (putRows old) (written-agrees n)
+  words-agree Half old n = ap (putHalves old) (writes-agree markedRows n)
+
+  pub scan-agrees : {layout : Layout} {old new : List ℕ} {r : Scanned} → ScansIn layout source t edition old r new
+      → ScansIn layout source u edition old r new
+  scan-agrees {layout} {old} p =
       record {
-        answer = p .answer ∙ scanned-agrees (room old);
-        words = p .words ∙ ap (putRows old) (written-agrees (room old));
+        answer = p .answer ∙ scanned-agrees (roomIn layout old);
+        words = p .words ∙ words-agree layout old (roomIn layout old);
       }

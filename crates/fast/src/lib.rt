@@ -180,6 +180,15 @@ pub fn scan_fast(source: &[u8], table: &[u32], edition: u32, list: &mut [u32]) -
     let classes = classes();
     match input::check_input(source, table, edition, SOURCE_MOST) {
         Input::Refused(refusal) => Scanned::Refused(refusal),
-        Input::Fine => read_on(Layout::Whole, source, table, edition, &classes, State::new(), list, 0),
+        Input::Fine => read_on(
+            Layout::Whole,
+            source,
+            table,
+            edition,
+            &classes,
+            State::new(),
+            list,
+            0,
+        ),
     }
 }

@@ -35,8 +35,16 @@ fn next_whole(list: &[u32], taken: usize, queued: usize, count: usize, status: u
     ensures { λ r. ⌜ r ≡ nextBy (now (list .entry)) taken queued count status ⌝ }
 {
     match status {
-        END => lookahead::next(Layout::Whole, list, cursor_of(taken, queued, count, Status::End)),
-        STUCK => lookahead::next(Layout::Whole, list, cursor_of(taken, queued, count, Status::Stuck)),
+        END => lookahead::next(
+            Layout::Whole,
+            list,
+            cursor_of(taken, queued, count, Status::End),
+        ),
+        STUCK => lookahead::next(
+            Layout::Whole,
+            list,
+            cursor_of(taken, queued, count, Status::Stuck),
+        ),
         _ => Given::BadState,
     }
 }
@@ -47,8 +55,16 @@ fn next_half(list: &[u32], taken: usize, queued: usize, count: usize, status: u3
     ensures { λ r. ⌜ r ≡ nextBy (now (list .entry)) taken queued count status ⌝ }
 {
     match status {
-        END_HALF => lookahead::next(Layout::Half, list, cursor_of(taken, queued, count, Status::End)),
-        STUCK_HALF => lookahead::next(Layout::Half, list, cursor_of(taken, queued, count, Status::Stuck)),
+        END_HALF => lookahead::next(
+            Layout::Half,
+            list,
+            cursor_of(taken, queued, count, Status::End),
+        ),
+        STUCK_HALF => lookahead::next(
+            Layout::Half,
+            list,
+            cursor_of(taken, queued, count, Status::Stuck),
+        ),
         _ => Given::BadState,
     }
 }
@@ -134,10 +150,30 @@ fn peek_by(list: &[u32], taken: usize, queued: usize, count: usize, status: u32,
     ensures { λ r. ⌜ r ≡ peekBy (now (list .entry)) taken queued count status n ⌝ }
 {
     match status {
-        END => lookahead::peek(Layout::Whole, list, cursor_of(taken, queued, count, Status::End), n),
-        STUCK => lookahead::peek(Layout::Whole, list, cursor_of(taken, queued, count, Status::Stuck), n),
-        END_HALF => lookahead::peek(Layout::Half, list, cursor_of(taken, queued, count, Status::End), n),
-        STUCK_HALF => lookahead::peek(Layout::Half, list, cursor_of(taken, queued, count, Status::Stuck), n),
+        END => lookahead::peek(
+            Layout::Whole,
+            list,
+            cursor_of(taken, queued, count, Status::End),
+            n,
+        ),
+        STUCK => lookahead::peek(
+            Layout::Whole,
+            list,
+            cursor_of(taken, queued, count, Status::Stuck),
+            n,
+        ),
+        END_HALF => lookahead::peek(
+            Layout::Half,
+            list,
+            cursor_of(taken, queued, count, Status::End),
+            n,
+        ),
+        STUCK_HALF => lookahead::peek(
+            Layout::Half,
+            list,
+            cursor_of(taken, queued, count, Status::Stuck),
+            n,
+        ),
         _ => Peeked::BadState,
     }
 }
@@ -168,10 +204,30 @@ fn look_by(list: &[u32], taken: usize, queued: usize, count: usize, status: u32,
     ensures { λ r. ⌜ r ≡ lookBy (now (list .entry)) taken queued count status n ⌝ }
 {
     match status {
-        END => lookahead::look_ahead(Layout::Whole, list, cursor_of(taken, queued, count, Status::End), n),
-        STUCK => lookahead::look_ahead(Layout::Whole, list, cursor_of(taken, queued, count, Status::Stuck), n),
-        END_HALF => lookahead::look_ahead(Layout::Half, list, cursor_of(taken, queued, count, Status::End), n),
-        STUCK_HALF => lookahead::look_ahead(Layout::Half, list, cursor_of(taken, queued, count, Status::Stuck), n),
+        END => lookahead::look_ahead(
+            Layout::Whole,
+            list,
+            cursor_of(taken, queued, count, Status::End),
+            n,
+        ),
+        STUCK => lookahead::look_ahead(
+            Layout::Whole,
+            list,
+            cursor_of(taken, queued, count, Status::Stuck),
+            n,
+        ),
+        END_HALF => lookahead::look_ahead(
+            Layout::Half,
+            list,
+            cursor_of(taken, queued, count, Status::End),
+            n,
+        ),
+        STUCK_HALF => lookahead::look_ahead(
+            Layout::Half,
+            list,
+            cursor_of(taken, queued, count, Status::Stuck),
+            n,
+        ),
         _ => Peeked::BadState,
     }
 }

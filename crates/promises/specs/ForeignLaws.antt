@@ -43,6 +43,7 @@ use Rattle.foreign.specs.declared.Checked.{Checked}
 use Rattle.foreign.specs.declared.Checked.the-variants.{Same, Differs, Refused, BadState, ModesFull}
 use Rattle.promises.specs.Scan.{Readable, rows, stop}
 use Rattle.promises.specs.Stream.{rustStream}
+use Rattle.layout.specs.declared.Layout.the-variants.{Whole}
 use Rattle.promises.specs.Lookahead.{HandsOut}
 use Rattle.promises.specs.LookaheadLaws.{ended-hands, stuck-hands}
 use Rattle.promises.specs.Foreign.{CheckEnsures, checkSays, Right, Agrees, Taken, CheckPromise, BeginsBy}
@@ -223,18 +224,18 @@ module _ (source table : List ℕ) (edition : ℕ) (old new : List ℕ) where
 
 module _ (source table : List ℕ) (edition : ℕ) (list : List ℕ) (count status : ℕ) where
   right-hands-out : Right source table edition list count status → (c : Cursor) → BeginsBy count status c
-      → HandsOut list (rows source table edition) (rustStream source table edition) c
+      → HandsOut Whole list (rows source table edition) (rustStream source table edition) c
   right-hands-out g c k = by-stop (stop source table edition) refl (g .ends)
     where
       read : {why : reading.Stop} → stop source table edition ≡ why → ReadWhole source table edition (room list) count why
       read e = record { readable = g .readable; counted = g .counted; has-room = g .has-room; stops = e }
 
       by-stop : (why : reading.Stop) → stop source table edition ≡ why → StatusIs why status
-          → HandsOut list (rows source table edition) (rustStream source table edition) c
+          → HandsOut Whole list (rows source table edition) (rustStream source table edition) c
       by-stop reading.ended e s = ended-hands source table edition list list count c (read e) (sym (g .records)) (k .at-end s)
       by-stop reading.stuck e s = stuck-hands source table edition list list count c (read e) (sym (g .records)) (k .at-stuck s)
       by-stop reading.deep e s = absurd s
 
   pub yes-hands-out : CheckEnsures source table edition list count status Same → (c : Cursor) → BeginsBy count status c
-      → HandsOut list (rows source table edition) (rustStream source table edition) c
+      → HandsOut Whole list (rows source table edition) (rustStream source table edition) c
   yes-hands-out p = right-hands-out (only-right source table edition list count status Same p refl)

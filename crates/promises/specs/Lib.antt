@@ -10,6 +10,7 @@ pub mod WrongScans
 pub mod Pool
 pub mod Lookahead
 pub mod Look
+pub mod Half
 pub mod Foreign
 pub mod Parse
 pub mod Pad
@@ -27,6 +28,7 @@ pub mod WrongScansLaws
 pub mod PoolLaws
 pub mod LookaheadLaws
 pub mod LookLaws
+pub mod HalfLaws
 pub mod ForeignLaws
 pub mod ParseLaws
 pub mod PadLaws

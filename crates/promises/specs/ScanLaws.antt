@@ -19,8 +19,13 @@ use Rattle.input.specs.InputLaws.{is-long, is-none, is-table, is-bad, is-cut, i
 use Rattle.rows.specs.Row.{room, putRows, putRowsAt}
 use Rattle.rows.specs.RowLaws.{rows-one-by-one}
 use Rattle.rows.specs.declared.Row.{Row}
+use Rattle.half_rows.specs.Half.{putHalvesAt}
+use Rattle.half_rows.specs.HalfLaws.{halves-one-by-one}
+use Rattle.layout.specs.Layout.{roomIn}
+use Rattle.layout.specs.declared.Layout.{Layout}
+use Rattle.layout.specs.declared.Layout.the-variants.{Whole, Half}
 use Rattle.reading.specs.Reading as reading
-use Rattle.reading.specs.Scan.{endOf, whole, byRoom, readingOf, scanned, writtenBy, written, Scans, numberOf, placeOf, countOf}
+use Rattle.reading.specs.Scan.{markedRows, endOf, whole, byRoom, putsIn, readingOf, scanned, writtenBy, written, firstsIn, Scans, ScansIn, numberOf, placeOf, countOf}
 use Rattle.reading.specs.ScanLaws.{scans-refused, scans-fine, one-answer}
 use Rattle.reading.specs.declared.Scanned.{Scanned}
 use Rattle.reading.specs.declared.Scanned.the-variants as answer
@@ -77,33 +82,37 @@ module _ (source table : List ℕ) (edition n : ℕ) where
 
 -- ---- the promise
 
-module _ (source table : List ℕ) (edition : ℕ) (old : List ℕ) where
-  abbrev n : ℕ
-  n = room old
+-- the first n records of a reading, put one after the other
+puts-firsts : (layout : Layout) (old : List ℕ) (n : ℕ) (q : reading.Reading) → putsIn layout old 0 (n - 0) q ≡ firstsIn layout old n q
+puts-firsts Whole old n q =
+    let z : n - 0 ≡ n = omega arith in ap (λ (i : ℕ). putRowsAt old 0 (take i (q .rows))) z ∙ rows-one-by-one old (take n (q .rows))
+puts-firsts Half old n q =
+    let z : n - 0 ≡ n = omega arith in
+    ap (λ (i : ℕ). putHalvesAt old 0 (take i (markedRows q))) z ∙ halves-one-by-one old (take n (markedRows q))
 
+module _ {layout : Layout} (source table : List ℕ) (edition : ℕ) (old : List ℕ) where
   -- where no refusal comes before the work
   read : Readable source table edition
-      → Scans source table edition old (byRoom n 0 0 (readingOf source table edition)) (putRowsAt old 0 (take (n - 0) (rows source table edition)))
+      → ScansIn layout source table edition old (byRoom (roomIn layout old) 0 0 (readingOf source table edition)) (putsIn layout old 0 (roomIn layout old - 0) (readingOf source table edition))
   read g = scans-fine (is-fine sourceMost source table edition g) refl (record { answer = refl; words = refl })
 
-  module _ (r : Scanned) (new : List ℕ) (p : Scans source table edition old r new) where
+  module _ (r : Scanned) (new : List ℕ) (p : ScansIn layout source table edition old r new) where
     -- a refusal that writes nothing
-    kept : {x : Scanned} → Scans source table edition old x old → (scanSays r ≡ scanSays x) × (new ≡ old)
+    kept : {x : Scanned} → ScansIn layout source table edition old x old → (scanSays r ≡ scanSays x) × (new ≡ old)
     kept {x} q = let both = one-answer source table edition old r x new old p q in (ap scanSays (both .0), both .1)
 
-    by-reading : Readable source table edition → r ≡ byRoom n 0 0 (readingOf source table edition)
+    by-reading : Readable source table edition → r ≡ byRoom (roomIn layout old) 0 0 (readingOf source table edition)
     by-reading g = one-answer source table edition old r _ new _ p (read g) .0
 
     -- all records have room
-    by-stop : Readable source table edition → {why : reading.Stop} → stop source table edition ≡ why → length (rows source table edition) ≤ n
-        → r ≡ whole n (length (rows source table edition)) (endOf 0 (rows source table edition)) why
+    by-stop : Readable source table edition → {why : reading.Stop} → stop source table edition ≡ why → length (rows source table edition) ≤ roomIn layout old
+        → r ≡ whole (roomIn layout old) (length (rows source table edition)) (endOf 0 (rows source table edition)) why
     by-stop g e h =
-        by-reading g ∙ all-fit n (readingOf source table edition) h ∙ ap (whole n (length (rows source table edition)) (endOf 0 (rows source table edition))) e
+        by-reading g ∙ all-fit (roomIn layout old) (readingOf source table edition) h ∙ ap (whole (roomIn layout old) (length (rows source table edition)) (endOf 0 (rows source table edition))) e
 
-    pub scan-promise : ScanPromise source table edition old r new
+    pub scan-promise : ScanPromise layout source table edition old r new
     scan-promise =
         let k : ℕ = length (rows source table edition) in
-        let z : n - 0 ≡ n = omega arith in
         record {
           too-long = λ h. kept (scans-refused (is-long sourceMost source table edition h));
           bad-edition = λ h k. kept (scans-refused (is-none sourceMost source table edition h k));
@@ -112,17 +121,16 @@ module _ (source table : List ℕ) (edition : ℕ) (old : List ℕ) where
           cut-utf8 = λ h k f i w. kept (scans-refused (is-cut sourceMost source table edition h k f i w));
           ended = λ g e h. ap scanSays (by-stop g e h);
           is-stuck = λ g e h. ap scanSays (by-stop g e h);
-          list-full = λ g h. ap scanSays (by-reading g ∙ not-all-fit n (readingOf source table edition) h);
-          full-before-deep = λ g e h. ap scanSays (by-stop g e (omega arith) ∙ no-room n k (endOf 0 (rows source table edition)) h);
-          modes-full = λ g e h. ap scanSays (by-stop g e (omega arith) ∙ has-room n k (endOf 0 (rows source table edition)) h);
-          words = λ g. one-answer source table edition old r _ new _ p (read g) .1 ∙ ap (λ (i : ℕ). putRowsAt old 0 (take i (rows source table edition))) z
-              ∙ rows-one-by-one old (take n (rows source table edition));
-          only-bad = λ m. subst (λ (x : Scanned). Damaged source (placeOf x)) (sym (p .answer)) (bad-only source table edition n (ap numberOf (sym (p .answer)) ∙ m));
-          only-cut = λ m. subst (λ (x : Scanned). Arriving source (placeOf x)) (sym (p .answer)) (cut-only source table edition n (ap numberOf (sym (p .answer)) ∙ m));
+          list-full = λ g h. ap scanSays (by-reading g ∙ not-all-fit (roomIn layout old) (readingOf source table edition) h);
+          full-before-deep = λ g e h. ap scanSays (by-stop g e (omega arith) ∙ no-room (roomIn layout old) k (endOf 0 (rows source table edition)) h);
+          modes-full = λ g e h. ap scanSays (by-stop g e (omega arith) ∙ has-room (roomIn layout old) k (endOf 0 (rows source table edition)) h);
+          words = λ g. one-answer source table edition old r _ new _ p (read g) .1 ∙ puts-firsts layout old (roomIn layout old) (readingOf source table edition);
+          only-bad = λ m. subst (λ (x : Scanned). Damaged source (placeOf x)) (sym (p .answer)) (bad-only source table edition (roomIn layout old) (ap numberOf (sym (p .answer)) ∙ m));
+          only-cut = λ m. subst (λ (x : Scanned). Arriving source (placeOf x)) (sym (p .answer)) (cut-only source table edition (roomIn layout old) (ap numberOf (sym (p .answer)) ∙ m));
         }
 
-pub scan-has-one-answer : (source table : List ℕ) (edition : ℕ) (old : List ℕ) (r q : Scanned) (new other : List ℕ) → Scans source table edition old r new
-    → Scans source table edition old q other → (r ≡ q) × (new ≡ other)
+pub scan-has-one-answer : {layout : Layout} (source table : List ℕ) (edition : ℕ) (old : List ℕ) (r q : Scanned) (new other : List ℕ)
+    → ScansIn layout source table edition old r new → ScansIn layout source table edition old q other → (r ≡ q) × (new ≡ other)
 scan-has-one-answer source table edition old r q new other a b = one-answer source table edition old r q new other a b
 
 -- ---- the count

@@ -11,7 +11,8 @@ use Rattle.property.specs.Table.{propertiesAt}
 use Rattle.fitness.specs.Fit.{tableCheck}
 use Rattle.fitness.specs.declared.TableCheck.the-variants.{Fit}
 use Rattle.cluster.specs.declared.Cluster.{Cluster}
-use Rattle.reading.specs.Scan.{Scans}
+use Rattle.layout.specs.declared.Layout.{Layout}
+use Rattle.reading.specs.Scan.{ScansIn}
 use Rattle.reading.specs.declared.Scanned.{Scanned}
 use Rattle.profile.specs.Profile.{Profiles}
 use Rattle.profile.specs.declared.Profiled.{Profiled}
@@ -39,7 +40,8 @@ BothFit t u = (tableCheck t ≡ Fit) × (tableCheck u ≡ Fit)
 -- the bytes as a source, and as a format string
 pub record SmallTablesPromise (bytes t u : List ℕ) (edition : ℕ) : Type 0 where
   pub same-cluster : (r q : Cluster) → FirstClusterEnsures bytes t edition r → FirstClusterEnsures bytes u edition q → r ≡ q
-  pub same-scan : (old new other : List ℕ) (r q : Scanned) → Scans bytes t edition old r new → Scans bytes u edition old q other
+  pub same-scan :
+      (layout : Layout) (old new other : List ℕ) (r q : Scanned) → ScansIn layout bytes t edition old r new → ScansIn layout bytes u edition old q other
       → (r ≡ q) × (new ≡ other)
   pub same-profile : (old new other : List ℕ) (r q : Profiled) → Profiles bytes t edition old r new → Profiles bytes u edition old q other
       → (r ≡ q) × (new ≡ other)

@@ -87,7 +87,7 @@ module _ (bytes t u : List ℕ) (edition : ℕ) (fit : BothFit t u) (same : Same
   small-tables-promise =
       record {
         same-cluster = λ r q e f. e ∙ same-call bytes t u edition (fit .0) (fit .1) agree ∙ sym f;
-        same-scan = λ old new other r q a b. scan.one-answer bytes u edition old r q new other (scan-agrees bytes t u edition (fit .0) (fit .1) agree a) b;
+        same-scan = λ layout old new other r q a b. scan.one-answer bytes u edition old r q new other (scan-agrees bytes t u edition (fit .0) (fit .1) agree a) b;
         same-profile = λ old new other r q a b. profile.one-answer bytes u edition old r q new other (profile-agrees old new r a) b;
         same-check = λ list count status r q a b. a ∙ check-agrees list count status ∙ sym b;
         same-rescan = λ source from count e list new other r q a b. rescan.one-answer (rescan-agrees source from count e list new r a) b;

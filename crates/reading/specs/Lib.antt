@@ -7,6 +7,7 @@ pub mod AlikeLaws
 pub mod ShownLaws
 pub mod ScanLaws
 pub mod StartsLaws
+pub mod FirstsLaws
 pub mod WholeLaws
 pub mod HeadLaws
 pub mod GoingLaws

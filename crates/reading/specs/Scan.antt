@@ -115,7 +115,12 @@ abbrev pub writesIn : Layout → List ℕ → List ℕ → List ℕ → ℕ → 
 writesIn Whole old source table edition n = putRows old (written source table edition n)
 writesIn Half old source table edition n = putHalves old (writtenMarked source table edition n)
 
--- a list that starts with all records of a reading; every word after them stays
+-- a list that starts with the first n records of a reading; every word after them stays
+abbrev pub firstsIn : Layout → List ℕ → ℕ → Reading → List ℕ
+firstsIn Whole old n r = putRows old (take n (r .rows))
+firstsIn Half old n r = putHalves old (take n (markedRows r))
+
+-- a list that starts with all of them
 abbrev pub holdsIn : Layout → List ℕ → Reading → List ℕ
 holdsIn Whole old r = putRows old (r .rows)
 holdsIn Half old r = putHalves old (markedRows r)

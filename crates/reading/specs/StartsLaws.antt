@@ -109,8 +109,7 @@ module _ (s table : List ℕ) (edition : ℕ) (fit : FitTable table) where
       still-last (rest .stop) (rest .rows) (steps-some n (propertiesAt table) edition s (next st)) in
       (from ∙ sym (ap (λ (t : Bool). pick t (startOf st) (endOf st)) moves), subst (λ (x : Edge). Starts x (endOf (next st)) (markedRows rest)) from ih)
   after-starts n st ok what.Stuck e ih =
-      let stays : next st .lexer .place ≡ st .lexer .place = stuck-stays s table edition fit st ok e in
-      (
+      let stays : next st .lexer .place ≡ st .lexer .place = stuck-stays s table edition fit st ok e in (
         ap (λ (p : Place). record { byte = p .«previous_byte» .0; line = p .span .start .line; column = p .span .start .column .0 }) stays,
         tt,
       )

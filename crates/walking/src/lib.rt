@@ -8,8 +8,8 @@ pub use calls::are_calls;
 pub use calls::call_at;
 use cursor::Cursor;
 use cursor::Status;
-use libc::STDOUT_FILENO;
 use layout::Layout;
+use libc::STDOUT_FILENO;
 use lookahead::Given;
 use lookahead::Peeked;
 use lookahead::answer;
@@ -105,7 +105,10 @@ pub fn ask(list: &[u32], cursor: Cursor, call: Call) -> Told
     match call {
         Call::Next => told_given(cursor, lookahead::next(Layout::Whole, list, cursor)),
         Call::Peek(n) => told_peeked(cursor, lookahead::peek(Layout::Whole, list, cursor, n)),
-        Call::LookAhead(n) => told_peeked(cursor, lookahead::look_ahead(Layout::Whole, list, cursor, n)),
+        Call::LookAhead(n) => told_peeked(
+            cursor,
+            lookahead::look_ahead(Layout::Whole, list, cursor, n),
+        ),
     }
 }
 

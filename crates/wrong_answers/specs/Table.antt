@@ -8,13 +8,13 @@ use Rattle.table_file.specs.File.{fileOf}
 use Rattle.input.specs.Input.{withGB9c}
 use Rattle.token.specs.Kind as kind
 use Rattle.words.specs.Words.{bytes}
-use Rattle.reading.specs.Status.{endNumber, stuckNumber, refusedNumber}
+use Rattle.reading.specs.Status.{endNumber, stuckNumber, refusedNumber, endHalfNumber, stuckHalfNumber}
 use Rattle.pool_rows.specs.declared.Counts.{Counts}
 use Rattle.pool_lent.specs.Entries.{entryOf}
 use Rattle.pool_lent.specs.declared.Entry.{Entry}
 use Rattle.parse.specs.Numbers.{noNumber}
 use Rattle.slide.specs.Slide.{gone}
-use Rattle.wrong_answers.specs.Wrong.{Wrong, readChar, checkUtf8, checkTable, readTable, firstCluster, scan, next, peek, lookAhead, checkList, rescan, addString, parse, compact}
+use Rattle.wrong_answers.specs.Wrong.{Wrong, readChar, checkUtf8, checkTable, readTable, firstCluster, scan, scanHalf, next, peek, lookAhead, checkList, rescan, addString, parse, compact}
 
 -- ---- what goes in
 
@@ -69,6 +69,21 @@ row kind detail depth start end = (kind + 128 * detail + 1048576 * depth) ∷ st
 abbrev placed : ℕ → ℕ → ℕ → ℕ → ℕ → ℕ → ℕ → ℕ → ℕ → List ℕ
 placed kind depth start end startLine startColumn endLine endColumn indent =
     (kind + 1048576 * depth) ∷ start ∷ end ∷ startLine ∷ startColumn ∷ endLine ∷ endColumn ∷ indent ∷ []
+
+-- a list with room for so many records at half the size, and such a record's five numbers: the first, and where it ends
+abbrev halfZeros : ℕ → List ℕ
+halfZeros n = replicate (5 * n) 0
+
+abbrev halfRow : ℕ → ℕ → List ℕ
+halfRow first end = first ∷ end ∷ 0 ∷ end ∷ 0 ∷ []
+
+-- an Error that stands still
+abbrev stillError : ℕ
+stillError = kind.error + 268435456
+
+-- two names of one byte
+abbrev twoNames : List ℕ
+twoNames = halfRow kind.id 1 ++ halfRow kind.id 2
 
 -- those of a token of one byte, with this first number
 abbrev begun : ℕ → List ℕ
@@ -343,6 +358,24 @@ ofTokens =
     (toOptions ++ row kind.number 0 3 4 5 ++ row kind.curlyClose 0 2 5 6 ++ row kind.stringEnd 0 1 6 7) 7 7
     ∷ []
 
+-- ---- scans into records at half the size
+
+abbrev pub ofHalfScans : List Wrong
+ofHalfScans =
+    -- the room is the list's length by five: here two records have room, and not one
+    scanHalf (bytes "a ") smallTable withGB9c (halfZeros 2) (halfRow kind.id 1 ++ halfZeros 1) refusedNumber 1 1 4
+    -- the status tells the layout
+    ∷ scanHalf (bytes "a") smallTable withGB9c (halfZeros 1) (halfRow kind.id 1) endNumber 1 1 0
+    -- an Error that stands still has the mark
+    ∷ scanHalf (bytes "\r") smallTable withGB9c (halfZeros 1) (halfRow kind.error 0) stuckHalfNumber 1 0 0
+    -- and no other record
+    ∷ scanHalf (bytes "a\r") smallTable withGB9c (halfZeros 2) (halfRow (kind.id + 268435456) 1 ++ halfRow stillError 1) stuckHalfNumber 2 1 0
+    -- the first number of a record is followed by its byte end
+    ∷ scanHalf (bytes "a") smallTable withGB9c (halfZeros 1) (kind.id ∷ 0 ∷ 1 ∷ 1 ∷ 0 ∷ []) endHalfNumber 1 1 0
+    -- a word past the records stays
+    ∷ scanHalf (bytes "a") smallTable withGB9c (replicate 6 7) (halfRow kind.id 1 ++ (0 ∷ [])) endHalfNumber 1 1 0
+    ∷ []
+
 -- ---- look-ahead
 
 abbrev pub ofCursors : List Wrong
@@ -382,6 +415,22 @@ ofCursors =
     ∷ peek (zeros 1) 0 65535 1 stuckNumber 65535 65535 0 shownNothing 0 6
     -- 65,535 tokens may be queued
     ∷ lookAhead (zeros 1) 0 0 1 stuckNumber 65534 0 0 shownNothing 0 7
+    -- at half the size a record starts where the one before it ends, and the first at 0
+    ∷ next twoNames 1 0 2 endHalfNumber 2 0 1 (shows kind.id 0 0 2) 0 0
+    ∷ next twoNames 0 0 2 endHalfNumber 1 0 1 (shows kind.id 0 1 1) 0 0
+    -- one that stands still starts where the one before it does
+    ∷ next (twoNames ++ halfRow stillError 2) 2 0 3 stuckHalfNumber 2 0 1 (shows kind.error 0 2 2) 0 0
+    ∷ next (twoNames ++ halfRow stillError 2) 2 0 3 stuckHalfNumber 2 0 1 (shows kind.error 0 0 2) 0 0
+    -- the mark stands on the last record alone
+    ∷ next (halfRow stillError 0 ++ twoNames) 0 0 3 endHalfNumber 1 0 1 (shows kind.error 0 0 0) 0 0
+    -- and on an Error alone
+    ∷ peek (halfRow (kind.id + 268435456) 1) 0 0 1 stuckHalfNumber 0 1 1 (shows kind.id 0 0 1) 0 0
+    -- bit 29 is never set
+    ∷ lookAhead (halfRow (stillError + 536870912) 0) 0 0 1 stuckHalfNumber 0 1 1 (shows kind.error 0 0 0) 0 0
+    -- a list of ten words has room for two records at half the size
+    ∷ next twoNames 0 0 2 endHalfNumber 0 0 0 shownNothing 0 8
+    -- and for one whole record
+    ∷ next twoNames 0 0 2 endNumber 1 0 1 (shows kind.id 0 0 1) 0 0
     ∷ []
 
 -- ---- another lexer's list

@@ -21,8 +21,9 @@ use Rattle.utf8.specs.Answer as utf8
 use Rattle.cluster.specs.Call as cluster
 use Rattle.rows.specs.First as first
 use Rattle.rows.specs.Row as rows
+use Rattle.half_rows.specs.Half as half
 use Rattle.reading.specs.Scan as reading
-use Rattle.reading.specs.Status.{statusOf}
+use Rattle.reading.specs.Status.{statusOf, halfStatusOf}
 use Rattle.cursor.specs.Cursor.{isFit, recordAt, movedOn, mustQueue, queuedOne, queuedFor}
 use Rattle.lookahead.specs.Told.{recordNumbers, peekedTold}
 use Rattle.lookahead.specs.Seen.{seenAt}
@@ -53,7 +54,7 @@ use Rattle.koto_desks.specs.Words.{countWords, deskWords, lentBy}
 use Rattle.promises.specs.CasesLaws.{formats-computed}
 use Rattle.wrong_answers.specs.Wrong as wrong
 use Rattle.wrong_answers.specs.Wrong.{Wrong, Meets, ShutOut, AllShutOut}
-use Rattle.wrong_answers.specs.Table.{ofBytes, ofTables, ofClusters, ofScans, ofTokens, ofCursors, ofChecks, ofRescans, ofPools, ofDesks}
+use Rattle.wrong_answers.specs.Table.{ofBytes, ofTables, ofClusters, ofScans, ofTokens, ofHalfScans, ofCursors, ofChecks, ofRescans, ofPools, ofDesks}
 
 -- ---- the numbers of an answer
 
@@ -65,6 +66,7 @@ tells (wrong.checkTable table place r) = r ∷ place ∷ []
 tells (wrong.readTable bytes old new count place r) = r ∷ count ∷ place ∷ new
 tells (wrong.firstCluster source table edition len place r) = r ∷ len ∷ place ∷ []
 tells (wrong.scan source table edition old new status count byte r) = r ∷ status ∷ count ∷ byte ∷ new
+tells (wrong.scanHalf source table edition old new status count byte r) = r ∷ status ∷ count ∷ byte ∷ new
 tells (wrong.next list taken queued count status newTaken newQueued shown words place r) = r ∷ newTaken ∷ newQueued ∷ shown ∷ place ∷ words
 tells (wrong.peek list taken queued count status n newQueued shown words place r) = r ∷ newQueued ∷ shown ∷ place ∷ words
 tells (wrong.lookAhead list taken queued count status n newQueued shown words place r) = r ∷ newQueued ∷ shown ∷ place ∷ words
@@ -115,6 +117,10 @@ told (wrong.scan source table edition old new status count byte r) =
     let answer = reading.scanned source table edition (rows.room old) in
     reading.numberOf answer ∷ statusOf answer ∷ reading.countOf answer ∷ reading.placeOf answer
     ∷ rows.putRows old (reading.written source table edition (rows.room old))
+told (wrong.scanHalf source table edition old new status count byte r) =
+    let answer = reading.scanned source table edition (half.room old) in
+    reading.numberOf answer ∷ halfStatusOf answer ∷ reading.countOf answer ∷ reading.placeOf answer
+    ∷ half.putHalves old (reading.writtenMarked source table edition (half.room old))
 told (wrong.next list taken queued count status newTaken newQueued shown words place r) =
     let answer = nextBy list taken queued count status in
     let told = nextTold list taken queued count status in
@@ -147,6 +153,8 @@ meets-told (wrong.checkTable table place r) p = λ i. p .number i ∷ p .place-i
 meets-told (wrong.readTable bytes old new count place r) p = λ i. p .number i ∷ p .count-is i ∷ p .place-is i ∷ p .row i
 meets-told (wrong.firstCluster source table edition len place r) p = λ i. p .number i ∷ p .len-is i ∷ p .place-is i ∷ []
 meets-told (wrong.scan source table edition old new status count byte r) p =
+    λ i. p .number i ∷ p .status-is i ∷ p .count-is i ∷ p .byte-is i ∷ p .words i
+meets-told (wrong.scanHalf source table edition old new status count byte r) p =
     λ i. p .number i ∷ p .status-is i ∷ p .count-is i ∷ p .byte-is i ∷ p .words i
 meets-told (wrong.next list taken queued count status newTaken newQueued shown words place r) p =
     λ i. p .number i ∷ p .taken-is i ∷ p .queued-is i ∷ p .shown-is i ∷ p .place-is i ∷ p .words-are i
@@ -218,8 +226,12 @@ pub tokens-shut-out : AllShutOut ofTokens
 unfolding formats-computed same rows.wordsOfAll rows.putRows
 tokens-shut-out = others-shut-out ofTokens refl
 
+pub half-scans-shut-out : AllShutOut ofHalfScans
+unfolding formats-computed same half.putHalves reading.markAll reading.writtenMarked
+half-scans-shut-out = others-shut-out ofHalfScans refl
+
 pub cursors-shut-out : AllShutOut ofCursors
-unfolding formats-computed same first.rowFits first.fitsBelow rows.rowAt rows.fitsAt rows.shownAt isFit recordAt movedOn mustQueue queuedOne queuedFor seenAt next.nextOf
+unfolding formats-computed same first.rowFits first.fitsBelow rows.rowAt rows.fitsAt rows.shownAt half.rowAt half.fitsAt half.shownAt isFit recordAt movedOn mustQueue queuedOne queuedFor seenAt next.nextOf
     peek.queuedAt peek.peekOf lookAheadOf
 cursors-shut-out = others-shut-out ofCursors refl
 

@@ -10,6 +10,7 @@ use Rattle.koto_text.specs.Bytes.{ReadCharIs, CheckUtf8Is}
 use Rattle.koto_text.specs.Tables.{CheckTableIs, ReadTableIs}
 use Rattle.koto_text.specs.Clusters.{FirstClusterIs}
 use Rattle.koto_lexer.specs.Scans.{ScanIs}
+use Rattle.koto_half.specs.Halves.{ScanHalfIs}
 use Rattle.koto_lexer.specs.Cursors.{NextIs, PeekIs, LookAheadIs}
 use Rattle.koto_check.specs.Checks.{CheckListIs}
 use Rattle.koto_rescan.specs.Rescans.{editOf, RescanIs}
@@ -32,6 +33,7 @@ pub data Wrong : Type 0 where
   firstCluster : (source table : List ℕ) (edition len place r : ℕ) → Wrong
   -- source, table, edition, list; list, status, count, byte
   scan : (source table : List ℕ) (edition : ℕ) (old new : List ℕ) (status count byte r : ℕ) → Wrong
+  scanHalf : (source table : List ℕ) (edition : ℕ) (old new : List ℕ) (status count byte r : ℕ) → Wrong
   -- list, the cursor's four numbers; taken, queued, shown, record, place
   next : (list : List ℕ) (taken queued count status newTaken newQueued shown : ℕ) (words : List ℕ) (place r : ℕ) → Wrong
   -- list, the cursor's four numbers, position; queued, shown, record, place
@@ -59,6 +61,7 @@ Meets (checkTable table place r) = CheckTableIs table place r
 Meets (readTable bytes old new count place r) = ReadTableIs bytes old new count place r
 Meets (firstCluster source table edition len place r) = FirstClusterIs source table edition len place r
 Meets (scan source table edition old new status count byte r) = ScanIs source table edition old new status count byte r
+Meets (scanHalf source table edition old new status count byte r) = ScanHalfIs source table edition old new status count byte r
 Meets (next list taken queued count status newTaken newQueued shown words place r) =
     NextIs list taken queued count status newTaken newQueued shown words place r
 Meets (peek list taken queued count status n newQueued shown words place r) = PeekIs list taken queued count status n newQueued shown words place r
