@@ -3,10 +3,7 @@
 // It reads a token with the crate `lexer`, which knows no list, and stores its record with the crate `layout`, which knows no source: one loop for
 // both layouts. What it must answer and write stands in the crate `reading`.
 ghost use mathlib.Core.Path.{_≡_};
-ghost use mathlib.Core.List.{[]};
 ghost use Prim.Native.Nat.{_≤_};
-ghost use lib.Dec.{ltb};
-ghost use Rattle.base.specs.Pick.{pick};
 ghost use Rattle.base.specs.Refusal.{sourceMost};
 ghost use Rattle.property.specs.Table.{propertiesAt};
 ghost use Rattle.fitness.specs.Fit.{FitTable};

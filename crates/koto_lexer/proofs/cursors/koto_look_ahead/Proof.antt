@@ -1,8 +1,5 @@
 -- `cursors::koto_look_ahead` meets its contract: the inner call's answer is told. Assumes nothing.
-use mathlib.Core.Path.{subst}
 use borrow.Author.Needs.{needs}
-use Rattle.koto_lexer.specs.Cursors.{LookedIs}
-use Rattle.lookahead.specs.declared.Peeked.{Peeked}
 use Rattle.koto_lexer.proofs.cursors.koto_look_ahead.Statement.{statement}
 use Rattle.koto_lexer.proofs.cursors.koto_look_ahead.Tie as tie
 
