@@ -1,7 +1,9 @@
 // `next`, `peek` and `look_ahead` for C. A cursor is its numbers: taken, queued, the count, and the status as a scan writes it, which tells the
 // list's layout too.
 ghost use mathlib.Core.Path.{_≡_};
-ghost use Rattle.koto_lexer.specs.Cursors.{cursorOf, nextBy, NextIs, LookedIs, peekBy, PeekIs, lookBy, LookAheadIs};
+ghost use Prim.Native.Nat.{_≤_, _<_};
+ghost use Rattle.reading.specs.Status.{endHalfNumber};
+ghost use Rattle.koto_lexer.specs.Cursors.{cursorOf, nextBy, GivenIs, NextIs, LookedIs, peekBy, PeekIs, lookBy, LookAheadIs};
 use cursor::Cursor;
 use cursor::Status;
 use layout::Layout;
@@ -26,9 +28,10 @@ fn cursor_of(taken: usize, queued: usize, count: usize, status: Status) -> Curso
 
 // ---- `next`
 
-// The inner call's answer for a cursor of these numbers. Each status has an arm of its own, so that LLVM compiles the call for the one
-// status and the one layout.
+// The inner call's answer for a cursor of these numbers over whole records. Each status has an arm of its own, and each layout a function, so that
+// LLVM compiles the call for the one status and the one layout, and a list at half the size costs a whole one nothing.
 fn next_by(list: &[u32], taken: usize, queued: usize, count: usize, status: u32) -> Given
+    requires { ⌜ status < endHalfNumber ⌝ }
     ensures { λ r. ⌜ r ≡ nextBy (now (list .entry)) taken queued count status ⌝ }
 {
     match status {
@@ -42,6 +45,16 @@ fn next_by(list: &[u32], taken: usize, queued: usize, count: usize, status: u32)
             list,
             cursor_of(taken, queued, count, Status::Stuck),
         ),
+        _ => Given::BadState,
+    }
+}
+
+// The same of a list at half the size.
+fn half_next_by(list: &[u32], taken: usize, queued: usize, count: usize, status: u32) -> Given
+    requires { ⌜ endHalfNumber ≤ status ⌝ }
+    ensures { λ r. ⌜ r ≡ nextBy (now (list .entry)) taken queued count status ⌝ }
+{
+    match status {
         END_HALF => lookahead::next(
             Layout::Half,
             list,
@@ -54,6 +67,27 @@ fn next_by(list: &[u32], taken: usize, queued: usize, count: usize, status: u32)
         ),
         _ => Given::BadState,
     }
+}
+
+// Writes the numbers of an answer, and hands its refusal on.
+fn tell_given(
+    given: Given,
+    taken: &mut usize,
+    queued: &mut usize,
+    shown: &mut u32,
+    record: &mut [u32; 10],
+    place: &mut usize,
+) -> u32
+    ensures { λ r. ⌜ GivenIs given (now (taken .entry)) (now (queued .entry))
+        (now (taken .exit)) (now (queued .exit)) (now (shown .exit)) (now («record» .exit)) (now (place .exit)) r ⌝ }
+{
+    let told = answer::given_told(given, *taken, *queued);
+    *taken = told.taken;
+    *queued = told.queued;
+    *shown = told.shown;
+    answer::put_record(record, told.row);
+    *place = answer::given_place(given);
+    answer::given_number(given)
 }
 
 // Hands out the next token, and moves the cursor on. Refused are a cursor that is unfit with 8, then a record that may not be shown with 9;
@@ -72,14 +106,12 @@ pub extern "C" fn koto_next(
     ensures { λ r. ⌜ NextIs (now (list .entry)) (now (taken .entry)) (now (queued .entry)) count status
         (now (taken .exit)) (now (queued .exit)) (now (shown .exit)) (now («record» .exit)) (now (place .exit)) r ⌝ }
 {
-    let given = next_by(list, *taken, *queued, count, status);
-    let told = answer::given_told(given, *taken, *queued);
-    *taken = told.taken;
-    *queued = told.queued;
-    *shown = told.shown;
-    answer::put_record(record, told.row);
-    *place = answer::given_place(given);
-    answer::given_number(given)
+    if status < END_HALF {
+        let given = next_by(list, *taken, *queued, count, status);
+        return tell_given(given, taken, queued, shown, record, place);
+    }
+    let given = half_next_by(list, *taken, *queued, count, status);
+    tell_given(given, taken, queued, shown, record, place)
 }
 
 // ---- `peek` and `look_ahead`
@@ -103,8 +135,9 @@ fn tell_looked(
     answer::peeked_number(looked)
 }
 
-// The inner call's answer for a cursor of these numbers.
+// The inner call's answer for a cursor of these numbers over whole records.
 fn peek_by(list: &[u32], taken: usize, queued: usize, count: usize, status: u32, n: usize) -> Peeked
+    requires { ⌜ status < endHalfNumber ⌝ }
     ensures { λ r. ⌜ r ≡ peekBy (now (list .entry)) taken queued count status n ⌝ }
 {
     match status {
@@ -120,6 +153,23 @@ fn peek_by(list: &[u32], taken: usize, queued: usize, count: usize, status: u32,
             cursor_of(taken, queued, count, Status::Stuck),
             n,
         ),
+        _ => Peeked::BadState,
+    }
+}
+
+// The same of a list at half the size.
+fn half_peek_by(
+    list: &[u32],
+    taken: usize,
+    queued: usize,
+    count: usize,
+    status: u32,
+    n: usize,
+) -> Peeked
+    requires { ⌜ endHalfNumber ≤ status ⌝ }
+    ensures { λ r. ⌜ r ≡ peekBy (now (list .entry)) taken queued count status n ⌝ }
+{
+    match status {
         END_HALF => lookahead::peek(
             Layout::Half,
             list,
@@ -153,12 +203,17 @@ pub extern "C" fn koto_peek(
     ensures { λ r. ⌜ PeekIs (now (list .entry)) taken (now (queued .entry)) count status n
         (now (queued .exit)) (now (shown .exit)) (now («record» .exit)) (now (place .exit)) r ⌝ }
 {
-    let looked = peek_by(list, taken, *queued, count, status, n);
+    if status < END_HALF {
+        let looked = peek_by(list, taken, *queued, count, status, n);
+        return tell_looked(looked, taken, queued, shown, record, place);
+    }
+    let looked = half_peek_by(list, taken, *queued, count, status, n);
     tell_looked(looked, taken, queued, shown, record, place)
 }
 
-// The inner call's answer for a cursor of these numbers.
+// The inner call's answer for a cursor of these numbers over whole records.
 fn look_by(list: &[u32], taken: usize, queued: usize, count: usize, status: u32, n: usize) -> Peeked
+    requires { ⌜ status < endHalfNumber ⌝ }
     ensures { λ r. ⌜ r ≡ lookBy (now (list .entry)) taken queued count status n ⌝ }
 {
     match status {
@@ -174,6 +229,23 @@ fn look_by(list: &[u32], taken: usize, queued: usize, count: usize, status: u32,
             cursor_of(taken, queued, count, Status::Stuck),
             n,
         ),
+        _ => Peeked::BadState,
+    }
+}
+
+// The same of a list at half the size.
+fn half_look_by(
+    list: &[u32],
+    taken: usize,
+    queued: usize,
+    count: usize,
+    status: u32,
+    n: usize,
+) -> Peeked
+    requires { ⌜ endHalfNumber ≤ status ⌝ }
+    ensures { λ r. ⌜ r ≡ lookBy (now (list .entry)) taken queued count status n ⌝ }
+{
+    match status {
         END_HALF => lookahead::look_ahead(
             Layout::Half,
             list,
@@ -207,6 +279,10 @@ pub extern "C" fn koto_look_ahead(
     ensures { λ r. ⌜ LookAheadIs (now (list .entry)) taken (now (queued .entry)) count status n
         (now (queued .exit)) (now (shown .exit)) (now («record» .exit)) (now (place .exit)) r ⌝ }
 {
-    let looked = look_by(list, taken, *queued, count, status, n);
+    if status < END_HALF {
+        let looked = look_by(list, taken, *queued, count, status, n);
+        return tell_looked(looked, taken, queued, shown, record, place);
+    }
+    let looked = half_look_by(list, taken, *queued, count, status, n);
     tell_looked(looked, taken, queued, shown, record, place)
 }
