@@ -2,7 +2,7 @@
 -- Assumes nothing.
 use Prim.Native.Nat.{ℕ, _+_, _*_}
 use mathlib.Core.List.{List, [], _∷_, _++_}
-use lib.ListN.{take, drop, replicate}
+use lib.ListN.{length, take, drop, replicate}
 use Rattle.fitness.specs.Small.{smallTable}
 use Rattle.table_file.specs.File.{fileOf}
 use Rattle.input.specs.Input.{withoutGB9c, withGB9c}
@@ -80,6 +80,11 @@ stillError = kind.error + 268435456
 abbrev twoNames : List ℕ
 twoNames = halfRow kind.id 1 ++ halfRow kind.id 2
 
+-- of a token without a detail, wherever it stands: kind and depth, bytes, its first line and column, its last, and the indent
+abbrev placed : ℕ → ℕ → ℕ → ℕ → ℕ → ℕ → ℕ → ℕ → ℕ → List ℕ
+placed kind depth start end startLine startColumn endLine endColumn indent =
+    (kind + 1048576 * depth) ∷ start ∷ end ∷ startLine ∷ startColumn ∷ endLine ∷ endColumn ∷ indent ∷ []
+
 -- those of a token of one byte, with this first number
 abbrev begun : ℕ → List ℕ
 begun first = first ∷ drop 1 (row 0 0 0 0 1)
@@ -98,17 +103,17 @@ toOptions = row kind.stringStart 1 0 0 1 ++ row kind.curlyOpen 0 1 1 2 ++ row ki
 
 -- the numbers of a newline at a place of the first line
 abbrev newLineAt : ℕ → List ℕ
-newLineAt start = kind.newLine ∷ start ∷ start + 1 ∷ 0 ∷ start ∷ 1 ∷ 0 ∷ 0 ∷ []
+newLineAt start = kind.newLine ∷ start ∷ (start + 1) ∷ 0 ∷ start ∷ 1 ∷ 0 ∷ 0 ∷ []
 
 -- those of a name of one byte, the first of the second line, which starts there
 abbrev nameBelow : ℕ → List ℕ
-nameBelow start = kind.id ∷ start ∷ start + 1 ∷ 1 ∷ 0 ∷ 1 ∷ 1 ∷ 0 ∷ []
+nameBelow start = kind.id ∷ start ∷ (start + 1) ∷ 1 ∷ 0 ∷ 1 ∷ 1 ∷ 0 ∷ []
 
 -- the list of `'a`, newline, `b'`: one literal goes over both lines
 abbrev overLines : List ℕ
 overLines =
-    row kind.stringStart 1 0 0 1 ++ (kind.stringLiteral + 1048576 ∷ 1 ∷ 4 ∷ 0 ∷ 1 ∷ 1 ∷ 1 ∷ 0 ∷ [])
-    ++ (kind.stringEnd + 1048576 ∷ 4 ∷ 5 ∷ 1 ∷ 1 ∷ 1 ∷ 2 ∷ 0 ∷ [])
+    row kind.stringStart 1 0 0 1 ++ ((kind.stringLiteral + 1048576) ∷ 1 ∷ 4 ∷ 0 ∷ 1 ∷ 1 ∷ 1 ∷ 0 ∷ [])
+    ++ ((kind.stringEnd + 1048576) ∷ 4 ∷ 5 ∷ 1 ∷ 1 ∷ 1 ∷ 2 ∷ 0 ∷ [])
 
 -- what is shown where no token is
 abbrev shownNothing : List ℕ
@@ -144,6 +149,8 @@ ofBytes =
     ∷ readChar cutEuro 0 0 0 3
     -- ED with a second byte over 9F would be a surrogate
     ∷ readChar (0xed ∷ 0xa0 ∷ 0x80 ∷ []) 0 0xd800 3 0
+    -- C0 and C1 open no sequence: C0 80 is not U+0000
+    ∷ readChar (0xc0 ∷ 0x80 ∷ []) 0 0 2 0
     -- F5 begins no character
     ∷ readChar (0xf5 ∷ 0x80 ∷ 0x80 ∷ 0x80 ∷ []) 0 0x140000 4 0
     -- the place is where the first wrong sequence begins: neither 0 nor the byte after
@@ -221,6 +228,15 @@ ofScans =
     ∷ scan (bytes "a\r") smallTable withGB9c (zeros 2) (row kind.id 0 0 0 1 ++ row kind.error 0 0 1 1) stuckNumber 2 1 0
     -- the list's last word is past the records
     ∷ scan (bytes "a") smallTable withGB9c (replicate 9 7) (row kind.id 0 0 0 1 ++ (0 ∷ [])) endNumber 1 1 0
+    -- the first number has room for 128 kinds below the detail
+    ∷ scan (bytes "'") smallTable withGB9c (zeros 1) ((kind.stringStart + 64) ∷ drop 1 (row kind.stringStart 1 0 0 1)) endNumber 1 1 0
+    -- the byte start is the second number, and the indent is the eighth
+    ∷ scan (bytes "a") smallTable withGB9c (replicate 8 7) (kind.id ∷ 7 ∷ 1 ∷ 0 ∷ 0 ∷ 0 ∷ 1 ∷ 0 ∷ []) endNumber 1 1 0
+    ∷ scan (bytes "a") smallTable withGB9c (replicate 9 7) (kind.id ∷ 0 ∷ 1 ∷ 0 ∷ 0 ∷ 0 ∷ 1 ∷ 7 ∷ 0 ∷ []) endNumber 1 1 0
+    -- a record that lacks its last number has no room
+    ∷ scan (bytes "a") smallTable withGB9c (replicate 7 7) (take 7 (row kind.id 0 0 0 1)) endNumber 1 1 0
+    -- there are two editions
+    ∷ scan [] smallTable 3 [] [] endNumber 0 0 0
     -- a list that is full is refusal 4, and its scan has not come to the end
     ∷ scan (bytes "a") smallTable withGB9c [] [] refusedNumber 0 0 5
     ∷ scan (bytes "a") smallTable withGB9c [] [] endNumber 0 0 4
@@ -249,6 +265,97 @@ ofScans =
     ∷ scan (bytes "'{x:5}'") smallTable withGB9c (zeros 8)
     (toOptions ++ row kind.stringLiteral 0 3 4 4 ++ row kind.number 0 2 4 5 ++ row kind.curlyClose 0 2 5 6 ++ row kind.stringEnd 0 1 6 7)
     endNumber 8 7 0
+    ∷ []
+
+-- ---- tokens
+
+-- a scan that comes to the end of a source and leaves this list, of which so many records count, in a list of zeros with this room
+abbrev lexes : List ℕ → List ℕ → ℕ → ℕ → Wrong
+lexes source new count room = scan source smallTable withGB9c (zeros room) new endNumber count (length source) 0
+
+abbrev pub ofTokens : List Wrong
+ofTokens =
+    -- ASCII characters have a column each
+    lexes (bytes "ab") (placed kind.id 0 0 2 0 0 0 1 0) 1 1
+    -- bytes are counted from the start of the source, and not from the token
+    ∷ lexes (bytes "a ") (row kind.id 0 0 0 1 ++ placed kind.whitespace 0 1 1 0 1 0 2 0) 2 2
+    -- a token's bytes end where reading came to, and its span too
+    ∷ lexes (bytes "a") (placed kind.id 0 0 0 0 0 0 1 0) 1 1
+    ∷ lexes (bytes "a") (placed kind.id 0 0 1 0 0 0 0 0) 1 1
+    -- a newline ends on the line below
+    ∷ lexes (bytes "\n") (placed kind.newLine 0 0 1 0 0 0 0 0) 1 1
+    -- strings in single and in double quotes are told apart, and so are raw ones
+    ∷ lexes (bytes "'") (row kind.stringStart 0 0 0 1) 1 1
+    ∷ lexes (bytes "r'") (row kind.stringStart 2 0 0 2) 1 1
+    -- "elsewhere" is a name
+    ∷ lexes (bytes "elsewhere") (row kind.else 0 0 0 4 ++ row kind.id 0 0 4 9) 2 2
+    -- a keyword is told by all its bytes, and has its own kind
+    ∷ lexes (bytes "breax") (row kind.break 0 0 0 5) 1 1
+    ∷ lexes (bytes "then") (row kind.throw 0 0 0 4) 1 1
+    -- ".." is Range, and only "..." is Ellipsis
+    ∷ lexes (bytes "..") (row kind.ellipsis 0 0 0 2) 1 1
+    -- a byte that begins no symbol is none
+    ∷ lexes (bytes "$") (row kind.colon 0 0 0 1) 1 1
+    -- tabs are whitespace
+    ∷ lexes (bytes "\t") (row kind.error 0 0 0 1) 1 1
+    -- an underscore is a digit of a number
+    ∷ lexes (bytes "1_0") (row kind.number 0 0 0 1 ++ row kind.id 0 0 1 3) 2 2
+    -- the indent becomes 0 when a token is read after a newline
+    ∷ lexes (bytes "  a\nb")
+    (placed kind.whitespace 0 0 2 0 0 0 2 2 ++ placed kind.id 0 2 3 0 2 0 3 2 ++ placed kind.newLine 0 3 4 0 3 1 0 2
+    ++ placed kind.id 0 4 5 1 0 1 1 2) 4 4
+    -- after the end of a string its mode is popped
+    ∷ lexes (bytes "''a") (row kind.stringStart 1 0 0 1 ++ row kind.stringEnd 0 1 1 2 ++ row kind.stringLiteral 0 1 2 3) 3 3
+    -- after its start the mode of a string is on top
+    ∷ lexes (bytes "'a'") (row kind.stringStart 1 0 0 1 ++ row kind.id 0 1 1 2 ++ row kind.stringStart 1 1 2 3) 3 3
+    -- a record has the depth of the lexer before its token
+    ∷ lexes (bytes "'a'") (row kind.stringStart 1 1 0 1 ++ row kind.stringLiteral 0 1 1 2 ++ row kind.stringEnd 0 1 2 3) 3 3
+    -- "\r\n" is one newline of two bytes
+    ∷ lexes (bytes "\r\n") (placed kind.newLine 0 0 1 0 0 1 0 0 ++ placed kind.newLine 0 1 2 1 0 2 0 0) 2 2
+    -- "\r" by itself is no newline
+    ∷ lexes (bytes "\r") (placed kind.newLine 0 0 1 0 0 1 0 0) 1 1
+    -- in a string it is an Error that stands still, and no contents
+    ∷ lexes (bytes "'\r") (row kind.stringStart 1 0 0 1 ++ row kind.stringLiteral 0 1 1 2) 2 2
+    -- "#-" inside a comment opens nothing: the first "-#" behind it closes the comment
+    ∷ lexes (bytes "#- #--# -#") (row kind.commentMulti 0 0 0 10 ++ zeros 3) 1 4
+    -- an unclosed comment is an Error that reaches the end, and not one that stands still
+    ∷ scan (bytes "#-") smallTable withGB9c (zeros 1) (row kind.error 0 0 0 0) stuckNumber 1 0 0
+    -- a quote with one hash too few after it is contents
+    ∷ lexes (bytes "r#'''#")
+    (row kind.stringStart 5 0 0 3 ++ row kind.stringLiteral 0 1 3 3 ++ row kind.stringEnd 0 1 3 4 ++ row kind.stringStart 1 0 4 5
+    ++ row kind.stringLiteral 0 1 5 6) 5 5
+    -- where a hash is missing, what stands there may still be the end
+    ∷ lexes (bytes "r##''#'##") (row kind.stringStart 7 0 0 4 ++ row kind.stringLiteral 0 1 4 9 ++ zeros 1) 2 3
+    -- after the end of a raw string its mode is popped
+    ∷ lexes (bytes "r''a")
+    (row kind.stringStart 3 0 0 2 ++ row kind.stringLiteral 0 1 2 2 ++ row kind.stringEnd 0 1 2 3 ++ row kind.stringLiteral 0 1 3 4) 4 4
+    -- "\u{" covers its brace, which opens no template
+    ∷ lexes (bytes "'\\u{41}'")
+    (row kind.stringStart 1 0 0 1 ++ row kind.stringLiteral 0 1 1 3 ++ row kind.curlyOpen 0 1 3 4 ++ row kind.number 0 2 4 6
+    ++ row kind.curlyClose 0 2 6 7 ++ row kind.stringEnd 0 1 7 8) 6 6
+    -- a "}" with no alignment after it ends the options, also where it stands first
+    ∷ lexes (bytes "'{x:}'")
+    (toOptions ++ row kind.stringLiteral 0 3 4 6 ++ zeros 2) 5 7
+    -- behind the options the brace belongs to the template again
+    ∷ lexes (bytes "'{x:5}a'")
+    (toOptions ++ row kind.stringLiteral 0 3 4 5 ++ row kind.curlyClose 0 3 5 6 ++ row kind.stringLiteral 0 1 6 7 ++ row kind.stringEnd 0 1 7 8) 8 8
+    -- the options end at the next "}", and not at a "{"
+    ∷ lexes (bytes "'{x:{<5}'")
+    (toOptions ++ row kind.stringLiteral 0 3 4 4 ++ row kind.curlyOpen 0 2 4 5 ++ row kind.less 0 3 5 6 ++ row kind.number 0 3 6 7
+    ++ row kind.curlyClose 0 3 7 8 ++ row kind.stringStart 1 2 8 9) 10 10
+    -- `1.exp` is a number, a dot and a name
+    ∷ lexes (bytes "1.exp") (row kind.number 0 0 0 3 ++ row kind.id 0 0 3 5 ++ zeros 1) 2 3
+    -- hex digits have no exponent after them
+    ∷ lexes (bytes "0x1e+5") (row kind.number 0 0 0 6 ++ zeros 2) 1 3
+    -- a tab indents as a space does
+    ∷ lexes (bytes "\ta") (placed kind.whitespace 0 0 1 0 0 0 1 1 ++ row kind.id 0 0 1 2) 2 2
+    -- "else" is tested before the Dot rule
+    ∷ lexes (bytes "x.else") (row kind.id 0 0 0 1 ++ row kind.dot 0 0 1 2 ++ row kind.id 0 0 2 6) 3 3
+    -- the other keywords are names after a Dot
+    ∷ lexes (bytes "x.if") (row kind.id 0 0 0 1 ++ row kind.dot 0 0 1 2 ++ row kind.if 0 0 2 4) 3 3
+    -- ":" in a template pushes the format mode, and no map's
+    ∷ lexes (bytes "'{x:5}'")
+    (toOptions ++ row kind.number 0 3 4 5 ++ row kind.curlyClose 0 2 5 6 ++ row kind.stringEnd 0 1 6 7) 7 7
     ∷ []
 
 -- ---- scans into records at half the size
@@ -289,6 +396,10 @@ ofCursors =
     ∷ next aSpace 3 0 2 endNumber 3 0 0 shownNothing 0 9
     -- kinds go from 0 to 80
     ∷ next (begun 81) 0 0 1 endNumber 1 0 1 (shows 81 0 0 1) 0 0
+    -- only a StringStart has a detail
+    ∷ next (begun (kind.id + 128)) 0 0 1 endNumber 1 0 1 (shows kind.id 1 0 1) 0 0
+    -- a raw string in single quotes with 255 hashes has detail 513, which may be shown
+    ∷ next (begun (kind.stringStart + 128 * 513)) 0 0 1 endNumber 0 0 0 shownNothing 0 9
     -- a lexer has at most 64 modes
     ∷ next (begun (kind.id + 1048576 * 65)) 0 0 1 endNumber 1 0 1 (kind.id ∷ 0 ∷ 0 ∷ 1 ∷ 0 ∷ 0 ∷ 0 ∷ 1 ∷ 0 ∷ 65 ∷ []) 0 0
     -- no bit above the depth is set in a record that is shown
@@ -360,6 +471,16 @@ ofPools =
     ∷ addString badAtOne poolBytes poolEntries (counts 1 1) poolBytes poolEntries (counts 1 1) 0 0 3
     -- and comes before 8
     ∷ addString badAtOne poolBytes poolEntries (counts 3 1) poolBytes poolEntries (counts 3 1) 0 0 8
+    -- and an unfit pool takes no string
+    ∷ addString (bytes "b") poolBytes poolEntries (counts 3 1) (bytes "ab" ++ (0 ∷ [])) poolEntries (counts 4 2) 3 0 0
+    -- the counts are those after the addition
+    ∷ addString (bytes "b") poolBytes poolEntries (counts 1 1) (bytes "ab" ++ (0 ∷ [])) (entryOf 0 1 ∷ entryOf 1 1 ∷ []) (counts 1 1) 1 0 0
+    -- a string that fills the last free byte has room
+    ∷ addString (bytes "bc") poolBytes poolEntries (counts 1 1) poolBytes poolEntries (counts 1 1) 0 0 13
+    -- equal strings have equal lengths
+    ∷ addString (bytes "ab") poolBytes poolEntries (counts 1 1) poolBytes poolEntries (counts 1 1) 0 0 0
+    -- of two equal entries the first counts
+    ∷ addString (bytes "a") (bytes "aa") (entryOf 0 1 ∷ entryOf 1 1 ∷ []) (counts 2 2) (bytes "aa") (entryOf 0 1 ∷ entryOf 1 1 ∷ []) (counts 2 2) 1 0 0
     -- entries run end to end
     ∷ addString (bytes "a") poolBytes (entryOf 0 1 ∷ entryOf 2 1 ∷ []) (counts 2 3) poolBytes (entryOf 0 1 ∷ entryOf 2 1 ∷ []) (counts 2 3) 0 0 0
     -- indices count from 0
@@ -375,6 +496,11 @@ ofPools =
     -- the fill's index is that of the string added last
     ∷ parse (bytes "b<") smallTable withGB9c poolBytes poolEntries (counts 1 1) (bytes "ab" ++ (0 ∷ [])) (entryOf 0 1 ∷ entryOf 1 1 ∷ [])
     (counts 2 2) (fillAt 1 noNumber 0 0) 0 0
+    -- what was added is in the entries, and in the counts
+    ∷ parse (bytes "b<") smallTable withGB9c poolBytes poolEntries (counts 1 1) (bytes "ab" ++ (0 ∷ [])) poolEntries (counts 2 2)
+    (fillAt 1 noNumber 0 1) 0 0
+    ∷ parse (bytes "b<") smallTable withGB9c poolBytes poolEntries (counts 1 1) (bytes "ab" ++ (0 ∷ [])) (entryOf 0 1 ∷ entryOf 1 1 ∷ [])
+    (counts 1 1) (fillAt 1 noNumber 0 1) 0 0
     -- no representation is none, and not 0, which is Debug
     ∷ parse [] smallTable withGB9c [] [] (counts 0 0) [] [] (counts 0 0)
     (0 ∷ noNumber ∷ noNumber ∷ 0 ∷ noNumber ∷ noNumber ∷ noNumber ∷ []) 0 0

@@ -53,7 +53,7 @@ use Rattle.koto_desks.specs.Words.{countWords, deskWords, lentBy}
 use Rattle.promises.specs.CasesLaws.{formats-computed}
 use Rattle.wrong_answers.specs.Wrong as wrong
 use Rattle.wrong_answers.specs.Wrong.{Wrong, Meets, ShutOut, AllShutOut}
-use Rattle.wrong_answers.specs.Table.{ofBytes, ofTables, ofClusters, ofScans, ofHalfScans, ofCursors, ofChecks, ofRescans, ofPools, ofDesks}
+use Rattle.wrong_answers.specs.Table.{ofBytes, ofTables, ofClusters, ofScans, ofTokens, ofHalfScans, ofCursors, ofChecks, ofRescans, ofPools, ofDesks}
 
 -- ---- the numbers of an answer
 
@@ -224,6 +224,10 @@ scans-shut-out = others-shut-out ofScans refl
 pub half-scans-shut-out : AllShutOut ofHalfScans
 unfolding formats-computed same half.putHalves reading.markAll reading.writtenMarked
 half-scans-shut-out = others-shut-out ofHalfScans refl
+
+pub tokens-shut-out : AllShutOut ofTokens
+unfolding formats-computed same rows.wordsOfAll rows.putRows
+tokens-shut-out = others-shut-out ofTokens refl
 
 pub cursors-shut-out : AllShutOut ofCursors
 unfolding formats-computed same first.rowFits first.fitsBelow rows.rowAt rows.fitsAt rows.shownAt half.rowAt half.fitsAt half.shownAt isFit recordAt movedOn mustQueue queuedOne queuedFor seenAt next.nextOf

@@ -6,9 +6,9 @@ use Prim.Native.Nat.{ℕ}
 use mathlib.Core.List.{List, [], _∷_}
 use Rattle.pool_rows.specs.declared.Counts.{Counts}
 use Rattle.pool_lent.specs.declared.Entry.{Entry}
-use Rattle.koto_lexer.specs.Bytes.{ReadCharIs, CheckUtf8Is}
-use Rattle.koto_lexer.specs.Tables.{CheckTableIs, ReadTableIs}
-use Rattle.koto_lexer.specs.Clusters.{FirstClusterIs}
+use Rattle.koto_text.specs.Bytes.{ReadCharIs, CheckUtf8Is}
+use Rattle.koto_text.specs.Tables.{CheckTableIs, ReadTableIs}
+use Rattle.koto_text.specs.Clusters.{FirstClusterIs}
 use Rattle.koto_lexer.specs.Scans.{ScanIs}
 use Rattle.koto_half.specs.Halves.{ScanHalfIs}
 use Rattle.koto_lexer.specs.Cursors.{NextIs, PeekIs, LookAheadIs}

@@ -1,0 +1,4 @@
+pub mod Bytes
+pub mod Tables
+pub mod Clusters
+pub mod CallsLaws
