@@ -130,6 +130,11 @@ impl Library {
         self.scan_by(raw::koto_scan, which, edition)
     }
 
+    /// as of `scan`, into records at half the size
+    pub fn scan_half(&mut self, which: Table, edition: u32) -> Said<(u32, usize, usize)> {
+        self.scan_by(raw::koto_scan_half, which, edition)
+    }
+
     /// as of `scan`, with the record's index in the place of the byte where the profile refuses
     pub fn scan_profile(&mut self, which: Table, edition: u32) -> Said<(u32, usize, usize)> {
         self.scan_by(raw::koto_scan_profile, which, edition)

@@ -87,9 +87,21 @@ pub fn put(list: &mut [u32], records: &[answers::Record]) {
     }
 }
 
-/// The list that a host has, by the scan and by the profile's
+/// Document 02's C-5: a record without its start, and bit 28 on an Error that stands still
+fn put_half(list: &mut [u32], records: &[answers::Record], is_stuck: bool) {
+    for (i, (words, record)) in list.chunks_exact_mut(5).zip(records).enumerate() {
+        let mark = u32::from(is_stuck && i + 1 == records.len());
+        words[0] = record[0] | record[1] << 7 | record[9] << 20 | mark << 28;
+        words[1] = record[3];
+        words[2..].copy_from_slice(&record[6..9]);
+    }
+}
+
+/// The list that a host has, by the scan, by the one at half the size and by the profile's
 fn scan(run: &mut Run, source: &[u8], room: usize, host: &Host, dice: &mut Dice) -> Vec<u32> {
     let mut list = vec![OLD; room];
+    // Room for as many records, and sometimes a few words more
+    let mut half = vec![OLD; 5 * (room / 8) + dice.below(5) * dice.below(2)];
     let (wanted, forbidden) = match host.text(run, source, SOURCE_MOST) {
         Err((number, place)) => ((number, (2, 0, place)), None),
         Ok(text) => {
@@ -98,6 +110,7 @@ fn scan(run: &mut Run, source: &[u8], room: usize, host: &Host, dice: &mut Dice)
                 run.tally.deepest(scan.records.iter().map(|record| record[9]).max());
             }
             put(&mut list, &scan.records);
+            put_half(&mut half, &scan.records, matches!(scan.status, Status::Stuck));
             let said = match scan.status {
                 Status::End => (0, (0, scan.records.len(), scan.place)),
                 Status::Stuck => (0, (1, scan.records.len(), scan.place)),
@@ -111,14 +124,37 @@ fn scan(run: &mut Run, source: &[u8], room: usize, host: &Host, dice: &mut Dice)
     run.library.list.fill(&vec![OLD; room]);
     let said = run.library.scan_profile(host.table, host.edition);
     scanned(run, "scan_profile", said, by_profile, source, &list);
+    let is_walked = source.len() < 10_000 && dice.below(3) == 0;
+    run.library.list.fill(&vec![OLD; half.len()]);
+    let said = run.library.scan_half(host.table, host.edition);
+    let by_half = match wanted {
+        (0, (status, count, byte)) => (0, (status + 3, count, byte)),
+        refused => refused,
+    };
+    walked(run, "scan_half", said, by_half, source, &half, host, is_walked.then_some(&mut *dice));
     run.library.list.fill(&vec![OLD; room]);
     let said = run.library.scan(host.table, host.edition);
+    walked(run, "scan", said, wanted, source, &list, host, is_walked.then_some(dice));
+    list
+}
+
+/// Notes what a scan said and left, and walks over that.
+#[allow(clippy::too_many_arguments)]
+fn walked(
+    run: &mut Run,
+    call: &'static str,
+    said: Said<(u32, usize, usize)>,
+    wanted: (u32, (u32, usize, usize)),
+    source: &[u8],
+    list: &[u32],
+    host: &Host,
+    dice: Option<&mut Dice>,
+) {
     let (number, (status, count, _)) = (said.number, said.answer);
-    scanned(run, "scan", said, wanted, source, &list);
-    if number == 0 && (source.len() < 10_000 && dice.below(3) == 0) {
+    scanned(run, call, said, wanted, source, list);
+    if let (0, Some(dice)) = (number, dice) {
         walk(run, source, Cursor { taken: 0, queued: 0, count, status }, host, dice);
     }
-    list
 }
 
 /// Notes what a scan said, and the list that it left.
@@ -178,6 +214,8 @@ fn full_queues(run: &mut Run) {
         run.library.source.fill(&source);
         run.library.list.fill(&vec![OLD; 8 * tokens]);
         let (status, count, _) = run.library.scan(hosts::NEWER.table, hosts::NEWER.edition).answer;
+        walk_by(run, &source, Cursor { taken: 0, queued: 0, count, status }, &hosts::NEWER, &calls);
+        let (status, count, _) = run.library.scan_half(hosts::NEWER.table, hosts::NEWER.edition).answer;
         walk_by(run, &source, Cursor { taken: 0, queued: 0, count, status }, &hosts::NEWER, &calls);
     }
 }

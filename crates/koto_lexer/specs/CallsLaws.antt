@@ -5,7 +5,8 @@ use Prim.Native.Nat.{ℕ}
 use mathlib.Core.Path.{_≡_, sym, _∙_}
 use mathlib.Core.List.{List}
 use Rattle.koto_lexer.specs.Scans.{ScanIs}
-use Rattle.koto_lexer.specs.Cursors.{NextIs, LookedIs, PeekIs, LookAheadIs}
+use Rattle.koto_lexer.specs.Cursors.{GivenIs, NextIs, LookedIs, PeekIs, LookAheadIs}
+use Rattle.lookahead.specs.declared.Given.{Given}
 use Rattle.lookahead.specs.declared.Peeked.{Peeked}
 
 pub koto-scan-has-one-answer : {source table : List ℕ} {edition : ℕ} {old new new′ : List ℕ} {status count byte r status′ count′ byte′ r′ : ℕ}
@@ -19,12 +20,11 @@ koto-scan-has-one-answer p q = (
   p .byte-is ∙ sym (q .byte-is),
 )
 
-pub koto-next-has-one-answer : {list words words′ : List ℕ}
-    {taken queued count status newTaken newQueued shown place r newTaken′ newQueued′ shown′ place′ r′ : ℕ}
-    → NextIs list taken queued count status newTaken newQueued shown words place r
-    → NextIs list taken queued count status newTaken′ newQueued′ shown′ words′ place′ r′
+given-has-one-answer : {given : Given} {words words′ : List ℕ}
+    {taken queued newTaken newQueued shown place r newTaken′ newQueued′ shown′ place′ r′ : ℕ}
+    → GivenIs given taken queued newTaken newQueued shown words place r → GivenIs given taken queued newTaken′ newQueued′ shown′ words′ place′ r′
     → (r ≡ r′) × (newTaken ≡ newTaken′) × (newQueued ≡ newQueued′) × (shown ≡ shown′) × (words ≡ words′) × (place ≡ place′)
-koto-next-has-one-answer p q = (
+given-has-one-answer p q = (
   p .number ∙ sym (q .number),
   p .taken-is ∙ sym (q .taken-is),
   p .queued-is ∙ sym (q .queued-is),
@@ -32,6 +32,13 @@ koto-next-has-one-answer p q = (
   p .words-are ∙ sym (q .words-are),
   p .place-is ∙ sym (q .place-is),
 )
+
+pub koto-next-has-one-answer : (list : List ℕ) (taken queued count status : ℕ) {words words′ : List ℕ}
+    {newTaken newQueued shown place r newTaken′ newQueued′ shown′ place′ r′ : ℕ}
+    → NextIs list taken queued count status newTaken newQueued shown words place r
+    → NextIs list taken queued count status newTaken′ newQueued′ shown′ words′ place′ r′
+    → (r ≡ r′) × (newTaken ≡ newTaken′) × (newQueued ≡ newQueued′) × (shown ≡ shown′) × (words ≡ words′) × (place ≡ place′)
+koto-next-has-one-answer list taken queued count status p q = given-has-one-answer p q
 
 looked-has-one-answer : {looked : Peeked} {words words′ : List ℕ} {taken queued newQueued shown place r newQueued′ shown′ place′ r′ : ℕ}
     → LookedIs looked taken queued newQueued shown words place r → LookedIs looked taken queued newQueued′ shown′ words′ place′ r′

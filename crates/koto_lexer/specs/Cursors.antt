@@ -16,7 +16,6 @@ use Rattle.lookahead.specs.Next.{nextOf}
 use Rattle.lookahead.specs.Peek as peek
 use Rattle.lookahead.specs.Peek.{peekOf}
 use Rattle.lookahead.specs.LookAhead.{lookAheadOf}
-use Rattle.lookahead.specs.declared.answer.Told.{Told}
 use Rattle.cursor.specs.declared.Status.{Status}
 use Rattle.cursor.specs.declared.Status.the-variants.{End, Stuck}
 use Rattle.cursor.specs.declared.Cursor.{Cursor}
@@ -45,18 +44,18 @@ abbrev pub nextBy : List ℕ → ℕ → ℕ → ℕ → ℕ → Given
 nextBy list taken queued count status =
     byStatus (λ (l : Layout) (x : Status). nextOf (roomIn l list) (shownIn l list count) (cursorOf taken queued count x)) given.BadState status
 
--- what it tells
-abbrev pub nextTold : List ℕ → ℕ → ℕ → ℕ → ℕ → Told
-nextTold list taken queued count status = givenTold (nextBy list taken queued count status) taken queued
+-- what a call over these numbers ensures that answers so
+pub record GivenIs (given : Given) (taken queued newTaken newQueued shown : ℕ) (words : List ℕ) (place r : ℕ) : Type 0 where
+  pub number : r ≡ next.numberOf given
+  pub taken-is : newTaken ≡ givenTold given taken queued .taken
+  pub queued-is : newQueued ≡ givenTold given taken queued .queued
+  pub shown-is : shown ≡ givenTold given taken queued .shown
+  pub words-are : words ≡ recordNumbers (givenTold given taken queued .row)
+  pub place-is : place ≡ next.placeOf given
 
 -- what `koto_next` ensures
-pub record NextIs (list : List ℕ) (taken queued count status newTaken newQueued shown : ℕ) (words : List ℕ) (place r : ℕ) : Type 0 where
-  pub number : r ≡ next.numberOf (nextBy list taken queued count status)
-  pub taken-is : newTaken ≡ nextTold list taken queued count status .taken
-  pub queued-is : newQueued ≡ nextTold list taken queued count status .queued
-  pub shown-is : shown ≡ nextTold list taken queued count status .shown
-  pub words-are : words ≡ recordNumbers (nextTold list taken queued count status .row)
-  pub place-is : place ≡ next.placeOf (nextBy list taken queued count status)
+abbrev pub NextIs : List ℕ → ℕ → ℕ → ℕ → ℕ → ℕ → ℕ → ℕ → List ℕ → ℕ → ℕ → Type 0
+NextIs list taken queued count status = GivenIs (nextBy list taken queued count status) taken queued
 
 -- ---- `peek` and `look_ahead`
 

@@ -2,7 +2,7 @@
 -- list shows anything. And how the contracts come of what is told of an answer.
 --     by-end, by-stuck, by-end-half, by-stuck-half, by-refused    what each number of a scan names
 --     next-refused, peek-refused, look-refused    refusal 8, whatever the list and the other numbers are
---     next-told, looked-told          each number is that of an answer, and the answer is the inner call's
+--     given-told, looked-told         each number is that of an answer
 -- Assumes nothing.
 use Prim.Native.Nat.{ℕ}
 use mathlib.Core.Path.{_≡_, refl, ap, _∙_}
@@ -20,7 +20,7 @@ use Rattle.lookahead.specs.declared.Given.the-variants as given
 use Rattle.lookahead.specs.declared.Peeked.{Peeked}
 use Rattle.lookahead.specs.declared.Peeked.the-variants as peeked
 use Rattle.reading.specs.Status.{endNumber, stuckNumber, refusedNumber, endHalfNumber, stuckHalfNumber}
-use Rattle.koto_lexer.specs.Cursors.{byStatus, nextBy, nextTold, NextIs, LookedIs, peekBy, lookBy}
+use Rattle.koto_lexer.specs.Cursors.{byStatus, nextBy, GivenIs, LookedIs, peekBy, lookBy}
 
 module _ {A : Type 0} (f : Layout → Status → A) (y : A) where
   pub by-end : byStatus f y endNumber ≡ f Whole End
@@ -47,19 +47,17 @@ peek-refused list taken queued count n = refl
 pub look-refused : (list : List ℕ) (taken queued count n : ℕ) → lookBy list taken queued count refusedNumber n ≡ peeked.BadState
 look-refused list taken queued count n = refl
 
-pub next-told : {list words : List ℕ} {taken queued count status place r : ℕ} {given : Given} {told : Told}
-    → given ≡ nextBy list taken queued count status → told ≡ givenTold given taken queued → words ≡ recordNumbers (told .row)
-    → place ≡ next.placeOf given → r ≡ next.numberOf given
-    → NextIs list taken queued count status (told .taken) (told .queued) (told .shown) words place r
-next-told {list} {taken} {queued} {count} {status} {told} e t w p r =
-    let is : told ≡ nextTold list taken queued count status = t ∙ ap (λ (x : Given). givenTold x taken queued) e in
+pub given-told : {given : Given} {words : List ℕ} {taken queued place r : ℕ} {told : Told} → told ≡ givenTold given taken queued
+    → words ≡ recordNumbers (told .row) → place ≡ next.placeOf given → r ≡ next.numberOf given
+    → GivenIs given taken queued (told .taken) (told .queued) (told .shown) words place r
+given-told t w p r =
     record {
-      number = r ∙ ap next.numberOf e;
-      taken-is = ap (λ (x : Told). x .taken) is;
-      queued-is = ap (λ (x : Told). x .queued) is;
-      shown-is = ap (λ (x : Told). x .shown) is;
-      words-are = w ∙ ap (λ (x : Told). recordNumbers (x .row)) is;
-      place-is = p ∙ ap next.placeOf e;
+      number = r;
+      taken-is = ap (λ (x : Told). x .taken) t;
+      queued-is = ap (λ (x : Told). x .queued) t;
+      shown-is = ap (λ (x : Told). x .shown) t;
+      words-are = w ∙ ap (λ (x : Told). recordNumbers (x .row)) t;
+      place-is = p;
     }
 
 pub looked-told : {looked x : Peeked} {words : List ℕ} {taken queued place r : ℕ} {told : Told} → x ≡ looked → told ≡ peekedTold x taken queued

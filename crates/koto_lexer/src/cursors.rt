@@ -3,7 +3,7 @@
 ghost use mathlib.Core.Path.{_≡_};
 ghost use Prim.Native.Nat.{_≤_, _<_};
 ghost use Rattle.reading.specs.Status.{endHalfNumber};
-ghost use Rattle.koto_lexer.specs.Cursors.{cursorOf, nextBy, NextIs, LookedIs, peekBy, PeekIs, lookBy, LookAheadIs};
+ghost use Rattle.koto_lexer.specs.Cursors.{cursorOf, nextBy, GivenIs, NextIs, LookedIs, peekBy, PeekIs, lookBy, LookAheadIs};
 use cursor::Cursor;
 use cursor::Status;
 use layout::Layout;
@@ -28,9 +28,9 @@ fn cursor_of(taken: usize, queued: usize, count: usize, status: Status) -> Curso
 
 // ---- `next`
 
-// The inner call's answer over a whole list, for a cursor of these numbers. Each status has an arm of its own, so that LLVM compiles the call for
-// the one status and the one layout.
-fn next_whole(list: &[u32], taken: usize, queued: usize, count: usize, status: u32) -> Given
+// The inner call's answer for a cursor of these numbers over whole records. Each status has an arm of its own, and each layout a function, so that
+// LLVM compiles the call for the one status and the one layout, and a list at half the size costs a whole one nothing.
+fn next_by(list: &[u32], taken: usize, queued: usize, count: usize, status: u32) -> Given
     requires { ⌜ status < endHalfNumber ⌝ }
     ensures { λ r. ⌜ r ≡ nextBy (now (list .entry)) taken queued count status ⌝ }
 {
@@ -49,8 +49,8 @@ fn next_whole(list: &[u32], taken: usize, queued: usize, count: usize, status: u
     }
 }
 
-// The same over a half list.
-fn next_half(list: &[u32], taken: usize, queued: usize, count: usize, status: u32) -> Given
+// The same of a list at half the size.
+fn half_next_by(list: &[u32], taken: usize, queued: usize, count: usize, status: u32) -> Given
     requires { ⌜ endHalfNumber ≤ status ⌝ }
     ensures { λ r. ⌜ r ≡ nextBy (now (list .entry)) taken queued count status ⌝ }
 {
@@ -69,8 +69,29 @@ fn next_half(list: &[u32], taken: usize, queued: usize, count: usize, status: u3
     }
 }
 
-// `koto_next` over a half list.
-fn koto_next_half(
+// Writes the numbers of an answer, and hands its refusal on.
+fn tell_given(
+    given: Given,
+    taken: &mut usize,
+    queued: &mut usize,
+    shown: &mut u32,
+    record: &mut [u32; 10],
+    place: &mut usize,
+) -> u32
+    ensures { λ r. ⌜ GivenIs given (now (taken .entry)) (now (queued .entry))
+        (now (taken .exit)) (now (queued .exit)) (now (shown .exit)) (now («record» .exit)) (now (place .exit)) r ⌝ }
+{
+    let told = answer::given_told(given, *taken, *queued);
+    *taken = told.taken;
+    *queued = told.queued;
+    *shown = told.shown;
+    answer::put_record(record, told.row);
+    *place = answer::given_place(given);
+    answer::given_number(given)
+}
+
+// `koto_next` over records at half the size: a function of its own, so that LLVM keeps the answer of a whole list out of memory.
+fn next_half(
     list: &[u32],
     taken: &mut usize,
     queued: &mut usize,
@@ -84,19 +105,12 @@ fn koto_next_half(
     ensures { λ r. ⌜ NextIs (now (list .entry)) (now (taken .entry)) (now (queued .entry)) count status
         (now (taken .exit)) (now (queued .exit)) (now (shown .exit)) (now («record» .exit)) (now (place .exit)) r ⌝ }
 {
-    let given = next_half(list, *taken, *queued, count, status);
-    let told = answer::given_told(given, *taken, *queued);
-    *taken = told.taken;
-    *queued = told.queued;
-    *shown = told.shown;
-    answer::put_record(record, told.row);
-    *place = answer::given_place(given);
-    answer::given_number(given)
+    let given = half_next_by(list, *taken, *queued, count, status);
+    tell_given(given, taken, queued, shown, record, place)
 }
 
 // Hands out the next token, and moves the cursor on. Refused are a cursor that is unfit with 8, then a record that may not be shown with 9;
-// both leave the cursor. A half list goes another way at once: where the two met behind the inner call, LLVM would put the answer of a whole list
-// into memory too, which costs a tenth.
+// both leave the cursor.
 #[no_mangle]
 pub extern "C" fn koto_next(
     list: &[u32],
@@ -112,16 +126,10 @@ pub extern "C" fn koto_next(
         (now (taken .exit)) (now (queued .exit)) (now (shown .exit)) (now («record» .exit)) (now (place .exit)) r ⌝ }
 {
     if END_HALF <= status {
-        return koto_next_half(list, taken, queued, count, status, shown, record, place);
+        return next_half(list, taken, queued, count, status, shown, record, place);
     }
-    let given = next_whole(list, *taken, *queued, count, status);
-    let told = answer::given_told(given, *taken, *queued);
-    *taken = told.taken;
-    *queued = told.queued;
-    *shown = told.shown;
-    answer::put_record(record, told.row);
-    *place = answer::given_place(given);
-    answer::given_number(given)
+    let given = next_by(list, *taken, *queued, count, status);
+    tell_given(given, taken, queued, shown, record, place)
 }
 
 // ---- `peek` and `look_ahead`
@@ -145,8 +153,9 @@ fn tell_looked(
     answer::peeked_number(looked)
 }
 
-// The inner call's answer for a cursor of these numbers.
+// The inner call's answer for a cursor of these numbers over whole records.
 fn peek_by(list: &[u32], taken: usize, queued: usize, count: usize, status: u32, n: usize) -> Peeked
+    requires { ⌜ status < endHalfNumber ⌝ }
     ensures { λ r. ⌜ r ≡ peekBy (now (list .entry)) taken queued count status n ⌝ }
 {
     match status {
@@ -162,6 +171,23 @@ fn peek_by(list: &[u32], taken: usize, queued: usize, count: usize, status: u32,
             cursor_of(taken, queued, count, Status::Stuck),
             n,
         ),
+        _ => Peeked::BadState,
+    }
+}
+
+// The same of a list at half the size.
+fn half_peek_by(
+    list: &[u32],
+    taken: usize,
+    queued: usize,
+    count: usize,
+    status: u32,
+    n: usize,
+) -> Peeked
+    requires { ⌜ endHalfNumber ≤ status ⌝ }
+    ensures { λ r. ⌜ r ≡ peekBy (now (list .entry)) taken queued count status n ⌝ }
+{
+    match status {
         END_HALF => lookahead::peek(
             Layout::Half,
             list,
@@ -195,12 +221,17 @@ pub extern "C" fn koto_peek(
     ensures { λ r. ⌜ PeekIs (now (list .entry)) taken (now (queued .entry)) count status n
         (now (queued .exit)) (now (shown .exit)) (now («record» .exit)) (now (place .exit)) r ⌝ }
 {
-    let looked = peek_by(list, taken, *queued, count, status, n);
+    if status < END_HALF {
+        let looked = peek_by(list, taken, *queued, count, status, n);
+        return tell_looked(looked, taken, queued, shown, record, place);
+    }
+    let looked = half_peek_by(list, taken, *queued, count, status, n);
     tell_looked(looked, taken, queued, shown, record, place)
 }
 
-// The inner call's answer for a cursor of these numbers.
+// The inner call's answer for a cursor of these numbers over whole records.
 fn look_by(list: &[u32], taken: usize, queued: usize, count: usize, status: u32, n: usize) -> Peeked
+    requires { ⌜ status < endHalfNumber ⌝ }
     ensures { λ r. ⌜ r ≡ lookBy (now (list .entry)) taken queued count status n ⌝ }
 {
     match status {
@@ -216,6 +247,23 @@ fn look_by(list: &[u32], taken: usize, queued: usize, count: usize, status: u32,
             cursor_of(taken, queued, count, Status::Stuck),
             n,
         ),
+        _ => Peeked::BadState,
+    }
+}
+
+// The same of a list at half the size.
+fn half_look_by(
+    list: &[u32],
+    taken: usize,
+    queued: usize,
+    count: usize,
+    status: u32,
+    n: usize,
+) -> Peeked
+    requires { ⌜ endHalfNumber ≤ status ⌝ }
+    ensures { λ r. ⌜ r ≡ lookBy (now (list .entry)) taken queued count status n ⌝ }
+{
+    match status {
         END_HALF => lookahead::look_ahead(
             Layout::Half,
             list,
@@ -249,6 +297,10 @@ pub extern "C" fn koto_look_ahead(
     ensures { λ r. ⌜ LookAheadIs (now (list .entry)) taken (now (queued .entry)) count status n
         (now (queued .exit)) (now (shown .exit)) (now («record» .exit)) (now (place .exit)) r ⌝ }
 {
-    let looked = look_by(list, taken, *queued, count, status, n);
+    if status < END_HALF {
+        let looked = look_by(list, taken, *queued, count, status, n);
+        return tell_looked(looked, taken, queued, shown, record, place);
+    }
+    let looked = half_look_by(list, taken, *queued, count, status, n);
     tell_looked(looked, taken, queued, shown, record, place)
 }

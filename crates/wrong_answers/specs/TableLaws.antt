@@ -25,7 +25,7 @@ use Rattle.half_rows.specs.Half as half
 use Rattle.reading.specs.Scan as reading
 use Rattle.reading.specs.Status.{statusOf, halfStatusOf}
 use Rattle.cursor.specs.Cursor.{isFit, recordAt, movedOn, mustQueue, queuedOne, queuedFor}
-use Rattle.lookahead.specs.Told.{recordNumbers, peekedTold}
+use Rattle.lookahead.specs.Told.{recordNumbers, givenTold, peekedTold}
 use Rattle.lookahead.specs.Seen.{seenAt}
 use Rattle.lookahead.specs.Next as next
 use Rattle.lookahead.specs.Peek as peek
@@ -44,7 +44,7 @@ use Rattle.pool_rows.specs.declared.Counts.{Counts}
 use Rattle.pool_lent.specs.Entries.{numbersOf}
 use Rattle.parse.specs.Call as parse
 use Rattle.parse.specs.Numbers as numbers
-use Rattle.koto_lexer.specs.Cursors.{nextBy, nextTold, peekBy, lookBy}
+use Rattle.koto_lexer.specs.Cursors.{nextBy, peekBy, lookBy}
 use Rattle.koto_pool.specs.Formats.{parsed}
 use Rattle.desks.specs.Desks.{heldBy, sharedOut, fitDesks}
 use Rattle.slide.specs.Slide as slide
@@ -123,7 +123,7 @@ told (wrong.scanHalf source table edition old new status count byte r) =
     ∷ half.putHalves old (reading.writtenMarked source table edition (half.room old))
 told (wrong.next list taken queued count status newTaken newQueued shown words place r) =
     let answer = nextBy list taken queued count status in
-    let told = nextTold list taken queued count status in
+    let told = givenTold (nextBy list taken queued count status) taken queued in
     next.numberOf answer ∷ told .taken ∷ told .queued ∷ told .shown ∷ next.placeOf answer ∷ recordNumbers (told .row)
 told (wrong.peek list taken queued count status n newQueued shown words place r) = lookTold (peekBy list taken queued count status n) taken queued
 told (wrong.lookAhead list taken queued count status n newQueued shown words place r) = lookTold (lookBy list taken queued count status n) taken queued

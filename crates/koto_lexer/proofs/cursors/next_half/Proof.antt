@@ -1,37 +1,16 @@
--- `cursors::next_half` meets its contract: the status is what its number names, which is none of a whole list, and the inner call does the rest. Assumes nothing.
-use native.Mathlib.Omega.{arith}
+-- `cursors::next_half` meets its contract: the inner call's answer is told. Assumes nothing.
 use borrow.Author.Needs.{needs}
-use borrow.Author.Tests.{ne-eqb}
-use Rattle.reading.specs.Status.{endNumber, stuckNumber, endHalfNumber, stuckHalfNumber}
 use Rattle.koto_lexer.proofs.cursors.next_half.Statement.{statement}
 use Rattle.koto_lexer.proofs.cursors.next_half.Tie as tie
 
-cursor-of-requires : tie.Need-cursor-of-requires
-cursor-of-requires c κs = search needs
+half-next-by-requires : tie.Need-half-next-by-requires
+half-next-by-requires c κs = search needs
 
-next-requires : tie.Need-next-requires
-next-requires c κs = search needs
-
-cursor-of-requires-2 : tie.Need-cursor-of-requires-2
-cursor-of-requires-2 c κs = search needs
-
-next-requires-2 : tie.Need-next-requires-2
-next-requires-2 c κs = search needs
+tell-given-requires : tie.Need-tell-given-requires
+tell-given-requires c κs = search needs
 
 returns : tie.Need-returns
-returns c = rw (c .next .ensures, c .before .cursor-of .ensures, c .before .before .match .keys1)
-
-returns-2 : tie.Need-returns-2
-returns-2 c = rw (c .next2 .ensures, c .before .cursor-of2 .ensures, c .before .before .match .keys2)
-
-returns-3 : tie.Need-returns-3
-returns-3 c =
-    let status = c .before .before .args .status in
-    let low = c .before .before .pre in
-    let r = c .match .rest in
-    rw (ne-eqb status endNumber (λ e. omega arith), ne-eqb status stuckNumber (λ e. omega arith), ne-eqb status endHalfNumber (r .0 .1), ne-eqb status stuckHalfNumber (r .1))
+returns c = rw (← c .before .before .before .before .before .before .half-next-by .ensures) (c .tell-given .ensures)
 
 pub next-half-spec : {M : Type 1} → statement M
-next-half-spec =
-    tie.close
-    (tie.spec cursor-of-requires next-requires cursor-of-requires-2 next-requires-2 returns returns-2 returns-3)
+next-half-spec = tie.close (tie.spec half-next-by-requires tell-given-requires returns)

@@ -1,10 +1,10 @@
--- `cursors::next_whole` meets its contract: the status is what its number names, which is none of a half list, and the inner call does the rest. Assumes nothing.
+-- `cursors::half_next_by` meets its contract: the status is what its number names, and the inner call does the rest. Assumes nothing.
 use native.Mathlib.Omega.{arith}
 use borrow.Author.Needs.{needs}
 use borrow.Author.Tests.{ne-eqb}
 use Rattle.reading.specs.Status.{endNumber, stuckNumber, endHalfNumber, stuckHalfNumber}
-use Rattle.koto_lexer.proofs.cursors.next_whole.Statement.{statement}
-use Rattle.koto_lexer.proofs.cursors.next_whole.Tie as tie
+use Rattle.koto_lexer.proofs.cursors.half_next_by.Statement.{statement}
+use Rattle.koto_lexer.proofs.cursors.half_next_by.Tie as tie
 
 cursor-of-requires : tie.Need-cursor-of-requires
 cursor-of-requires c κs = search needs
@@ -27,11 +27,18 @@ returns-2 c = rw (c .next2 .ensures, c .before .cursor-of2 .ensures, c .before .
 returns-3 : tie.Need-returns-3
 returns-3 c =
     let status = c .before .before .args .status in
-    let low = c .before .before .pre in
+    let known = c .before .before .pre in
     let r = c .match .rest in
-    rw (ne-eqb status endNumber (r .0 .1), ne-eqb status stuckNumber (r .1), ne-eqb status endHalfNumber (λ e. omega arith), ne-eqb status stuckHalfNumber (λ e. omega arith))
+    rw (ne-eqb status endNumber (λ e. omega arith), ne-eqb status stuckNumber (λ e. omega arith), ne-eqb status endHalfNumber (r .0 .1), ne-eqb status stuckHalfNumber (r .1))
 
-pub next-whole-spec : {M : Type 1} → statement M
-next-whole-spec =
+pub half-next-by-spec : {M : Type 1} → statement M
+half-next-by-spec =
     tie.close
-    (tie.spec cursor-of-requires next-requires cursor-of-requires-2 next-requires-2 returns returns-2 returns-3)
+    (tie.spec
+    cursor-of-requires
+    next-requires
+    cursor-of-requires-2
+    next-requires-2
+    returns
+    returns-2
+    returns-3)

@@ -1,11 +1,8 @@
--- `cursors::koto_next_half` meets its contract: each number is that of the inner call's answer. Assumes nothing.
-use Rattle.koto_lexer.specs.CursorsLaws.{next-told}
+-- `cursors::tell_given` meets its contract: each number is that of the answer. Assumes nothing.
+use Rattle.koto_lexer.specs.CursorsLaws.{given-told}
 use borrow.Author.Needs.{needs}
-use Rattle.koto_lexer.proofs.cursors.koto_next_half.Statement.{statement}
-use Rattle.koto_lexer.proofs.cursors.koto_next_half.Tie as tie
-
-next-half-requires : tie.Need-next-half-requires
-next-half-requires c κs = search needs
+use Rattle.koto_lexer.proofs.cursors.tell_given.Statement.{statement}
+use Rattle.koto_lexer.proofs.cursors.tell_given.Tie as tie
 
 given-told-requires : tie.Need-given-told-requires
 given-told-requires c κs = search needs
@@ -24,18 +21,16 @@ returns c =
     let at-place = c .before in
     let at-record = at-place .before in
     let at-told = at-record .before .before in
-    next-told
-    (at-told .before .next-half .ensures)
+    given-told
     (at-told .given-told .ensures)
     (at-record .put-record .ensures)
     (at-place .given-place .ensures)
     (c .given-number .ensures)
 
-pub koto-next-half-spec : {M : Type 1} → statement M
-koto-next-half-spec =
+pub tell-given-spec : {M : Type 1} → statement M
+tell-given-spec =
     tie.close
     (tie.spec
-    next-half-requires
     given-told-requires
     put-record-requires
     given-place-requires

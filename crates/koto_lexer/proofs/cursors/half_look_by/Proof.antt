@@ -1,0 +1,44 @@
+-- `cursors::half_look_by` meets its contract: the status is what its number names, and the inner call does the rest. Assumes nothing.
+use native.Mathlib.Omega.{arith}
+use borrow.Author.Needs.{needs}
+use borrow.Author.Tests.{ne-eqb}
+use Rattle.reading.specs.Status.{endNumber, stuckNumber, endHalfNumber, stuckHalfNumber}
+use Rattle.koto_lexer.proofs.cursors.half_look_by.Statement.{statement}
+use Rattle.koto_lexer.proofs.cursors.half_look_by.Tie as tie
+
+cursor-of-requires : tie.Need-cursor-of-requires
+cursor-of-requires c κs = search needs
+
+look-ahead-requires : tie.Need-look-ahead-requires
+look-ahead-requires c κs = search needs
+
+cursor-of-requires-2 : tie.Need-cursor-of-requires-2
+cursor-of-requires-2 c κs = search needs
+
+look-ahead-requires-2 : tie.Need-look-ahead-requires-2
+look-ahead-requires-2 c κs = search needs
+
+returns : tie.Need-returns
+returns c = rw (c .look-ahead .ensures, c .before .cursor-of .ensures, c .before .before .match .keys1)
+
+returns-2 : tie.Need-returns-2
+returns-2 c = rw (c .look-ahead2 .ensures, c .before .cursor-of2 .ensures, c .before .before .match .keys2)
+
+returns-3 : tie.Need-returns-3
+returns-3 c =
+    let status = c .before .before .args .status in
+    let known = c .before .before .pre in
+    let r = c .match .rest in
+    rw (ne-eqb status endNumber (λ e. omega arith), ne-eqb status stuckNumber (λ e. omega arith), ne-eqb status endHalfNumber (r .0 .1), ne-eqb status stuckHalfNumber (r .1))
+
+pub half-look-by-spec : {M : Type 1} → statement M
+half-look-by-spec =
+    tie.close
+    (tie.spec
+    cursor-of-requires
+    look-ahead-requires
+    cursor-of-requires-2
+    look-ahead-requires-2
+    returns
+    returns-2
+    returns-3)
