@@ -17,6 +17,7 @@ ghost use Rattle.classes.specs.Classes.{ClassTable};
 ghost use Rattle.found.specs.Found.{foundTaken};
 use classes::classes;
 use found::Found;
+use found::nothing;
 use input::Input;
 use input::SOURCE_MOST;
 use lexer::Half;
@@ -97,28 +98,32 @@ fn found_half(lexer: Lexer, found: Found) -> Half
     }
 }
 
-// The lexer's half of the read step, as `lexer::read_half` answers it: by the class of an ASCII byte where that tells the token.
+// The token that follows, if its first byte is ASCII and its class tells it.
+fn find_ascii(source: &[u8], table: &[u32], classes: &[u8; 256], lexer: Lexer) -> Found
+    requires { ⌜ Fine (now source) lexer × FitTable (now table) × ClassTable (now classes) ⌝ }
+    ensures { λ r. ⌜ StepFinds (now (source .entry)) (now (table .entry)) lexer r ⌝ }
+{
+    let at = lexer.place.current_byte.0;
+    if source.len() <= at {
+        return nothing();
+    }
+    if 127 < source[at] {
+        return nothing();
+    }
+    short::find(source, table, classes, lexer.settle())
+}
+
+// The lexer's half of the read step, as `lexer::read_half` answers it. That is called at one place alone, so that LLVM makes one function of it all.
 fn fast_half(source: &[u8], table: &[u32], edition: u32, classes: &[u8; 256], lexer: Lexer) -> Half
     requires { ⌜ Fine (now source) lexer × FitTable (now table) × ClassTable (now classes) ⌝ }
     ensures { λ r. ⌜ r ≡ half (propertiesAt (now (table .entry))) edition (now (source .entry)) lexer ⌝ }
 {
-    let at = lexer.place.current_byte.0;
-    if source.len() <= at {
-        return Half {
-            what: What::End,
-            lexer,
-            change: Change::Keep,
-        };
-    }
-    if 127 < source[at] {
-        return read_half(source, table, edition, lexer);
-    }
-    let found = short::find(source, table, classes, lexer.settle());
+    let found = find_ascii(source, table, classes, lexer);
     let kind = found.kind;
-    if kind == kinds::ERROR {
-        return read_half(source, table, edition, lexer);
+    if kind != kinds::ERROR {
+        return found_half(lexer, found);
     }
-    found_half(lexer, found)
+    read_half(source, table, edition, lexer)
 }
 
 // Reads on from a state, into the list from record `first` on.
@@ -135,11 +140,40 @@ fn read_on(
     requires { ⌜ ClassTable (now classes) ⌝ }
     ensures { λ r. ⌜ ReadsOn (propertiesAt (now (table .entry))) edition (now (source .entry)) start first (now (list .entry)) r (now (list .exit)) ⌝ }
 {
-    let mut lexer = start.lexer;
+    let lexer = start.lexer;
+    let mut previous_byte = lexer.place.previous_byte.0;
+    let mut current_byte = lexer.place.current_byte.0;
+    let mut start_line = lexer.place.span.start.line;
+    let mut start_column = lexer.place.span.start.column.0;
+    let mut end_line = lexer.place.span.end.line;
+    let mut end_column = lexer.place.span.end.column.0;
+    let mut depth = lexer.depth;
+    let mut indent = lexer.indent;
+    let mut mode = lexer.mode;
+    let mut previous_token = lexer.previous_token;
     let mut codes = start.modes.codes;
     let mut count = first;
     loop {
-        let byte = lexer.place.current_byte.0;
+        let lexer = Lexer {
+            place: Place {
+                previous_byte: ByteOffset(previous_byte),
+                current_byte: ByteOffset(current_byte),
+                span: Span {
+                    start: Position {
+                        line: start_line,
+                        column: Column(start_column),
+                    },
+                    end: Position {
+                        line: end_line,
+                        column: Column(end_column),
+                    },
+                },
+            },
+            depth,
+            indent,
+            mode,
+            previous_token,
+        };
         let half = fast_half(source, table, edition, classes, lexer);
         let what = half.what;
         let next = half.lexer;
@@ -147,25 +181,50 @@ fn read_on(
         match what {
             What::Token(token) => {
                 if rows::room(list) <= count {
-                    return Scanned::ListFull { count, byte };
+                    return Scanned::ListFull {
+                        count,
+                        byte: current_byte,
+                    };
                 }
                 rows::put_row(&mut *list, count, row_of(token, lexer, next));
                 count += 1;
                 // Only a token that changes the modes touches their array.
                 if let Change::Keep = change {
-                    lexer = next;
+                    previous_byte = next.place.previous_byte.0;
+                    current_byte = next.place.current_byte.0;
+                    start_line = next.place.span.start.line;
+                    start_column = next.place.span.start.column.0;
+                    end_line = next.place.span.end.line;
+                    end_column = next.place.span.end.column.0;
+                    depth = next.depth;
+                    indent = next.indent;
+                    mode = next.mode;
+                    previous_token = next.previous_token;
                     continue;
                 }
-                lexer = next.apply(&mut codes, change);
+                let lexer = next.apply(&mut codes, change);
+                previous_byte = lexer.place.previous_byte.0;
+                current_byte = lexer.place.current_byte.0;
+                start_line = lexer.place.span.start.line;
+                start_column = lexer.place.span.start.column.0;
+                end_line = lexer.place.span.end.line;
+                end_column = lexer.place.span.end.column.0;
+                depth = lexer.depth;
+                indent = lexer.indent;
+                mode = lexer.mode;
+                previous_token = lexer.previous_token;
             }
             What::Stuck => {
                 return stuck(&mut *list, count, lexer, next);
             }
             What::ModesFull => {
-                return full(rows::room(list), count, byte);
+                return full(rows::room(list), count, current_byte);
             }
             What::End => {
-                return Scanned::End { count, byte };
+                return Scanned::End {
+                    count,
+                    byte: current_byte,
+                };
             }
         }
     }
