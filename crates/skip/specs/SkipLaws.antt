@@ -1,17 +1,17 @@
 -- Laws of bytes that pass a test.
 --     counts-none, counts-more       a block that is counted: before its first byte, and at one byte more
 --     passes-none, passes-one, passes-on     bytes that are passed: none, one more, and those behind them
---     passes-count                   what was counted of a block is passed
+--     passes-count, passes-all       what was counted of a block is passed, and a whole block
 -- Assumes nothing.
 use Prim.Native.Nat.{ℕ, _+_, _-_, _≤_, _<_}
 use native.Mathlib.Omega.{arith}
-use mathlib.Core.Path.{_≡_, refl, sym, subst}
+use mathlib.Core.Path.{_≡_, sym, subst}
 use mathlib.Core.Bool.{Bool, true, false}
 use mathlib.Core.List.{List}
 use lib.Dec.{ltb}
 use lib.ListN.{length, getD}
 use Rattle.base.specs.Pick.{pick}
-use Rattle.base.specs.PickLaws.{by-lt, by-test, split-eq, split-lt}
+use Rattle.base.specs.PickLaws.{by-lt, split-eq, split-lt}
 use Rattle.skip.specs.Skip.{Passed, Counts}
 
 module _ {test : ℕ → Bool} {s : List ℕ} {i : ℕ} where
@@ -35,9 +35,9 @@ module _ {test : ℕ → Bool} {s : List ℕ} {i : ℕ} where
         by-lt (λ (m : ℕ). Counts test s i most (k + 1) m) p n (λ h. same (omega arith) (λ g. absurd (omega arith)))
         (λ h. same (omega arith) (λ g. absurd (omega arith)))
 
-    pub counts-more : {t : Bool} {r : ℕ} → t ≡ test (getD s (i + k) 0) → r ≡ pick (ltb (pick t most k) n) (pick t most k) n
+    pub counts-more : {t : Bool} {p r : ℕ} → t ≡ test (getD s (i + k) 0) → p ≡ pick t most k → r ≡ pick (ltb p n) p n
         → Counts test s i most (k + 1) r
-    counts-more {t} e f = subst (Counts test s i most (k + 1)) (sym f) (at-out t e (pick t most k) refl)
+    counts-more {t} {p} e f g = subst (Counts test s i most (k + 1)) (sym g) (at-out t e p f)
 
   -- ---- one after the other
 
@@ -69,3 +69,7 @@ module _ {test : ℕ → Bool} {s : List ℕ} {i : ℕ} where
         within = omega (arith, c .less);
         stays = λ k a b. let e : i + (k - i) ≡ k = omega arith in rw e at (c .stays (k - i) (omega arith) (omega (arith, c .less)));
       }
+
+  -- of a whole block
+  pub passes-all : (j : ℕ) {n m : ℕ} → Passed test s i (j + n) → n ≡ m → Passed test s i (j + m)
+  passes-all j p e = subst (λ (n : ℕ). Passed test s i (j + n)) e p

@@ -19,7 +19,7 @@ fn stays(x: u8, a: u8, b: u8, c: u8) -> bool
 }
 
 // The place k of a byte that does not stay; of one that does, `most`.
-fn place_out(stays: bool, k: u8, most: u8) -> u8
+pub fn place_out(stays: bool, k: u8, most: u8) -> u8
     ensures { λ r. ⌜ r ≡ pick stays most k ⌝ }
 {
     if stays {
@@ -28,15 +28,14 @@ fn place_out(stays: bool, k: u8, most: u8) -> u8
     k
 }
 
-// The count `n` of bytes that stay, once the byte at the place k is looked at too.
-pub fn counted(n: u8, k: u8, stays: bool, most: u8) -> u8
-    ensures { λ r. ⌜ r ≡ pick (ltb (pick stays most k) n) (pick stays most k) n ⌝ }
+// The smaller place. It stands apart from `place_out`, else LLVM makes branches of the two.
+pub fn smaller(a: u8, b: u8) -> u8
+    ensures { λ r. ⌜ r ≡ pick (ltb a b) a b ⌝ }
 {
-    let place = place_out(stays, k, most);
-    if place < n {
-        return place;
+    if a < b {
+        return a;
     }
-    n
+    b
 }
 
 // How many of the 64 bytes from `at` on stay before the first that does not.
@@ -47,7 +46,8 @@ fn count64(source: &[u8], at: usize, a: u8, b: u8, c: u8) -> usize
     let mut n = 64u8;
     let mut k = 0u8;
     while k < 64 {
-        n = counted(n, k, stays(source[at + (k as usize)], a, b, c), 64);
+        let out = place_out(stays(source[at + (k as usize)], a, b, c), k, 64);
+        n = smaller(out, n);
         k += 1;
     }
     n as usize
@@ -75,6 +75,9 @@ pub fn skip(source: &[u8], at: usize, a: u8, b: u8, c: u8) -> usize
 {
     let mut i = at;
     while 64 <= source.len() - i {
+        if !stays(source[i], a, b, c) {
+            return i;
+        }
         let n = count64(source, i, a, b, c);
         if n < 64 {
             return i + n;
