@@ -2,17 +2,21 @@
 --     counts-none, counts-more       a block that is counted: before its first byte, and at one byte more
 --     passes-none, passes-one, passes-on     bytes that are passed: none, one more, and those behind them
 --     passes-count, passes-all       what was counted of a block is passed, and a whole block
+--     stays-is                       the tests that a byte has passed which stays
 -- Assumes nothing.
 use Prim.Native.Nat.{ℕ, _+_, _-_, _≤_, _<_}
 use native.Mathlib.Omega.{arith}
 use mathlib.Core.Path.{_≡_, sym, subst}
-use mathlib.Core.Bool.{Bool, true, false}
+use mathlib.Core.Bool.{Bool, true, false, not, _&&_}
 use mathlib.Core.List.{List}
-use lib.Dec.{ltb}
+use lib.Dec.{eqb, ltb}
 use lib.ListN.{length, getD}
+use borrow.Author.Tests.{not-true}
+use Rattle.base.specs.AllLaws.{and-left, and-right}
 use Rattle.base.specs.Pick.{pick}
 use Rattle.base.specs.PickLaws.{by-lt, split-eq, split-lt}
-use Rattle.skip.specs.Skip.{Passed, Counts}
+use Rattle.fitness.specs.Ascii.{isPrintable}
+use Rattle.skip.specs.Skip.{staysBut, Passed, Counts}
 
 module _ {test : ℕ → Bool} {s : List ℕ} {i : ℕ} where
   -- ---- a block
@@ -73,3 +77,24 @@ module _ {test : ℕ → Bool} {s : List ℕ} {i : ℕ} where
   -- of a whole block
   pub passes-all : (j : ℕ) {n m : ℕ} → Passed test s i (j + n) → n ≡ m → Passed test s i (j + m)
   passes-all j p e = subst (λ (n : ℕ). Passed test s i (j + n)) e p
+
+-- ---- what stays
+
+-- the tests that a byte has passed
+pub record Stays (a b c x : ℕ) : Type 0 where
+  pub printable : isPrintable x ≡ true
+  pub no-a : eqb x a ≡ false
+  pub no-b : eqb x b ≡ false
+  pub no-c : eqb x c ≡ false
+
+pub stays-is : (a b c x : ℕ) → staysBut a b c x ≡ true → Stays a b c x
+unfolding staysBut
+stays-is a b c x e =
+    let three = and-left _ (not (eqb x c)) e in
+    let two = and-left _ (not (eqb x b)) three in
+    record {
+      printable = and-left _ (not (eqb x a)) two;
+      no-a = not-true _ (and-right (isPrintable x) _ two);
+      no-b = not-true _ (and-right (isPrintable x && not (eqb x a)) _ three);
+      no-c = not-true _ (and-right (isPrintable x && not (eqb x a) && not (eqb x b)) _ e);
+    }

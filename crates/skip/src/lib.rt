@@ -8,8 +8,10 @@ ghost use Prim.Native.Nat.{_+_, _≤_};
 ghost use lib.Dec.{ltb};
 ghost use lib.ListN.{length};
 ghost use Rattle.base.specs.Pick.{pick};
-ghost use Rattle.skip.specs.Skip.{staysBut, Counts, Passed};
+ghost use Rattle.text.specs.Stands.{Stands};
+ghost use Rattle.skip.specs.Skip.{staysBut, Counts, Passed, Past};
 use base::between;
+use position::Reach;
 
 // A printable ASCII character that is none of the three.
 fn stays(x: u8, a: u8, b: u8, c: u8) -> bool
@@ -85,4 +87,14 @@ pub fn skip(source: &[u8], at: usize, a: u8, b: u8, c: u8) -> usize
         i += 64;
     }
     skip_singly(source, i, a, b, c)
+}
+
+// The same from where reading stands, with its columns: one for each byte.
+pub fn pass(source: &[u8], start: Reach, a: u8, b: u8, c: u8) -> Reach
+    requires { ⌜ Stands (now source) start ⌝ }
+    ensures { λ r. ⌜ Past (staysBut a b c) (now (source .entry)) start r ⌝ }
+{
+    let at = start.byte.0;
+    let end = skip(source, at, a, b, c);
+    start.along_ascii(end - at)
 }
