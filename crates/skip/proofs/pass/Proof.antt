@@ -1,5 +1,4 @@
 -- `skip::pass` meets its contract: a column for each byte that is passed. Assumes nothing.
-use borrow.Author.Needs.{needs}
 use native.Mathlib.Omega.{arith}
 use Rattle.skip.specs.PastLaws.{past-from}
 use Rattle.skip.proofs.pass.Statement.{statement}
