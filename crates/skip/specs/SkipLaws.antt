@@ -22,22 +22,25 @@ module _ {test : ℕ → Bool} {s : List ℕ} {i : ℕ} where
   -- ---- a block
 
   pub counts-none : (most : ℕ) → Counts test s i most 0 most
-  counts-none most = record { less = omega arith; stays = λ j h k. absurd (omega arith) }
+  counts-none most = record { less = omega arith; stays = λ j h k. absurd (omega arith); out = λ h. absurd (omega arith) }
 
   module _ {most k n : ℕ} (c : Counts test s i most k n) where
-    -- where the byte passes, or n falls to its place
-    same : {m : ℕ} → m ≤ n → (k < m → test (getD s (i + k) 0) ≡ true) → Counts test s i most (k + 1) m
-    same {m} h t =
+    -- m is n, or falls to the place k
+    falls : (m : ℕ) → m ≤ n → (k < m → test (getD s (i + k) 0) ≡ true) → (m < most → test (getD s (i + m) 0) ≡ false) → Counts test s i most (k + 1) m
+    falls m h t o =
         record {
           less = omega (arith, c .less);
           stays = λ j a b. split-eq j k (λ e. subst (λ (x : ℕ). test (getD s (i + x) 0) ≡ true) (sym e) (t (omega arith))) (λ e. c .stays j (omega arith) (omega arith));
+          out = o;
         }
 
     at-out : (t : Bool) → t ≡ test (getD s (i + k) 0) → (p : ℕ) → p ≡ pick t most k → Counts test s i most (k + 1) (pick (ltb p n) p n)
-    at-out true e p f = by-lt (λ (m : ℕ). Counts test s i most (k + 1) m) p n (λ h. same (omega arith) (λ _. sym e)) (λ h. same (omega arith) (λ _. sym e))
+    at-out true e p f =
+        by-lt (λ (m : ℕ). Counts test s i most (k + 1) m) p n (λ h. absurd (omega (arith, c .less))) (λ h. falls n (omega arith) (λ _. sym e) (c .out))
     at-out false e p f =
-        by-lt (λ (m : ℕ). Counts test s i most (k + 1) m) p n (λ h. same (omega arith) (λ g. absurd (omega arith)))
-        (λ h. same (omega arith) (λ g. absurd (omega arith)))
+        by-lt (λ (m : ℕ). Counts test s i most (k + 1) m) p n
+        (λ h. falls p (omega arith) (λ g. absurd (omega arith)) (λ _. subst (λ (x : ℕ). test (getD s (i + x) 0) ≡ false) (sym f) (sym e)))
+        (λ h. falls n (omega arith) (λ g. absurd (omega arith)) (c .out))
 
     pub counts-more : {t : Bool} {p r : ℕ} → t ≡ test (getD s (i + k) 0) → p ≡ pick t most k → r ≡ pick (ltb p n) p n
         → Counts test s i most (k + 1) r
