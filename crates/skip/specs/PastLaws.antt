@@ -1,5 +1,5 @@
 -- What passing bytes at once does to the loops of the definitions.
---     past-from, past-stands     how reading comes past some bytes, and that it stands behind them
+--     past-end, past-from        where reading comes to past some bytes
 --     past-going                 a loop over turns that each pass one byte and one column
 --     past-ran                   a run of characters that pass at once
 -- Assumes nothing.
@@ -38,11 +38,16 @@ along-more n r =
     let c : r .position .column .0 + 1 + n ≡ r .position .column .0 + suc n = omega arith in
     rw (b, c)
 
+pub past-end : {test : ℕ → Bool} {s : List ℕ} (r : Reach) {q : Reach} {j : ℕ} → Passed test s (r .byte .0) j
+    → q ≡ alongBy (j - r .byte .0) (j - r .byte .0) r → j ≡ q .byte .0
+past-end r {q} {j} p e =
+    let k : q .byte .0 ≡ r .byte .0 + (j - r .byte .0) = ap (λ (x : Reach). x .byte .0) e in
+    omega (arith, p .on)
+
 pub past-from : {test : ℕ → Bool} {s : List ℕ} {r q : Reach} {j : ℕ} → Passed test s (r .byte .0) j
     → q ≡ alongBy (j - r .byte .0) (j - r .byte .0) r → Past test s r q
 past-from {test} {s} {r} {q} {j} p e =
-    let k : q .byte .0 ≡ r .byte .0 + (j - r .byte .0) = ap (λ (x : Reach). x .byte .0) e in
-    let m : j ≡ q .byte .0 = omega (arith, p .on) in
+    let m = past-end r p e in
     record {
       passed = subst (Passed test s (r .byte .0)) m p;
       along = subst (λ (n : ℕ). q ≡ alongBy (n - r .byte .0) (n - r .byte .0) r) m e;
