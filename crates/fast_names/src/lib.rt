@@ -7,6 +7,7 @@ ghost use Rattle.property.specs.Table.{propertiesAt};
 ghost use Rattle.fitness.specs.Fit.{FitTable};
 ghost use Rattle.fitness.specs.Ascii.{isNamePart};
 ghost use Rattle.text.specs.Chars.{LenIs};
+ghost use Rattle.text.specs.Count.{runTest};
 ghost use Rattle.text.specs.Stands.{Stands, charsFrom};
 ghost use Rattle.state.specs.Lexer.{reachOf};
 ghost use Rattle.skip.specs.Skip.{Counts};
@@ -72,18 +73,59 @@ fn parts_end(source: &[u8], at: usize) -> usize
     end_singly(source, i)
 }
 
-// How far the name at the lexer's place reaches. Its first character, of `len` bytes, counts one column, the others their width.
-pub fn name_end(source: &[u8], table: &[u32], lexer: Lexer, len: usize) -> Reach
+// How far a name reaches, and the run of the last character that was looked up, to try first for the next one.
+pub struct Ended {
+    pub reach: Reach,
+    pub run: usize,
+}
+
+// lexer.rs `consume_and_count_utf8` of the parts of a name, character by character. The run `near` is tried first, which may be any number.
+fn run_near(source: &[u8], table: &[u32], start: Reach, near: usize) -> Ended
+    requires { ⌜ Stands (now source) start × FitTable (now table) ⌝ }
+    ensures { λ r. ⌜ r .reach ≡ runTest (propertiesAt (now (table .entry))) 1 start (charsFrom (now (source .entry)) start) ⌝ }
+{
+    let mut reach = start;
+    let mut i = reach.byte.0;
+    let mut run = near;
+    while i < source.len() {
+        if is_part(source[i]) {
+            reach = reach.along_ascii(1);
+            i = reach.byte.0;
+            continue;
+        }
+        let c = text::char_near(source, table, i, run);
+        run = c.run;
+        if !property::is_id_continue(c.char.properties) {
+            return Ended { reach, run };
+        }
+        reach = reach.along(c.char.len, property::width_of(c.char.properties));
+        i = reach.byte.0;
+    }
+    Ended { reach, run }
+}
+
+// How far the name at the lexer's place reaches. Its first character, of `len` bytes, counts one column, the others their width. The run `near` is
+// tried first for those above 127, which may be any number.
+pub fn name_end_near(source: &[u8], table: &[u32], lexer: Lexer, len: usize, near: usize) -> Ended
     requires { ⌜ Stands (now source) (reachOf lexer) × FitTable (now table) × LenIs (now source) (reachOf lexer .byte .0) len ⌝ }
-    ensures { λ r. ⌜ r ≡ nameEnd (propertiesAt (now (table .entry))) (charsFrom (now (source .entry)) (reachOf lexer)) lexer ⌝ }
+    ensures { λ r. ⌜ r .reach ≡ nameEnd (propertiesAt (now (table .entry))) (charsFrom (now (source .entry)) (reachOf lexer)) lexer ⌝ }
 {
     let start = lexer.reach().along(len, 1);
     let at = start.byte.0;
     let end = parts_end(source, at);
-    let near = start.along_ascii(end - at);
+    let reach = start.along_ascii(end - at);
     // An ASCII character that is no part of a name ends it.
     if byte_at(source, end) < 128 {
-        return near;
+        return Ended { reach, run: near };
     }
-    text::run_utf8(source, table, near, text::ID_CONTINUE)
+    run_near(source, table, reach, near)
+}
+
+// The same with no run to try first.
+pub fn name_end(source: &[u8], table: &[u32], lexer: Lexer, len: usize) -> Reach
+    requires { ⌜ Stands (now source) (reachOf lexer) × FitTable (now table) × LenIs (now source) (reachOf lexer .byte .0) len ⌝ }
+    ensures { λ r. ⌜ r ≡ nameEnd (propertiesAt (now (table .entry))) (charsFrom (now (source .entry)) (reachOf lexer)) lexer ⌝ }
+{
+    let ended = name_end_near(source, table, lexer, len, 0);
+    ended.reach
 }
