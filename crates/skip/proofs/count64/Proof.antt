@@ -29,8 +29,11 @@ shared-slice-read-stays c = search needs
 stays-requires : tie.Need-stays-requires Inv-loop μ-loop
 stays-requires c κs = search needs
 
-counted-requires : tie.Need-counted-requires Inv-loop μ-loop
-counted-requires c κs = search needs
+place-out-requires : tie.Need-place-out-requires Inv-loop μ-loop
+place-out-requires c κs = search needs
+
+smaller-requires : tie.Need-smaller-requires Inv-loop μ-loop
+smaller-requires c κs = search needs
 
 add-k : tie.Need-add-k Inv-loop μ-loop
 add-k c = search needs
@@ -39,7 +42,9 @@ loop-less : tie.Need-loop-less Inv-loop μ-loop
 loop-less c = omega arith
 
 loop-again : tie.Need-loop-again Inv-loop μ-loop
-loop-again c = (omega arith, counts-more (c .before .before .before .before .loop .inv .1) (c .before .stays .ensures) (c .counted .ensures))
+loop-again c =
+    let turn = c .before .before .before .before in
+    (omega arith, counts-more (turn .before .loop .inv .1) (c .before .before .stays .ensures) (c .before .place-out .ensures) (c .smaller .ensures))
 
 cast-result : tie.Need-cast-result Inv-loop μ-loop
 cast-result c = search needs
@@ -61,7 +66,8 @@ count64-spec =
     add-stays
     shared-slice-read-stays
     stays-requires
-    counted-requires
+    place-out-requires
+    smaller-requires
     add-k
     loop-less
     loop-again
