@@ -1,7 +1,7 @@
--- `fast::is_full` meets its contract: each arm is a case of `isFull`. Assumes nothing.
+-- `fast_step::is_full` meets its contract: each arm is a case of `isFull`. Assumes nothing.
 use borrow.Author.Needs.{needs}
-use Rattle.fast.proofs.is_full.Statement.{statement}
-use Rattle.fast.proofs.is_full.Tie as tie
+use Rattle.fast_step.proofs.is_full.Statement.{statement}
+use Rattle.fast_step.proofs.is_full.Tie as tie
 
 enum-told : tie.Need-enum-told
 enum-told c = search needs

@@ -1,4 +1,4 @@
--- `fast::found_half` meets its contract: a token that is no Error does not stand still, so the half is told by whether its mode has room.
+-- `fast_step::found_half` meets its contract: a token that is no Error does not stand still, so the half is told by whether its mode has room.
 -- Assumes nothing.
 use borrow.Author.Needs.{needs}
 use mathlib.Core.Path.{refl, sym, _∙_}
@@ -6,8 +6,8 @@ use Rattle.base.specs.CasesLaws.{pick-yes, and-no}
 use Rattle.state.specs.Lexer.{settled}
 use Rattle.lexer.specs.Step.{stoodStill}
 use Rattle.found.specs.Found.{foundTaken}
-use Rattle.fast.proofs.found_half.Statement.{statement}
-use Rattle.fast.proofs.found_half.Tie as tie
+use Rattle.fast_step.proofs.found_half.Statement.{statement}
+use Rattle.fast_step.proofs.found_half.Tie as tie
 
 is-full-requires : tie.Need-is-full-requires
 is-full-requires c κs = search needs
