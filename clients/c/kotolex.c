@@ -40,7 +40,7 @@ enum {
 #define PATH_ROOM 4096
 
 static const char HELP[] =
-    "usage: kotolex FILE [--profile] [--table FILE] [--edition N]\n"
+    "usage: kotolex FILE [--profile | --engine ENGINE] [--table FILE] [--edition N]\n"
     "       kotolex FILE --old FILE [--edit PLACE,REMOVED] [--table FILE] [--edition N]\n"
     "       kotolex FILE --check LIST [--table FILE] [--edition N]\n"
     "       kotolex FILE --pad WIDTH [--align default|left|center|right] [--fill CLUSTER] [--table FILE] [--edition N]\n"
@@ -65,6 +65,7 @@ static const char HELP[] =
     "  --table FILE   the property table; without it, " TABLE_FILE " beside the program\n"
     "  --edition N    the edition of Unicode's cluster rules: 1 as before Unicode 15.1, without GB9c; 2, with it, if none is given\n"
     "  --check LIST   the other lexer's list, as this program prints it\n"
+    "  --engine E     scan by the fast engine, which is the default, or by the first one, which is smaller: fast or first. They list the same\n"
     "  --old FILE     the script before the edit\n"
     "  --edit P,R     the edit: its place in bytes, and how many bytes it removed; one that does not fit the two files is refused (16)\n"
     "  --pad WIDTH    0 to 4294967295; a longer line is printed as it is\n"
@@ -88,6 +89,8 @@ typedef struct {
     const char *align;
     const char *fill;
     const char *edition;
+    /* Of --engine; NULL for none. */
+    const char *engine;
     bool profile;
     bool help;
 } options;
@@ -109,8 +112,8 @@ static int fail(int status, const char *what, const char *name) {
 
 /* Where the word behind an option goes. NULL for a word that is no such option. */
 static const char **option_of(const char *word, options *to) {
-    static const char *const names[] = {"--table", "--check", "--old", "--edit", "--pad", "--align", "--fill", "--edition"};
-    const char **const places[] = {&to->table, &to->list, &to->old, &to->edit, &to->width, &to->align, &to->fill, &to->edition};
+    static const char *const names[] = {"--table", "--check", "--old", "--edit", "--pad", "--align", "--fill", "--edition", "--engine"};
+    const char **const places[] = {&to->table, &to->list, &to->old, &to->edit, &to->width, &to->align, &to->fill, &to->edition, &to->engine};
     for (size_t i = 0; i < sizeof names / sizeof names[0]; i++) {
         if (strcmp(word, names[i]) == 0) {
             return places[i];
@@ -139,6 +142,11 @@ static bool read_number_32(const char *word, uint32_t *to) {
     return true;
 }
 
+/* Whether the first engine is asked for. */
+static bool is_first(const options *asked) {
+    return asked->engine != NULL && strcmp(asked->engine, "first") == 0;
+}
+
 /* Reads the words of the command line. False for a line that is not as the help says. */
 static bool read_options(int argc, char **argv, options *to) {
     for (int i = 1; i < argc; i++) {
@@ -160,10 +168,11 @@ static bool read_options(int argc, char **argv, options *to) {
         }
     }
     /* One thing at a time; and what belongs to a width or to an old script only with it. */
-    int asked = to->profile + (to->list != NULL) + (to->old != NULL) + (to->width != NULL);
+    int asked = to->profile + (to->list != NULL) + (to->old != NULL) + (to->width != NULL) + (to->engine != NULL);
     bool pads = to->width != NULL || (to->align == NULL && to->fill == NULL);
     bool edits = to->old != NULL || to->edit == NULL;
-    return to->help || (to->script != NULL && asked <= 1 && pads && edits);
+    bool engine = to->engine == NULL || strcmp(to->engine, "fast") == 0 || is_first(to);
+    return to->help || (to->script != NULL && asked <= 1 && pads && edits && engine);
 }
 
 /* The path of the table's file beside the program. False if it can't be told. */
@@ -257,7 +266,7 @@ static words list_for(bytes script) {
     return list;
 }
 
-/* koto_scan, or koto_scan_profile. */
+/* koto_scan, koto_scan_fast or koto_scan_profile. */
 typedef uint32_t (*scanner)(const uint8_t *, size_t, const uint32_t *, size_t, uint32_t, uint32_t *, size_t, uint32_t *, size_t *, size_t *);
 
 static answer scan(scanner by, bytes script, words table, uint32_t edition, words list) {
@@ -320,7 +329,7 @@ static int scan_edited(const options *asked, bytes script, words table, uint32_t
             /* What the length says, or a number that fits nothing. */
             by.put_in = script.len + by.removed - old.len;
         }
-        answer before = scan(koto_scan, old, table, edition, old_list);
+        answer before = scan(koto_scan_fast, old, table, edition, old_list);
         to->refused = koto_rescan(old.at, old.len, old_list.at, old_list.len, before.count, by.place, by.removed, by.put_in, script.at,
                                   script.len, table.at, table.len, edition, list.at, list.len, &to->end, &to->count, &to->byte);
     }
@@ -338,7 +347,8 @@ static int list_tokens(const options *asked, bytes script, words table, uint32_t
     answer said = {0, 0, 0, 0};
     int status = FINE;
     if (asked->old == NULL) {
-        said = scan(asked->profile ? koto_scan_profile : koto_scan, script, table, edition, list);
+        scanner by = asked->profile ? koto_scan_profile : is_first(asked) ? koto_scan : koto_scan_fast;
+        said = scan(by, script, table, edition, list);
     } else {
         status = scan_edited(asked, script, table, edition, list, &said);
     }

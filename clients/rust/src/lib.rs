@@ -17,7 +17,7 @@ pub use edits::{rescan, Edit, Editor, Old, Rescanned};
 pub use foreign::{check_list, Checked};
 pub use formats::{add_string, parse, Added, Alignment, Fill, Options, Parsed, Pool, Representation};
 pub use lists::{
-    look_ahead, next, peek, room_for, scan, scan_profile, Cursor, Given, Peeked, Profiled, Scanned, Status, RECORD_WORDS,
+    look_ahead, next, peek, room_for, scan, scan_fast, scan_profile, Cursor, Given, Peeked, Profiled, Scanned, Status, RECORD_WORDS,
 };
 pub use padding::{pad, Padded, Padding};
 pub use raw::{Counts, Desk, Desks, Entry, Record};

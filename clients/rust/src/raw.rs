@@ -79,7 +79,7 @@ pub type Look = unsafe extern "C" fn(
     place: *mut usize,
 ) -> u32;
 
-/// A call that scans: [`koto_scan`] or [`koto_scan_profile`]
+/// A call that scans: [`koto_scan`], [`koto_scan_fast`] or [`koto_scan_profile`]
 pub type Scan = unsafe extern "C" fn(
     source: *const u8,
     source_len: usize,
@@ -115,6 +115,18 @@ extern "C" {
         place: *mut usize,
     ) -> u32;
     pub fn koto_scan(
+        source: *const u8,
+        source_len: usize,
+        table: *const u32,
+        table_len: usize,
+        edition: u32,
+        list: *mut u32,
+        list_len: usize,
+        status: *mut u32,
+        count: *mut usize,
+        byte: *mut usize,
+    ) -> u32;
+    pub fn koto_scan_fast(
         source: *const u8,
         source_len: usize,
         table: *const u32,

@@ -153,9 +153,7 @@ fn find_by_blocks(source: &[u8], table: &[u32], lexer: Lexer) -> Found
     match tag {
         LITERAL => contents_in_literal(source, table, lexer, state::quote_of(delimiter)),
         TEMPLATE_EXPR_FORMAT => nothing(),
-        RAW_START => of(fast_strings::consume_raw_string_contents(
-            source, table, lexer, delimiter,
-        )),
+        RAW_START => of(fast_strings::consume_raw_string_contents(source, table, lexer, delimiter)),
         RAW_END => nothing(),
         _ => comment_in_code(source, table, lexer),
     }
@@ -174,7 +172,13 @@ fn find_long(source: &[u8], table: &[u32], lexer: Lexer) -> Found
 }
 
 // The lexer's half of the read step, as `lexer::read_half` answers it. What is lent to a function that is not compiled into this one is a copy.
-pub fn fast_half(source: &[u8], table: &[u32], edition: u32, classes: &[u8; 256], lexer: Lexer) -> Half
+pub fn fast_half(
+    source: &[u8],
+    table: &[u32],
+    edition: u32,
+    classes: &[u8; 256],
+    lexer: Lexer,
+) -> Half
     requires { ⌜ Fine (now source) lexer × FitTable (now table) × ClassTable (now classes) ⌝ }
     ensures { λ r. ⌜ r ≡ half (propertiesAt (now (table .entry))) edition (now (source .entry)) lexer ⌝ }
 {

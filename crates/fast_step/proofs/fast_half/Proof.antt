@@ -42,8 +42,8 @@ returns-2 c =
     let long = c .before .before in
     let start = long .before .before .before .before .before .before in
     let found =
-        subst (λ (x : Lexer). StepFinds (now (start .args .source)) (now (start .args .table)) x (long .find-long .result)) (long .before .copied .ensures)
-        (long .find-long .ensures) in
+    subst (λ (x : Lexer). StepFinds (now (start .args .source)) (now (start .args .table)) x (long .find-long .result)) (long .before .copied .ensures)
+    (long .find-long .ensures) in
     c .found-half2 .ensures ∙ sym (found .is (ne-eqb (long .find-long .result .kind) error (c .before .if2 .taken)) (start .args .edition))
 
 copied-requires-2 : tie.Need-copied-requires-2
