@@ -1,16 +1,15 @@
 -- The row by a computed test at each place, and what the classes of a range have in common, by a computed test over the ASCII bytes.
 --     class-table     a row whose test holds at each of the 256 places
---     class-most      there are 22 classes
 --     by-class        what a test says of the ASCII bytes in a range of classes holds of every byte in it
 -- Assumes nothing.
 use Prim.Native.Nat.{ℕ, _≤_, _<_}
 use native.Mathlib.Omega.{arith}
-use mathlib.Core.Path.{_≡_, refl}
+use mathlib.Core.Path.{_≡_}
 use mathlib.Core.Bool.{Bool, true, false, not, _||_}
 use mathlib.Core.List.{List}
-use lib.Dec.{eqb, ltb}
+use lib.Dec.{eqb}
 use lib.ListN.{getD}
-use borrow.Author.Tests.{ltb-true, lt-ltb, eqb-true}
+use borrow.Author.Tests.{lt-ltb, eqb-true}
 use Rattle.base.specs.All.{allGood}
 use Rattle.base.specs.AllLaws.{good-at}
 use Rattle.base.specs.PickLaws.{by-lt, split-lt}
@@ -23,20 +22,12 @@ use Rattle.classes.specs.Classes.{classOf, ClassTable}
 pub class-table : (l : List ℕ) → allGood (λ b. eqb (getD l b 0) (classOf b)) 256 ≡ true → ClassTable l
 class-table l e = record { at = λ b h. eqb-true (getD l b 0) (classOf b) (good-at (λ b. eqb (getD l b 0) (classOf b)) 256 b h e) }
 
--- ---- the classes
+-- ---- ranges of classes
 
 -- above 127
-wide-class : (b : ℕ) → 128 ≤ b → (19 < classOf b) × (classOf b < 22)
+wide-class : (b : ℕ) → 128 ≤ b → 19 < classOf b
 unfolding classOf
-wide-class b h =
-    rw (lt-ltb 127 b (omega arith)) (by-lt (λ (c : ℕ). (19 < c) × (c < 22)) 191 b (λ _. (omega arith, omega arith)) (λ _. (omega arith, omega arith)))
-
-pub class-most : (b : ℕ) → classOf b < 22
-unfolding classOf inside allGood
-class-most b =
-    split-lt b 128 (λ h. ltb-true (classOf b) 22 (good-at (λ k. ltb (classOf k) 22) 128 b h refl)) (λ h. wide-class b h .1)
-
--- ---- ranges of classes
+wide-class b h = rw (lt-ltb 127 b (omega arith)) (by-lt (λ (c : ℕ). 19 < c) 191 b (λ _. omega arith) (λ _. omega arith))
 
 -- where the class is in the range, the test holds
 abbrev pub means : ℕ → ℕ → (ℕ → Bool) → ℕ → Bool
@@ -50,4 +41,4 @@ pub by-class : (first last : ℕ) (test : ℕ → Bool) → allGood (means first
     → inside (classOf b) first last ≡ true → test b ≡ true
 by-class first last test e l b t =
     split-lt b 128 (λ h. implied _ _ (good-at (means first last test) 128 b h e) t)
-    (λ h. absurd (omega (arith, inside-is (classOf b) first last t .1, wide-class b h .0)))
+    (λ h. absurd (omega (arith, inside-is (classOf b) first last t .1, wide-class b h)))
