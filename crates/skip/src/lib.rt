@@ -40,30 +40,15 @@ pub fn smaller(a: u8, b: u8) -> u8
     b
 }
 
-// How many of the 64 bytes from `at` on stay before the first that does not.
-fn count64(source: &[u8], at: usize, a: u8, b: u8, c: u8) -> usize
-    requires { ⌜ at + 64 ≤ length (now source) ⌝ }
-    ensures { λ r. ⌜ Counts (staysBut a b c) (now (source .entry)) at 64 64 r ⌝ }
+// How many of the bytes from `at` on stay before the first that does not, of a block of so many. It is inlined where the block's length is known.
+fn count(source: &[u8], at: usize, block: u8, a: u8, b: u8, c: u8) -> usize
+    requires { ⌜ at + block ≤ length (now source) ⌝ }
+    ensures { λ r. ⌜ Counts (staysBut a b c) (now (source .entry)) at block block r ⌝ }
 {
-    let mut n = 64u8;
+    let mut n = block;
     let mut k = 0u8;
-    while k < 64 {
-        let out = place_out(stays(source[at + (k as usize)], a, b, c), k, 64);
-        n = smaller(out, n);
-        k += 1;
-    }
-    n as usize
-}
-
-// The same of 32 bytes.
-fn count32(source: &[u8], at: usize, a: u8, b: u8, c: u8) -> usize
-    requires { ⌜ at + 32 ≤ length (now source) ⌝ }
-    ensures { λ r. ⌜ Counts (staysBut a b c) (now (source .entry)) at 32 32 r ⌝ }
-{
-    let mut n = 32u8;
-    let mut k = 0u8;
-    while k < 32 {
-        let out = place_out(stays(source[at + (k as usize)], a, b, c), k, 32);
+    while k < block {
+        let out = place_out(stays(source[at + (k as usize)], a, b, c), k, block);
         n = smaller(out, n);
         k += 1;
     }
@@ -95,7 +80,7 @@ pub fn skip(source: &[u8], at: usize, a: u8, b: u8, c: u8) -> usize
         if !stays(source[i], a, b, c) {
             return i;
         }
-        let n = count64(source, i, a, b, c);
+        let n = count(source, i, 64, a, b, c);
         if n < 64 {
             return i + n;
         }
@@ -116,7 +101,7 @@ pub fn skip_near(source: &[u8], at: usize, a: u8, b: u8, c: u8) -> usize
     if !stays(source[at], a, b, c) {
         return at;
     }
-    let n = count32(source, at, a, b, c);
+    let n = count(source, at, 32, a, b, c);
     if n < 32 {
         return at + n;
     }

@@ -10,14 +10,14 @@ use Rattle.skip.specs.SkipLaws.{passes-none, passes-on, passes-count, pa
 use Rattle.skip.proofs.skip_near.Statement.{statement}
 use Rattle.skip.proofs.skip_near.Tie as tie
 
-abbrev start : tie.After-count32 → tie.Start
+abbrev start : tie.After-count → tie.Start
 start c = c .before .before .before .before .before .before
 
 -- as far as the block was counted
-passed : (c : tie.After-count32)
+passed : (c : tie.After-count)
     → Passed (staysBut (start c .args .a) (start c .args .b) (start c .args .c)) (now (start c .args .source)) (start c .args .at)
-    (start c .args .at + c .count32 .result)
-passed c = passes-count (omega (arith, start c .pre, c .before .before .before .before .if1 .left)) (c .count32 .ensures)
+    (start c .args .at + c .count .result)
+passed c = passes-count (omega (arith, start c .pre, c .before .before .before .before .if1 .left)) (c .count .ensures)
 
 sub-if1 : tie.Need-sub-if1
 sub-if1 c = search needs
@@ -37,8 +37,8 @@ stays-requires c κs = search needs
 returns-2 : tie.Need-returns-2
 returns-2 c = passes-none (c .before .before .before .before .before .pre)
 
-count32-requires : tie.Need-count32-requires
-count32-requires c κs = search needs
+count-requires : tie.Need-count-requires
+count-requires c κs = search needs
 
 add-result : tie.Need-add-result
 add-result c = search needs
@@ -55,7 +55,7 @@ skip-requires c κs = search needs
 returns-4 : tie.Need-returns-4
 returns-4 c =
     let counted = c .before .before in
-    let all : counted .count32 .result ≡ 32 = omega (arith, counted .count32 .ensures .less, c .before .if3 .left) in
+    let all : counted .count .result ≡ 32 = omega (arith, counted .count .ensures .less, c .before .if3 .left) in
     passes-on (passes-all _ (passed counted) all) (c .skip .ensures)
 
 pub skip-near-spec : {M : Type 1} → statement M
@@ -68,7 +68,7 @@ skip-near-spec =
     shared-slice-read-stays
     stays-requires
     returns-2
-    count32-requires
+    count-requires
     add-result
     returns-3
     add-skip
