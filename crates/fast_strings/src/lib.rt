@@ -8,6 +8,7 @@ ghost use Rattle.text.specs.Stands.{Stands, charsFrom};
 ghost use Rattle.state.specs.Lexer.{reachOf};
 ghost use Rattle.strings.specs.ConsumeStringLiteral.{consumeStringLiteral};
 ghost use Rattle.strings.specs.ConsumeRawString.{consumeRawStringContents};
+use base::chars::CURLY_OPEN;
 use base::chars::HASH;
 use newlines::plain_turn;
 use state::Lexer;
@@ -27,10 +28,18 @@ pub fn consume_string_literal(source: &[u8], table: &[u32], lexer: Lexer, quote:
     let end_quote = quote as u8;
     let mut reach = lexer.reach();
     loop {
-        reach = skip::pass(source, reach, end_quote, b'{', b'\\');
+        reach = skip::pass_near(source, reach, end_quote, b'{', b'\\');
         let i = reach.byte.0;
         if source.len() <= i {
             return lexer.stuck();
+        }
+        // Most literals end here, and need no turn.
+        let b = byte_at(source, i);
+        if b == quote {
+            return lexer.token_to(kinds::STRING_LITERAL, reach);
+        }
+        if b == CURLY_OPEN {
+            return lexer.token_to(kinds::STRING_LITERAL, reach);
         }
         match literal_turn(source, table, i, quote) {
             Turn::Pass(bytes, columns) => {

@@ -112,7 +112,7 @@ fn keyword_or_id(source: &[u8], lexer: Lexer, end: Reach) -> Found
     }
     let at = lexer.place.current_byte.0;
     let len = end.byte.0 - at;
-    let kind = keywords::keyword(source, at, len);
+    let kind = fast_keywords::keyword(source, at, len);
     if kind == kinds::ID {
         return to(lexer, kinds::ID, end);
     }

@@ -40,22 +40,22 @@ pub fn smaller(a: u8, b: u8) -> u8
     b
 }
 
-// How many of the 64 bytes from `at` on stay before the first that does not.
-fn count64(source: &[u8], at: usize, a: u8, b: u8, c: u8) -> usize
-    requires { ⌜ at + 64 ≤ length (now source) ⌝ }
-    ensures { λ r. ⌜ Counts (staysBut a b c) (now (source .entry)) at 64 64 r ⌝ }
+// How many of the bytes from `at` on stay before the first that does not, of a block of so many. It is inlined where the block's length is known.
+fn count(source: &[u8], at: usize, block: u8, a: u8, b: u8, c: u8) -> usize
+    requires { ⌜ at + block ≤ length (now source) ⌝ }
+    ensures { λ r. ⌜ Counts (staysBut a b c) (now (source .entry)) at block block r ⌝ }
 {
-    let mut n = 64u8;
+    let mut n = block;
     let mut k = 0u8;
-    while k < 64 {
-        let out = place_out(stays(source[at + (k as usize)], a, b, c), k, 64);
+    while k < block {
+        let out = place_out(stays(source[at + (k as usize)], a, b, c), k, block);
         n = smaller(out, n);
         k += 1;
     }
     n as usize
 }
 
-// The same by single bytes, to the end.
+// How far the bytes from `at` on stay, by single bytes.
 fn skip_singly(source: &[u8], at: usize, a: u8, b: u8, c: u8) -> usize
     requires { ⌜ at ≤ length (now source) ⌝ }
     ensures { λ r. ⌜ Passed (staysBut a b c) (now (source .entry)) at r ⌝ }
@@ -80,7 +80,7 @@ pub fn skip(source: &[u8], at: usize, a: u8, b: u8, c: u8) -> usize
         if !stays(source[i], a, b, c) {
             return i;
         }
-        let n = count64(source, i, a, b, c);
+        let n = count(source, i, 64, a, b, c);
         if n < 64 {
             return i + n;
         }
@@ -89,12 +89,41 @@ pub fn skip(source: &[u8], at: usize, a: u8, b: u8, c: u8) -> usize
     skip_singly(source, i, a, b, c)
 }
 
-// The same from where reading stands, with its columns: one for each byte.
+// The same with a first block of 32, for what is short most often. With fewer than three bytes that are left out, LLVM makes no vector instructions of
+// so short a block.
+pub fn skip_near(source: &[u8], at: usize, a: u8, b: u8, c: u8) -> usize
+    requires { ⌜ at ≤ length (now source) ⌝ }
+    ensures { λ r. ⌜ Passed (staysBut a b c) (now (source .entry)) at r ⌝ }
+{
+    if source.len() - at < 32 {
+        return skip_singly(source, at, a, b, c);
+    }
+    if !stays(source[at], a, b, c) {
+        return at;
+    }
+    let n = count(source, at, 32, a, b, c);
+    if n < 32 {
+        return at + n;
+    }
+    skip(source, at + 32, a, b, c)
+}
+
+// `skip` from where reading stands, with its columns: one for each byte.
 pub fn pass(source: &[u8], start: Reach, a: u8, b: u8, c: u8) -> Reach
     requires { ⌜ Stands (now source) start ⌝ }
     ensures { λ r. ⌜ Past (staysBut a b c) (now (source .entry)) start r ⌝ }
 {
     let at = start.byte.0;
     let end = skip(source, at, a, b, c);
+    start.along_ascii(end - at)
+}
+
+// `skip_near` in the same way.
+pub fn pass_near(source: &[u8], start: Reach, a: u8, b: u8, c: u8) -> Reach
+    requires { ⌜ Stands (now source) start ⌝ }
+    ensures { λ r. ⌜ Past (staysBut a b c) (now (source .entry)) start r ⌝ }
+{
+    let at = start.byte.0;
+    let end = skip_near(source, at, a, b, c);
     start.along_ascii(end - at)
 }

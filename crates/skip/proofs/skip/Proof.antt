@@ -18,21 +18,21 @@ abbrev μ-loop : tie.MeasureT-loop
 μ-loop source at a b c i₀ i = length source - i
 
 -- where a block was counted
-abbrev turn : tie.After-count64 Inv-loop μ-loop → tie.In-loop Inv-loop μ-loop
+abbrev turn : tie.After-count Inv-loop μ-loop → tie.In-loop Inv-loop μ-loop
 turn c = c .before .before .before .before
 
-abbrev start : tie.After-count64 Inv-loop μ-loop → tie.Start Inv-loop μ-loop
+abbrev start : tie.After-count Inv-loop μ-loop → tie.Start Inv-loop μ-loop
 start c = turn c .before .before .before
 
 -- the block is within the source
-fits : (c : tie.After-count64 Inv-loop μ-loop) → turn c .before .loop .i + 64 ≤ length (now (start c .args .source))
+fits : (c : tie.After-count Inv-loop μ-loop) → turn c .before .loop .i + 64 ≤ length (now (start c .args .source))
 fits c = omega (arith, turn c .before .loop .inv .within, turn c .loop-test .taken)
 
 -- as far as it was counted
-passed : (c : tie.After-count64 Inv-loop μ-loop)
+passed : (c : tie.After-count Inv-loop μ-loop)
     → Passed (staysBut (start c .args .a) (start c .args .b) (start c .args .c)) (now (start c .args .source)) (start c .args .at)
-    (turn c .before .loop .i + c .count64 .result)
-passed c = passes-on (turn c .before .loop .inv) (passes-count (fits c) (c .count64 .ensures))
+    (turn c .before .loop .i + c .count .result)
+passed c = passes-on (turn c .before .loop .inv) (passes-count (fits c) (c .count .ensures))
 
 loop-holds : tie.Need-loop-holds Inv-loop μ-loop
 loop-holds c = passes-none (c .before .pre)
@@ -49,8 +49,8 @@ stays-requires c κs = search needs
 returns : tie.Need-returns Inv-loop μ-loop
 returns c = c .before .before .before .before .loop .inv
 
-count64-requires : tie.Need-count64-requires Inv-loop μ-loop
-count64-requires c κs = omega (arith, c .before .before .before .before .loop .inv .within, c .before .before .before .loop-test .taken)
+count-requires : tie.Need-count-requires Inv-loop μ-loop
+count-requires c κs = omega (arith, c .before .before .before .before .loop .inv .within, c .before .before .before .loop-test .taken)
 
 add-result : tie.Need-add-result Inv-loop μ-loop
 add-result c = omega (arith, passed (c .before) .within, start (c .before) .good)
@@ -66,7 +66,7 @@ loop-less c = omega (arith, fits (c .before))
 
 loop-again : tie.Need-loop-again Inv-loop μ-loop
 loop-again c =
-    let all : c .before .count64 .result ≡ 64 = omega (arith, c .before .count64 .ensures .less, c .if2 .left) in
+    let all : c .before .count .result ≡ 64 = omega (arith, c .before .count .ensures .less, c .if2 .left) in
     passes-all _ (passed (c .before)) all
 
 skip-singly-requires : tie.Need-skip-singly-requires Inv-loop μ-loop
@@ -86,7 +86,7 @@ skip-spec =
     shared-slice-read-stays
     stays-requires
     returns
-    count64-requires
+    count-requires
     add-result
     returns-2
     add-i

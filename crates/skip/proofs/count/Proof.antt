@@ -1,21 +1,21 @@
--- `skip::count64` meets its contract. The loop's invariant is the contract, of the k bytes that were looked at. Assumes nothing.
+-- `skip::count` meets its contract. The loop's invariant is the contract, of the k bytes that were looked at. Assumes nothing.
 use borrow.Author.Needs.{needs}
 use native.Mathlib.Omega.{arith}
 use Prim.Native.Nat.{_-_, _≤_}
 use mathlib.Core.Path.{_≡_}
 use Rattle.skip.specs.Skip.{staysBut, Counts}
 use Rattle.skip.specs.SkipLaws.{counts-none, counts-more}
-use Rattle.skip.proofs.count64.Statement.{statement}
-use Rattle.skip.proofs.count64.Tie as tie
+use Rattle.skip.proofs.count.Statement.{statement}
+use Rattle.skip.proofs.count.Tie as tie
 
 abbrev Inv-loop : tie.InvT-loop
-Inv-loop source at a b c n₀ k₀ n k = (k ≤ 64) × Counts (staysBut a b c) source at 64 k n
+Inv-loop source at block a b c n₀ k₀ n k = (k ≤ block) × Counts (staysBut a b c) source at block k n
 
 abbrev μ-loop : tie.MeasureT-loop
-μ-loop source at a b c n₀ k₀ n k = 64 - k
+μ-loop source at block a b c n₀ k₀ n k = block - k
 
 loop-holds : tie.Need-loop-holds Inv-loop μ-loop
-loop-holds c = (omega arith, counts-none 64)
+loop-holds c = (omega arith, counts-none _)
 
 cast-stays : tie.Need-cast-stays Inv-loop μ-loop
 cast-stays c = search needs
@@ -52,11 +52,11 @@ cast-result c = search needs
 returns : tie.Need-returns Inv-loop μ-loop
 returns c =
     let l = c .before in
-    let all : l .loop .k ≡ 64 = omega (arith, l .loop .inv .0) in
+    let all : l .loop .k ≡ l .before .before .args .block = omega (arith, l .loop .inv .0) in
     rw all at (l .loop .inv .1)
 
-pub count64-spec : {M : Type 1} → statement M
-count64-spec =
+pub count-spec : {M : Type 1} → statement M
+count-spec =
     tie.close
     (tie.spec
     Inv-loop
