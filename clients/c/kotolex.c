@@ -24,7 +24,7 @@
 
 /* Fits a screen of 80 times 24 (clients/README.md says more). */
 static const char HELP[] =
-    "usage: kotolex FILE.. [--profile | --half] [--names | --json | --paint]\n"
+    "usage: kotolex FILE.. [--profile | --half | --engine E] [--names | --json | ..]\n"
     "       kotolex FILE --old FILE [--edit PLACE,REMOVED] [--names | ..]\n"
     "       kotolex FILE --check LIST\n"
     "       kotolex FILE --pad WIDTH [--align SIDE] [--fill CLUSTER]\n"
@@ -34,6 +34,7 @@ static const char HELP[] =
     "  --paint        as the script, coloured on a terminal; --paint=always, anywhere\n"
     "  --profile      refuse raw strings and templates inside templates too\n"
     "  --half         scan into records at half the size; the output is the same\n"
+    "  --engine E     by the fast engine, or by the first, which is smaller: the same\n"
     "  --old FILE     as after an edit of this file: the one found, or --edit P,R\n"
     "  --check LIST   say whether another lexer's list is FILE's: same, differs INDEX\n"
     "  --pad WIDTH    print FILE's lines padded: --align left, center or right\n"
@@ -65,6 +66,8 @@ typedef struct {
     form as;
     /* Of PAINT: colours also where the output is no terminal. */
     bool always;
+    /* Of --engine; NULL for none. */
+    const char *engine;
     bool profile;
     bool half;
     bool help;
@@ -77,8 +80,8 @@ int fail(int status, const char *what, const char *name) {
 
 /* Where the word behind an option goes. NULL for a word that is no such option. */
 static const char **option_of(const char *word, options *to) {
-    static const char *const names[] = {"--table", "--check", "--old", "--edit", "--pad", "--align", "--fill", "--edition"};
-    const char **const places[] = {&to->table, &to->list, &to->old, &to->edit, &to->width, &to->align, &to->fill, &to->edition};
+    static const char *const names[] = {"--table", "--check", "--old", "--edit", "--pad", "--align", "--fill", "--edition", "--engine"};
+    const char **const places[] = {&to->table, &to->list, &to->old, &to->edit, &to->width, &to->align, &to->fill, &to->edition, &to->engine};
     for (size_t i = 0; i < sizeof names / sizeof names[0]; i++) {
         if (strcmp(word, names[i]) == 0) {
             return places[i];
@@ -103,6 +106,11 @@ bool read_number_32(const char *word, uint32_t *to) {
     }
     *to = (uint32_t)number;
     return true;
+}
+
+/* Whether the first engine is asked for. */
+static bool is_first(const options *asked) {
+    return asked->engine != NULL && strcmp(asked->engine, "first") == 0;
 }
 
 /* The form that a word asks for: NUMBERS for a word that is none. */
@@ -132,12 +140,13 @@ static int standard_inputs(const options *asked) {
 /* Whether what is asked for goes together: one thing at a time; one file where another belongs to it; a form only for lists; and what belongs to a
  * width or to an old script only with it. */
 static bool fits_together(const options *asked) {
-    int asked_for = asked->profile + asked->half + (asked->list != NULL) + (asked->old != NULL) + (asked->width != NULL);
+    int asked_for = asked->profile + asked->half + (asked->engine != NULL) + (asked->list != NULL) + (asked->old != NULL) + (asked->width != NULL);
     bool lists = asked->list == NULL && asked->width == NULL;
     bool files = asked->count == 1 || (asked->count > 1 && lists && asked->old == NULL);
     bool pads = asked->width != NULL || (asked->align == NULL && asked->fill == NULL);
     bool edits = asked->old != NULL || asked->edit == NULL;
-    return asked_for <= 1 && files && (lists || asked->as == NUMBERS) && pads && edits && standard_inputs(asked) <= 1;
+    bool engine = asked->engine == NULL || strcmp(asked->engine, "fast") == 0 || is_first(asked);
+    return asked_for <= 1 && engine && files && (lists || asked->as == NUMBERS) && pads && edits && standard_inputs(asked) <= 1;
 }
 
 /* Reads the words of the command line. False for a line that is not as the help says. The files are put together behind the
@@ -323,7 +332,7 @@ static words list_for(bytes script, size_t record_words) {
     return list;
 }
 
-/* koto_scan, koto_scan_half or koto_scan_profile. */
+/* koto_scan, koto_scan_fast, koto_scan_half or koto_scan_profile. */
 typedef uint32_t (*scanner)(const uint8_t *, size_t, const uint32_t *, size_t, uint32_t, uint32_t *, size_t, uint32_t *, size_t *, size_t *);
 
 static answer scan(scanner by, bytes script, words table, uint32_t edition, words list) {
@@ -386,7 +395,7 @@ static int scan_edited(const options *asked, bytes script, words table, uint32_t
             /* What the length says, or a number that fits nothing. */
             by.put_in = script.len + by.removed - old.len;
         }
-        answer before = scan(koto_scan, old, table, edition, old_list);
+        answer before = scan(koto_scan_fast, old, table, edition, old_list);
         to->refused = koto_rescan(old.at, old.len, old_list.at, old_list.len, before.count, by.place, by.removed, by.put_in, script.at,
                                   script.len, table.at, table.len, edition, list.at, list.len, &to->end, &to->count, &to->byte);
     }
@@ -417,6 +426,17 @@ static int print_end(printer *to, const answer *said) {
     return FINE;
 }
 
+/* The call that scans as asked. */
+static scanner scanner_of(const options *asked) {
+    if (asked->profile) {
+        return koto_scan_profile;
+    }
+    if (asked->half) {
+        return koto_scan_half;
+    }
+    return is_first(asked) ? koto_scan : koto_scan_fast;
+}
+
 /* Scans the script and prints what was written and how it ended. */
 static int list_tokens(const options *asked, const char *file, bytes script, words table, uint32_t edition) {
     words list = list_for(script, asked->half ? KOTO_HALF_RECORD_WORDS : KOTO_RECORD_WORDS);
@@ -426,7 +446,7 @@ static int list_tokens(const options *asked, const char *file, bytes script, wor
     answer said = {0, 0, 0, 0};
     int status = FINE;
     if (asked->old == NULL) {
-        scanner by = asked->profile ? koto_scan_profile : asked->half ? koto_scan_half : koto_scan;
+        scanner by = scanner_of(asked);
         said = scan(by, script, table, edition, list);
     } else {
         status = scan_edited(asked, script, table, edition, list, &said);

@@ -1,16 +1,13 @@
 -- lexer.rs `get_next_token`, the match outside strings, in two parts: what an ASCII character begins, as a number, and the arm that has the
 -- number. `ActionsLaws` proves that together they are the match.
 -- Assumes nothing.
-use Prim.Native.Nat.{ℕ, _<_}
-use mathlib.Core.Path.{_≡_}
+use Prim.Native.Nat.{ℕ}
 use mathlib.Core.List.{List}
 use lib.Dec.{eqb}
-use lib.ListN.{getD}
 use Rattle.base.specs.Pick.{pick}
 use Rattle.fitness.specs.Ascii.{isLetter}
 use Rattle.text.specs.Tests as char
 use Rattle.text.specs.Tests.{isWhitespace, isDigit, isLineEnd}
-use Rattle.state.specs.Modes.{tagOf}
 use Rattle.state.specs.declared.Lexer.{Lexer}
 use Rattle.state.specs.declared.Taken.{Taken}
 use Rattle.newlines.specs.ConsumeNewline.{consumeNewline}
@@ -20,7 +17,6 @@ use Rattle.numbers.specs.ConsumeNumber.{consumeNumber}
 use Rattle.names.specs.ConsumeIdOrKeyword.{consumeIdOrKeyword, consumeIgnored}
 use Rattle.symbol_tokens.specs.ConsumeSymbol.{consumeSymbol}
 use Rattle.lexer.specs.GetNextToken.{startString}
-use Rattle.classes.specs.Classes.{classOf}
 
 -- what an ASCII character begins
 unfoldable pub actionOf : ℕ → ℕ
@@ -46,14 +42,3 @@ arm look cs l n =
     (pick (eqb n 6) (consumeIdOrKeyword look cs l)
     (pick (eqb n 7) (consumeIgnored look cs l)
     (consumeSymbol cs l))))))))
-
--- a row has the action of each ASCII byte at the place of its class
-pub record ActionTable (l : List ℕ) : Type 0 where
-  pub at : (b : ℕ) → b < 128 → getD l (classOf b) 0 ≡ actionOf b
-
--- the mode on top is none of a string's, its format's or its end's
-pub record InCode (l : Lexer) : Type 0 where
-  pub no-literal : tagOf (l .mode) ≡ 1 → ⊥
-  pub no-format : tagOf (l .mode) ≡ 4 → ⊥
-  pub no-contents : tagOf (l .mode) ≡ 5 → ⊥
-  pub no-end : tagOf (l .mode) ≡ 6 → ⊥

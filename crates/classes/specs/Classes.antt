@@ -1,15 +1,15 @@
--- The class of a byte, and what the two rows of this crate say. The classes that a loop passes are a range: 4 to 6 are the parts of a name,
--- 0 to 13 stay in a comment of many lines, 0 to 15 are printable, 4 to 15 stay in a string's contents.
+-- The class of a byte, and what the row of this crate says. Characters that belong together have classes in a row: 4 to 6 are the parts of a name,
+-- 0 to 15 are printable.
 -- Assumes nothing.
 use Prim.Native.Nat.{ℕ, _<_}
 use mathlib.Core.Path.{_≡_}
-use mathlib.Core.Bool.{Bool, false, _||_}
+use mathlib.Core.Bool.{_||_}
 use mathlib.Core.List.{List}
 use lib.Dec.{eqb, ltb}
 use lib.ListN.{getD}
 use Rattle.base.specs.Pick.{pick}
 use Rattle.base.specs.Range.{inside}
-use Rattle.fitness.specs.Ascii.{isLetter, isNamePart}
+use Rattle.fitness.specs.Ascii.{isLetter}
 
 -- of a byte below 128
 abbrev pub asciiClassOf : ℕ → ℕ
@@ -49,7 +49,3 @@ classOf b = pick (ltb 127 b) (pick (ltb 191 b) 20 21) (asciiClassOf b)
 -- a row has the class of each byte at its place
 pub record ClassTable (l : List ℕ) : Type 0 where
   pub at : (b : ℕ) → b < 256 → getD l b 0 ≡ classOf b
-
--- a row tells of each byte whether it is a part of a name
-pub record PartTable (l : List Bool) : Type 0 where
-  pub at : (b : ℕ) → b < 256 → getD l b false ≡ isNamePart b

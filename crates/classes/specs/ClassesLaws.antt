@@ -1,54 +1,33 @@
--- The rows by a computed test at each place, and what the classes of a range have in common, by a computed test over the ASCII bytes.
---     class-table, part-table      a row whose test holds at each of the 256 places
---     class-most                   there are 22 classes
---     by-class                     what a test says of the ASCII bytes in a range of classes holds of every byte in it
---     name-class, multi-class, printable-class, contents-class      the ranges that the loops pass
+-- The row by a computed test at each place, and what the classes of a range have in common, by a computed test over the ASCII bytes.
+--     class-table     a row whose test holds at each of the 256 places
+--     by-class        what a test says of the ASCII bytes in a range of classes holds of every byte in it
 -- Assumes nothing.
 use Prim.Native.Nat.{ℕ, _≤_, _<_}
 use native.Mathlib.Omega.{arith}
-use mathlib.Core.Path.{_≡_, refl}
-use mathlib.Core.Bool.{Bool, true, false, Bool·beq, not, _&&_, _||_}
+use mathlib.Core.Path.{_≡_}
+use mathlib.Core.Bool.{Bool, true, false, not, _||_}
 use mathlib.Core.List.{List}
-use lib.Dec.{eqb, ltb}
+use lib.Dec.{eqb}
 use lib.ListN.{getD}
-use borrow.Author.Tests.{ltb-true, lt-ltb, eqb-true}
+use borrow.Author.Tests.{lt-ltb, eqb-true}
 use Rattle.base.specs.All.{allGood}
 use Rattle.base.specs.AllLaws.{good-at}
 use Rattle.base.specs.PickLaws.{by-lt, split-lt}
 use Rattle.base.specs.Range.{inside}
 use Rattle.base.specs.RangeLaws.{inside-is}
-use Rattle.fitness.specs.Ascii.{isNamePart, isPrintable}
-use Rattle.classes.specs.Classes.{classOf, ClassTable, PartTable}
+use Rattle.classes.specs.Classes.{classOf, ClassTable}
 
--- ---- the rows
+-- ---- the row
 
 pub class-table : (l : List ℕ) → allGood (λ b. eqb (getD l b 0) (classOf b)) 256 ≡ true → ClassTable l
 class-table l e = record { at = λ b h. eqb-true (getD l b 0) (classOf b) (good-at (λ b. eqb (getD l b 0) (classOf b)) 256 b h e) }
 
-same-is : (a b : Bool) → Bool·beq a b ≡ true → a ≡ b
-same-is true true e = refl
-same-is true false e = cc
-same-is false true e = cc
-same-is false false e = refl
-
-pub part-table : (l : List Bool) → allGood (λ b. Bool·beq (getD l b false) (isNamePart b)) 256 ≡ true → PartTable l
-part-table l e =
-    record { at = λ b h. same-is (getD l b false) (isNamePart b) (good-at (λ b. Bool·beq (getD l b false) (isNamePart b)) 256 b h e) }
-
--- ---- the classes
+-- ---- ranges of classes
 
 -- above 127
-wide-class : (b : ℕ) → 128 ≤ b → (19 < classOf b) × (classOf b < 22)
+wide-class : (b : ℕ) → 128 ≤ b → 19 < classOf b
 unfolding classOf
-wide-class b h =
-    rw (lt-ltb 127 b (omega arith)) (by-lt (λ (c : ℕ). (19 < c) × (c < 22)) 191 b (λ _. (omega arith, omega arith)) (λ _. (omega arith, omega arith)))
-
-pub class-most : (b : ℕ) → classOf b < 22
-unfolding classOf inside allGood
-class-most b =
-    split-lt b 128 (λ h. ltb-true (classOf b) 22 (good-at (λ k. ltb (classOf k) 22) 128 b h refl)) (λ h. wide-class b h .1)
-
--- ---- ranges of classes
+wide-class b h = rw (lt-ltb 127 b (omega arith)) (by-lt (λ (c : ℕ). 19 < c) 191 b (λ _. omega arith) (λ _. omega arith))
 
 -- where the class is in the range, the test holds
 abbrev pub means : ℕ → ℕ → (ℕ → Bool) → ℕ → Bool
@@ -62,26 +41,4 @@ pub by-class : (first last : ℕ) (test : ℕ → Bool) → allGood (means first
     → inside (classOf b) first last ≡ true → test b ≡ true
 by-class first last test e l b t =
     split-lt b 128 (λ h. implied _ _ (good-at (means first last test) 128 b h e) t)
-    (λ h. absurd (omega (arith, inside-is (classOf b) first last t .1, wide-class b h .0)))
-
--- not d, and the test holds
-abbrev pub but : ℕ → (ℕ → Bool) → ℕ → Bool
-but d test b = not (eqb b d) && test b
-
-pub name-class : (b : ℕ) → inside (classOf b) 4 6 ≡ true → isNamePart b ≡ true
-unfolding allGood classOf inside
-name-class = by-class 4 6 isNamePart refl (omega arith)
-
--- neither "#" nor "-"
-pub multi-class : (b : ℕ) → inside (classOf b) 0 13 ≡ true → but 35 (but 45 isPrintable) b ≡ true
-unfolding allGood classOf inside
-multi-class = by-class 0 13 (but 35 (but 45 isPrintable)) refl (omega arith)
-
-pub printable-class : (b : ℕ) → inside (classOf b) 0 15 ≡ true → isPrintable b ≡ true
-unfolding allGood classOf inside
-printable-class = by-class 0 15 isPrintable refl (omega arith)
-
--- no quote, no "{", no backslash
-pub contents-class : (b : ℕ) → inside (classOf b) 4 15 ≡ true → but 34 (but 39 (but 123 (but 92 isPrintable))) b ≡ true
-unfolding allGood classOf inside
-contents-class = by-class 4 15 (but 34 (but 39 (but 123 (but 92 isPrintable)))) refl (omega arith)
+    (λ h. absurd (omega (arith, inside-is (classOf b) first last t .1, wide-class b h)))

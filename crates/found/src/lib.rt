@@ -7,7 +7,12 @@ ghost use Rattle.position.specs.Position.{columnMost};
 ghost use Rattle.token.specs.Kind.{error};
 ghost use Rattle.state.specs.Lexer.{reachOf};
 ghost use Rattle.found.specs.Found.{foundAlong, foundTo, foundOf};
+use position::ByteOffset;
+use position::Column;
+use position::Place;
+use position::Position;
 use position::Reach;
+use position::Span;
 use state::Change;
 use state::Lexer;
 use state::Taken;
@@ -88,5 +93,35 @@ pub fn of(taken: Taken) -> Found
         column: end.column.0,
         indent: taken.lexer.indent,
         change,
+    }
+}
+
+// The same lexer, field by field: what is lent to a function that is not compiled into its caller has to stand in memory, and so the caller's own
+// can stay in registers.
+pub fn copied(lexer: Lexer) -> Lexer
+    ensures { λ r. ⌜ r ≡ lexer ⌝ }
+{
+    let place = lexer.place;
+    let start = place.span.start;
+    let end = place.span.end;
+    Lexer {
+        place: Place {
+            previous_byte: ByteOffset(place.previous_byte.0),
+            current_byte: ByteOffset(place.current_byte.0),
+            span: Span {
+                start: Position {
+                    line: start.line,
+                    column: Column(start.column.0),
+                },
+                end: Position {
+                    line: end.line,
+                    column: Column(end.column.0),
+                },
+            },
+        },
+        depth: lexer.depth,
+        indent: lexer.indent,
+        mode: lexer.mode,
+        previous_token: lexer.previous_token,
     }
 }

@@ -112,7 +112,7 @@ fn keyword_or_id(source: &[u8], lexer: Lexer, end: Reach) -> Found
     }
     let at = lexer.place.current_byte.0;
     let len = end.byte.0 - at;
-    let kind = keywords::keyword(source, at, len);
+    let kind = fast_keywords::keyword(source, at, len);
     if kind == kinds::ID {
         return to(lexer, kinds::ID, end);
     }
@@ -140,12 +140,7 @@ fn name(source: &[u8], table: &[u32], lexer: Lexer) -> Found
     requires { ⌜ Stands (now source) (reachOf lexer) × FitTable (now table) × (byteAt (now source) (reachOf lexer .byte .0) < 128) ⌝ }
     ensures { λ r. ⌜ Finds (consumeIdOrKeyword (propertiesAt (now (table .entry))) (charsFrom (now (source .entry)) (reachOf lexer)) lexer) lexer r ⌝ }
 {
-    let reach = lexer.reach();
-    name_to(
-        source,
-        lexer,
-        text::run_utf8(source, table, reach.along(1, 1), text::ID_CONTINUE),
-    )
+    name_to(source, lexer, fast_names::name_end(source, table, lexer, 1))
 }
 
 // What follows outside a string, by the class of its first byte.

@@ -8,8 +8,10 @@ ghost use Prim.Native.Nat.{_+_, _≤_};
 ghost use lib.Dec.{ltb};
 ghost use lib.ListN.{length};
 ghost use Rattle.base.specs.Pick.{pick};
-ghost use Rattle.skip.specs.Skip.{staysBut, Counts, Passed};
+ghost use Rattle.text.specs.Stands.{Stands};
+ghost use Rattle.skip.specs.Skip.{staysBut, Counts, Passed, Past};
 use base::between;
+use position::Reach;
 
 // A printable ASCII character that is none of the three.
 fn stays(x: u8, a: u8, b: u8, c: u8) -> bool
@@ -19,7 +21,7 @@ fn stays(x: u8, a: u8, b: u8, c: u8) -> bool
 }
 
 // The place k of a byte that does not stay; of one that does, `most`.
-fn place_out(stays: bool, k: u8, most: u8) -> u8
+pub fn place_out(stays: bool, k: u8, most: u8) -> u8
     ensures { λ r. ⌜ r ≡ pick stays most k ⌝ }
 {
     if stays {
@@ -28,32 +30,32 @@ fn place_out(stays: bool, k: u8, most: u8) -> u8
     k
 }
 
-// The count `n` of bytes that stay, once the byte at the place k is looked at too.
-pub fn counted(n: u8, k: u8, stays: bool, most: u8) -> u8
-    ensures { λ r. ⌜ r ≡ pick (ltb (pick stays most k) n) (pick stays most k) n ⌝ }
+// The smaller place. It stands apart from `place_out`, else LLVM makes branches of the two.
+pub fn smaller(a: u8, b: u8) -> u8
+    ensures { λ r. ⌜ r ≡ pick (ltb a b) a b ⌝ }
 {
-    let place = place_out(stays, k, most);
-    if place < n {
-        return place;
+    if a < b {
+        return a;
     }
-    n
+    b
 }
 
-// How many of the 64 bytes from `at` on stay before the first that does not.
-fn count64(source: &[u8], at: usize, a: u8, b: u8, c: u8) -> usize
-    requires { ⌜ at + 64 ≤ length (now source) ⌝ }
-    ensures { λ r. ⌜ Counts (staysBut a b c) (now (source .entry)) at 64 64 r ⌝ }
+// How many of the bytes from `at` on stay before the first that does not, of a block of so many. It is inlined where the block's length is known.
+fn count(source: &[u8], at: usize, block: u8, a: u8, b: u8, c: u8) -> usize
+    requires { ⌜ at + block ≤ length (now source) ⌝ }
+    ensures { λ r. ⌜ Counts (staysBut a b c) (now (source .entry)) at block block r ⌝ }
 {
-    let mut n = 64u8;
+    let mut n = block;
     let mut k = 0u8;
-    while k < 64 {
-        n = counted(n, k, stays(source[at + (k as usize)], a, b, c), 64);
+    while k < block {
+        let out = place_out(stays(source[at + (k as usize)], a, b, c), k, block);
+        n = smaller(out, n);
         k += 1;
     }
     n as usize
 }
 
-// The same by single bytes, to the end.
+// How far the bytes from `at` on stay, by single bytes.
 fn skip_singly(source: &[u8], at: usize, a: u8, b: u8, c: u8) -> usize
     requires { ⌜ at ≤ length (now source) ⌝ }
     ensures { λ r. ⌜ Passed (staysBut a b c) (now (source .entry)) at r ⌝ }
@@ -75,11 +77,53 @@ pub fn skip(source: &[u8], at: usize, a: u8, b: u8, c: u8) -> usize
 {
     let mut i = at;
     while 64 <= source.len() - i {
-        let n = count64(source, i, a, b, c);
+        if !stays(source[i], a, b, c) {
+            return i;
+        }
+        let n = count(source, i, 64, a, b, c);
         if n < 64 {
             return i + n;
         }
         i += 64;
     }
     skip_singly(source, i, a, b, c)
+}
+
+// The same with a first block of 32, for what is short most often. With fewer than three bytes that are left out, LLVM makes no vector instructions of
+// so short a block.
+pub fn skip_near(source: &[u8], at: usize, a: u8, b: u8, c: u8) -> usize
+    requires { ⌜ at ≤ length (now source) ⌝ }
+    ensures { λ r. ⌜ Passed (staysBut a b c) (now (source .entry)) at r ⌝ }
+{
+    if source.len() - at < 32 {
+        return skip_singly(source, at, a, b, c);
+    }
+    if !stays(source[at], a, b, c) {
+        return at;
+    }
+    let n = count(source, at, 32, a, b, c);
+    if n < 32 {
+        return at + n;
+    }
+    skip(source, at + 32, a, b, c)
+}
+
+// `skip` from where reading stands, with its columns: one for each byte.
+pub fn pass(source: &[u8], start: Reach, a: u8, b: u8, c: u8) -> Reach
+    requires { ⌜ Stands (now source) start ⌝ }
+    ensures { λ r. ⌜ Past (staysBut a b c) (now (source .entry)) start r ⌝ }
+{
+    let at = start.byte.0;
+    let end = skip(source, at, a, b, c);
+    start.along_ascii(end - at)
+}
+
+// `skip_near` in the same way.
+pub fn pass_near(source: &[u8], start: Reach, a: u8, b: u8, c: u8) -> Reach
+    requires { ⌜ Stands (now source) start ⌝ }
+    ensures { λ r. ⌜ Past (staysBut a b c) (now (source .entry)) start r ⌝ }
+{
+    let at = start.byte.0;
+    let end = skip_near(source, at, a, b, c);
+    start.along_ascii(end - at)
 }
