@@ -573,7 +573,7 @@ static int run(const options *asked, uint32_t edition, const char *program) {
 }
 
 int main(int argc, char **argv) {
-    options asked = {NULL, NULL, NULL, NULL, NULL, NULL, NULL, NULL, NULL, false, false};
+    options asked = {NULL, NULL, NULL, NULL, NULL, NULL, NULL, NULL, NULL, NULL, false, false};
     uint32_t edition = KOTO_WITH_GB9C;
     int status = FINE;
     if (!read_options(argc, argv, &asked) || (asked.edition != NULL && !read_number_32(asked.edition, &edition))) {
