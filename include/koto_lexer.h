@@ -26,7 +26,7 @@
 #include <stddef.h>
 #include <stdint.h>
 
-#define KOTO_LEXER_VERSION "0.13.0"
+#define KOTO_LEXER_VERSION "0.14.0"
 
 #ifdef __cplusplus
 extern "C" {
@@ -390,6 +390,17 @@ uint32_t koto_scan(const uint8_t *source, size_t source_len, const uint32_t *tab
  * refused  as koto_scan
  */
 uint32_t koto_scan_half(const uint8_t *source, size_t source_len, const uint32_t *table, size_t table_len, uint32_t edition,
+                        uint32_t *list, size_t list_len, uint32_t *status, size_t *count, size_t *byte);
+
+/* Scans as koto_scan does, by a second engine: answer, status, count, byte and every word of the list are the same on every input. It is for whoever
+ * reads much text in names, comments and strings and has room for more code; koto_scan is the small engine. bench/README.md has the times and
+ * the sizes of both.
+ *
+ * in       as koto_scan
+ * out      as koto_scan
+ * refused  as koto_scan
+ */
+uint32_t koto_scan_fast(const uint8_t *source, size_t source_len, const uint32_t *table, size_t table_len, uint32_t edition,
                         uint32_t *list, size_t list_len, uint32_t *status, size_t *count, size_t *byte);
 
 /* Scans as koto_scan does, and then refuses a source that is not in the site profile: one with a raw string, or with a template inside a

@@ -20,6 +20,7 @@ fn main() {
     );
     scans(&table);
     growth(&table);
+    engines(&table);
     rescans(&table);
     checks(&table);
     lists(&table);
@@ -48,17 +49,30 @@ fn scan(source: &[u8], table: &[u32], list: &mut [u32]) -> usize {
     }
 }
 
-/// Seconds for one scan of a source: by the library, by koto's lexer without keeping tokens, and into a vector
-fn time_scan(source: &[u8], table: &[u32]) -> [f64; 3] {
+fn scan_fast(source: &[u8], table: &[u32], list: &mut [u32]) -> usize {
+    match koto_lexer::scan_fast(source, table, EDITION, list) {
+        Scanned::End { count, .. } | Scanned::Stuck { count, .. } => count,
+        refused => panic!("the input was refused: {refused:?}"),
+    }
+}
+
+/// Seconds for one scan of a source: by the first engine and the second one, by koto's lexer without keeping tokens, and into a vector
+fn time_scan(source: &[u8], table: &[u32]) -> [f64; 4] {
     let mut list = vec![1; koto_lexer::room_for(source.len())];
+    let mut second = list.clone();
     let count = scan(source, table, &mut list);
+    scan_fast(source, table, &mut second);
+    assert_eq!(list, second);
     let mut tokens = Vec::with_capacity(count + 1);
     // Both sides read the same number of tokens.
     assert_eq!(count, koto_rust::collect(source, &mut tokens));
     assert_eq!(count, koto_rust::iterate(source));
-    let sides: [Side; 3] = [&mut || scan(source, table, &mut list), &mut || koto_rust::iterate(source), &mut || {
-        koto_rust::collect(source, &mut tokens)
-    }];
+    let sides: [Side; 4] = [
+        &mut || scan(source, table, &mut list),
+        &mut || scan_fast(source, table, &mut second),
+        &mut || koto_rust::iterate(source),
+        &mut || koto_rust::collect(source, &mut tokens),
+    ];
     medians(sides, (MEBIBYTE / source.len()).clamp(1, 200))
 }
 
@@ -67,7 +81,7 @@ fn scans(table: &[u32]) {
     for (kind, (name, _)) in inputs::KINDS.iter().enumerate() {
         let source = inputs::input(kind, MEBIBYTE);
         let tokens = koto_rust::iterate(&source);
-        let [ours, none, vector] = time_scan(&source, table);
+        let [ours, _, none, vector] = time_scan(&source, table);
         let speed = |seconds: f64| source.len() as f64 / seconds / 1e6;
         println!(
             "{name:<18} {tokens:>9} {:>8.1} {:>20.1} {:>6.2} {:>16.1} {:>6.2}",
@@ -89,8 +103,22 @@ fn growth(table: &[u32]) {
         });
         println!(
             "{name:<18} {:>19.2} {:>8.2} {:>8.2} {:>26.2} {:>8.2} {:>8.2}",
-            times[0][0], times[1][0], times[2][0], times[0][2], times[1][2], times[2][2]
+            times[0][0], times[1][0], times[2][0], times[0][3], times[1][3], times[2][3]
         );
+    }
+}
+
+/// The second engine at each size, beside the first one and the Rust into a vector
+fn engines(table: &[u32]) {
+    println!("\nsecond engine         ns a byte at 1 KiB   64 KiB    1 MiB    to the first: 1 KiB 64 KiB  1 MiB    to the Rust: 1 KiB 64 KiB  1 MiB");
+    for (kind, (name, _)) in inputs::KINDS.iter().enumerate() {
+        let times = [1 << 10, 1 << 16, MEBIBYTE].map(|len| {
+            let source = inputs::input(kind, len);
+            time_scan(&source, table).map(|seconds| seconds * 1e9 / len as f64)
+        });
+        print!("{name:<18} {:>21.2} {:>8.2} {:>8.2}", times[0][1], times[1][1], times[2][1]);
+        print!("   {:>17.2} {:>6.2} {:>6.2}", times[0][0] / times[0][1], times[1][0] / times[1][1], times[2][0] / times[2][1]);
+        println!("   {:>16.2} {:>6.2} {:>6.2}", times[0][3] / times[0][1], times[1][3] / times[1][1], times[2][3] / times[2][1]);
     }
 }
 
@@ -347,6 +375,7 @@ fn stacks(table: &[u32]) {
         let source = inputs::input(kind, 1 << 16);
         let mut list = vec![0; koto_lexer::room_for(source.len())];
         println!("koto_scan, {name:<18} {:>6}", stack::used(&mut || black_box(scan(&source, table, &mut list))));
+        println!("koto_scan_fast, {name:<13} {:>6}", stack::used(&mut || black_box(scan_fast(&source, table, &mut list))));
         let cursor = koto_lexer::scan(&source, table, EDITION, &mut list).cursor().expect("a list");
         let mut checks = || black_box(check(&source, table, &list, cursor));
         println!("koto_check_list, {name:<12} {:>6}", stack::used(&mut checks));

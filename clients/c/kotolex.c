@@ -1,33 +1,16 @@
-/* kotolex: lists the tokens of a Koto script, afresh or after an edit, checks a list of them, or pads its lines, by libkoto_lexer.a.
+/* kotolex: lists the tokens of Koto scripts, afresh or after an edit, checks a list of them, or pads a script's lines, by libkoto_lexer.a.
  *
  * It prints what the list program koto_list prints, for scripts of up to 1 MiB and with the full property table, and has an exit status of
- * its own for each kind of failure. With --check it says whether a list that another lexer printed so is the script's. With --pad it prints the
- * lines of a file, each padded to a width.
+ * its own for each kind of failure; or the same with names of kinds, as JSON, or as the script itself, painted (names.c, json.c, paint.c). With --check
+ * it says whether a list that another lexer printed so is the script's (checking.c). With --pad it prints the lines of a file, each padded to a width
+ * (padding.c).
  */
-#include <stdbool.h>
-#include <stdint.h>
-#include <stdio.h>
 #include <stdlib.h>
 #include <string.h>
 #include <unistd.h>
 
-#include "koto_lexer.h"
-
-/* Exit statuses. */
-enum {
-    FINE = 0,
-    SCAN_REFUSED = 1,
-    PAD_REFUSED = 1,
-    BAD_USAGE = 2,
-    NO_SCRIPT = 3,
-    NO_TABLE = 4,
-    TABLE_REFUSED = 5,
-    NO_MEMORY = 6,
-    NO_OUTPUT = 7,
-    STILL_ARRIVING = 8,
-    LIST_DIFFERS = 9,
-    NO_LIST = 10
-};
+#include "forms.h"
+#include "kotolex.h"
 
 /* The table's file, from the folder of the program. */
 #define TABLE_FILE "data/full.kpt"
@@ -39,46 +22,37 @@ enum {
 
 #define PATH_ROOM 4096
 
+/* Fits a screen of 80 times 24 (clients/README.md says more). */
 static const char HELP[] =
-    "usage: kotolex FILE [--profile | --half] [--table FILE] [--edition N]\n"
-    "       kotolex FILE --old FILE [--edit PLACE,REMOVED] [--table FILE] [--edition N]\n"
-    "       kotolex FILE --check LIST [--table FILE] [--edition N]\n"
-    "       kotolex FILE --pad WIDTH [--align default|left|center|right] [--fill CLUSTER] [--table FILE] [--edition N]\n"
-    "\n"
-    "Lists the tokens of a Koto script of at most 1,048,576 bytes, one on a line, by ten numbers: kind, detail, the bytes where it starts\n"
-    "and ends, the line and column where it starts, those where it ends, the indent of its line, and how many modes of strings and\n"
-    "templates are open before it. Last comes how the scan ended: end or stuck with the count of tokens and the current byte, or refused\n"
-    "with the refusal's number and place.\n"
-    "\n"
-    "With --check it reads such a list, from whatever lexer, and says same where its tokens, its count and how it ended are the script's, or\n"
-    "differs with the index of the first token that differs: the smaller of the two counts where only they or the ends differ. The byte of the\n"
-    "last line is not compared. A list that was refused differs, and one that has fewer tokens than it counts is refused (8).\n"
-    "\n"
-    "With --old it lists them as an editor does after one edit: it scans the old file, and then keeps of its list what stands before the edited\n"
-    "line. What it prints is the same. The edit is found by comparing the two files, or is given: at PLACE so many bytes went, and as many came\n"
-    "as the length says.\n"
-    "\n"
-    "With --pad it prints each line of the file padded to so many clusters, the line's own and the fills, and stops with refused at the first\n"
-    "line that is refused; the place is one of that line, or of the fill.\n"
-    "\n"
-    "  --profile      refuse raw strings and templates inside templates too: refused 21 and the index of the first such token, from 0\n"
-    "  --half         scan into records at half the size; what is printed is the same\n"
-    "  --table FILE   the property table; without it, " TABLE_FILE " beside the program\n"
-    "  --edition N    the edition of Unicode's cluster rules: 1 as before Unicode 15.1, without GB9c; 2, with it, if none is given\n"
-    "  --check LIST   the other lexer's list, as this program prints it\n"
-    "  --old FILE     the script before the edit\n"
-    "  --edit P,R     the edit: its place in bytes, and how many bytes it removed; one that does not fit the two files is refused (16)\n"
-    "  --pad WIDTH    0 to 4294967295; a longer line is printed as it is\n"
-    "  --align SIDE   where the line stands: left, which is the default, center, with the odd fill behind it, or right\n"
-    "  --fill CLUSTER what it is padded with; without it, spaces\n"
-    "  --help         this text\n"
-    "\n"
-    "exit status: 0 end or stuck, same, or all lines padded, 1 refused, 2 bad usage, 3 the file can't be read, 4 the table can't be\n"
-    "             read, 5 the table's file was refused, 6 no memory, 7 the output can't be written, 8 the script's end cuts a\n"
-    "             character: it may still be arriving (refused 15), 9 the list differs, 10 the list can't be read\n";
+    "usage: kotolex FILE.. [--profile | --half | --engine E] [--names | --json | ..]\n"
+    "       kotolex FILE --old FILE [--edit PLACE,REMOVED] [--names | ..]\n"
+    "       kotolex FILE --check LIST\n"
+    "       kotolex FILE --pad WIDTH [--align SIDE] [--fill CLUSTER]\n"
+    "Lists the tokens of Koto scripts of at most 1 MiB. FILE - is standard input.\n"
+    "  --names        with names of kinds in place of their numbers\n"
+    "  --json         as JSON, an object a line\n"
+    "  --paint        as the script, coloured on a terminal; --paint=always, anywhere\n"
+    "  --profile      refuse raw strings and templates inside templates too\n"
+    "  --half         scan into records at half the size; the output is the same\n"
+    "  --engine E     by the fast engine, or by the first, which is smaller: the same\n"
+    "  --old FILE     as after an edit of this file: the one found, or --edit P,R\n"
+    "  --check LIST   say whether another lexer's list is FILE's: same, differs INDEX\n"
+    "  --pad WIDTH    print FILE's lines padded: --align left, center or right\n"
+    "  --table FILE   the property table; without it, " TABLE_FILE " beside kotolex\n"
+    "  --edition N    Unicode's cluster rules: 1 without GB9c, 2 with it, the default\n"
+    "A token is kind, detail, first byte, byte behind it, line and column where it\n"
+    "starts, line and column where it ends, indent, depth. Last comes end or stuck\n"
+    "with COUNT BYTE, or refused with NUMBER PLACE.\n"
+    "Exit status: 0 fine, 1 refused, 2 usage, 3 no file, 4 no table, 5 table refused,\n"
+    "6 no memory, 7 no output, 8 cut character, 9 list differs, 10 no list.\n";
+
+/* How a list is printed. */
+typedef enum { NUMBERS, NAMES, JSON, PAINT } form;
 
 typedef struct {
-    const char *script;
+    /* The files, in order. */
+    char **scripts;
+    size_t count;
     const char *table;
     const char *list;
     /* Of --old; NULL for none. */
@@ -89,30 +63,25 @@ typedef struct {
     const char *align;
     const char *fill;
     const char *edition;
+    form as;
+    /* Of PAINT: colours also where the output is no terminal. */
+    bool always;
+    /* Of --engine; NULL for none. */
+    const char *engine;
     bool profile;
     bool half;
     bool help;
 } options;
 
-typedef struct {
-    uint8_t *at;
-    size_t len;
-} bytes;
-
-typedef struct {
-    uint32_t *at;
-    size_t len;
-} words;
-
-static int fail(int status, const char *what, const char *name) {
+int fail(int status, const char *what, const char *name) {
     fprintf(stderr, "kotolex: %s%s%s\n", what, name[0] == '\0' ? "" : ": ", name);
     return status;
 }
 
 /* Where the word behind an option goes. NULL for a word that is no such option. */
 static const char **option_of(const char *word, options *to) {
-    static const char *const names[] = {"--table", "--check", "--old", "--edit", "--pad", "--align", "--fill", "--edition"};
-    const char **const places[] = {&to->table, &to->list, &to->old, &to->edit, &to->width, &to->align, &to->fill, &to->edition};
+    static const char *const names[] = {"--table", "--check", "--old", "--edit", "--pad", "--align", "--fill", "--edition", "--engine"};
+    const char **const places[] = {&to->table, &to->list, &to->old, &to->edit, &to->width, &to->align, &to->fill, &to->edition, &to->engine};
     for (size_t i = 0; i < sizeof names / sizeof names[0]; i++) {
         if (strcmp(word, names[i]) == 0) {
             return places[i];
@@ -121,8 +90,7 @@ static const char **option_of(const char *word, options *to) {
     return NULL;
 }
 
-/* Reads a number of at most 19 digits. False for another word. */
-static bool read_number(const char *word, uint64_t *to) {
+bool read_number(const char *word, uint64_t *to) {
     size_t len = strlen(word);
     if (len == 0 || 19 < len || strspn(word, "0123456789") != len) {
         return false;
@@ -131,8 +99,7 @@ static bool read_number(const char *word, uint64_t *to) {
     return true;
 }
 
-/* Reads a number of 32 bits. False for another word. */
-static bool read_number_32(const char *word, uint32_t *to) {
+bool read_number_32(const char *word, uint32_t *to) {
     uint64_t number;
     if (!read_number(word, &number) || UINT32_MAX < number) {
         return false;
@@ -141,12 +108,61 @@ static bool read_number_32(const char *word, uint32_t *to) {
     return true;
 }
 
-/* Reads the words of the command line. False for a line that is not as the help says. */
+/* Whether the first engine is asked for. */
+static bool is_first(const options *asked) {
+    return asked->engine != NULL && strcmp(asked->engine, "first") == 0;
+}
+
+/* The form that a word asks for: NUMBERS for a word that is none. */
+static form form_of(const char *word) {
+    if (strcmp(word, "--names") == 0) {
+        return NAMES;
+    }
+    if (strcmp(word, "--json") == 0) {
+        return JSON;
+    }
+    return strcmp(word, "--paint") == 0 || strcmp(word, "--paint=always") == 0 ? PAINT : NUMBERS;
+}
+
+static bool is_standard_input(const char *path) {
+    return path != NULL && strcmp(path, "-") == 0;
+}
+
+/* How many files are to be read from standard input, which can be read once. */
+static int standard_inputs(const options *asked) {
+    int n = is_standard_input(asked->table) + is_standard_input(asked->list) + is_standard_input(asked->old);
+    for (size_t i = 0; i < asked->count; i++) {
+        n += is_standard_input(asked->scripts[i]);
+    }
+    return n;
+}
+
+/* Whether what is asked for goes together: one thing at a time; one file where another belongs to it; a form only for lists; and what belongs to a
+ * width or to an old script only with it. */
+static bool fits_together(const options *asked) {
+    int asked_for = asked->profile + asked->half + (asked->engine != NULL) + (asked->list != NULL) + (asked->old != NULL) + (asked->width != NULL);
+    bool lists = asked->list == NULL && asked->width == NULL;
+    bool files = asked->count == 1 || (asked->count > 1 && lists && asked->old == NULL);
+    bool pads = asked->width != NULL || (asked->align == NULL && asked->fill == NULL);
+    bool edits = asked->old != NULL || asked->edit == NULL;
+    bool engine = asked->engine == NULL || strcmp(asked->engine, "fast") == 0 || is_first(asked);
+    return asked_for <= 1 && engine && files && (lists || asked->as == NUMBERS) && pads && edits && standard_inputs(asked) <= 1;
+}
+
+/* Reads the words of the command line. False for a line that is not as the help says. The files are put together behind the
+ * program's name. */
 static bool read_options(int argc, char **argv, options *to) {
+    to->scripts = argv + 1;
     for (int i = 1; i < argc; i++) {
         const char **place = option_of(argv[i], to);
         if (strcmp(argv[i], "--help") == 0) {
             to->help = true;
+        } else if (form_of(argv[i]) != NUMBERS) {
+            if (to->as != NUMBERS) {
+                return false;
+            }
+            to->as = form_of(argv[i]);
+            to->always = strchr(argv[i], '=') != NULL;
         } else if (strcmp(argv[i], "--profile") == 0) {
             to->profile = true;
         } else if (strcmp(argv[i], "--half") == 0) {
@@ -157,17 +173,13 @@ static bool read_options(int argc, char **argv, options *to) {
                 return false;
             }
             *place = argv[i];
-        } else if (argv[i][0] == '-' || to->script != NULL) {
+        } else if (argv[i][0] == '-' && !is_standard_input(argv[i])) {
             return false;
         } else {
-            to->script = argv[i];
+            to->scripts[to->count++] = argv[i];
         }
     }
-    /* One thing at a time; and what belongs to a width or to an old script only with it. */
-    int asked = to->profile + to->half + (to->list != NULL) + (to->old != NULL) + (to->width != NULL);
-    bool pads = to->width != NULL || (to->align == NULL && to->fill == NULL);
-    bool edits = to->old != NULL || to->edit == NULL;
-    return to->help || (to->script != NULL && asked <= 1 && pads && edits);
+    return to->help || fits_together(to);
 }
 
 /* The path of the table's file beside the program. False if it can't be told. */
@@ -191,13 +203,17 @@ static bool path_beside(const char *program, char *path, size_t room) {
     return 0 < len && (size_t)len < room;
 }
 
+FILE *open_file(const char *path) {
+    return is_standard_input(path) ? stdin : fopen(path, "rb");
+}
+
 /* Reads a file, at most `room` bytes of it. `failed` is the status for a file that can't be read. */
 static int read_file(const char *path, size_t room, int failed, bytes *to) {
     to->at = malloc(room);
     if (to->at == NULL) {
         return fail(NO_MEMORY, "no memory for the file", path);
     }
-    FILE *file = fopen(path, "rb");
+    FILE *file = open_file(path);
     if (file == NULL) {
         return fail(failed, "can't open", path);
     }
@@ -207,13 +223,26 @@ static int read_file(const char *path, size_t room, int failed, bytes *to) {
     return whole ? FINE : fail(failed, "can't read", path);
 }
 
-static int print_refused(uint32_t number, size_t place, int status) {
+int print_refused(uint32_t number, size_t place, int status) {
     printf("refused %u %zu\n", (unsigned)number, place);
     return status;
 }
 
+/* Says the refusal of a file in the form that is asked for. What is painted is the script alone, so there it goes to standard error. */
+static int say_refused(form as, const char *file, uint32_t number, size_t place, int status) {
+    if (as == JSON) {
+        json_refused(file, number, place);
+    } else if (as == PAINT) {
+        fflush(stdout);
+        fprintf(stderr, "kotolex: %s: refused %u %zu\n", file, (unsigned)number, place);
+    } else {
+        print_refused(number, place, status);
+    }
+    return status;
+}
+
 /* Reads the property table. */
-static int read_table(const char *path, words *to) {
+static int read_table(const char *path, form as, words *to) {
     bytes file = {NULL, 0};
     int status = read_file(path, TABLE_FILE_ROOM, NO_TABLE, &file);
     to->at = status == FINE ? calloc(KOTO_TABLE_MOST, sizeof *to->at) : NULL;
@@ -223,26 +252,66 @@ static int read_table(const char *path, words *to) {
     if (status == FINE) {
         size_t place;
         uint32_t refused = koto_read_table(file.at, file.len, to->at, KOTO_TABLE_MOST, &to->len, &place);
-        status = refused == 0 ? FINE : print_refused(refused, place, TABLE_REFUSED);
+        status = refused == 0 ? FINE : say_refused(as, path, refused, place, TABLE_REFUSED);
     }
     free(file.at);
     return status;
 }
 
-static void print_record(const koto_record *r) {
-    printf("%u %u %u %u %u %u %u %u %u %u\n", (unsigned)r->kind, (unsigned)r->detail, (unsigned)r->start, (unsigned)r->end,
-           (unsigned)r->start_line, (unsigned)r->start_column, (unsigned)r->end_line, (unsigned)r->end_column, (unsigned)r->indent,
-           (unsigned)r->depth);
+/* Where and how the list of a script is printed. */
+typedef struct {
+    form as;
+    const char *file;
+    bytes script;
+    /* Of PAINT: whether in colours, up to where it is done, and the index of a record that the profile forbids. */
+    bool coloured;
+    size_t painted;
+    size_t forbidden;
+} printer;
+
+static void print_record(const koto_record *r, form as) {
+    if (as == NAMES) {
+        printf("%s", kind_name(r->kind));
+    } else {
+        printf("%u", (unsigned)r->kind);
+    }
+    printf(" %u %u %u %u %u %u %u %u %u\n", (unsigned)r->detail, (unsigned)r->start, (unsigned)r->end, (unsigned)r->start_line,
+           (unsigned)r->start_column, (unsigned)r->end_line, (unsigned)r->end_column, (unsigned)r->indent, (unsigned)r->depth);
+}
+
+/* Paints a token. An Error at the list's end is left for the rest of the script, which nobody reads and which may begin inside a character. */
+static void paint_record(printer *to, const koto_record *r, size_t index, size_t count) {
+    if (to->coloured && !(r->kind == KOTO_KIND_ERROR && index == count - 1)) {
+        paint_token(to->script.at + r->start, r->end - r->start, r->kind, index == to->forbidden);
+        to->painted = r->end;
+    }
+}
+
+/* Paints what is left of the script, as an Error; without colours, the whole script. */
+static void paint_rest(printer *to) {
+    const uint8_t *at = to->script.at + to->painted;
+    size_t len = to->script.len - to->painted;
+    if (to->coloured) {
+        paint_token(at, len, KOTO_KIND_ERROR, true);
+    } else {
+        fwrite(at, 1, len, stdout);
+    }
 }
 
 /* Prints the records of a list. It is walked as one that ends, whatever the scan's status is, so that each record comes once; `end` is KOTO_END or,
  * for a list with records at half the size, KOTO_END_HALF. */
-static void print_records(words list, size_t count, uint32_t end) {
+static void print_records(printer *to, words list, size_t count, uint32_t end) {
     size_t taken = 0, queued = 0, place;
     uint32_t shown;
     koto_record record;
     while (koto_next(list.at, list.len, &taken, &queued, count, end, &shown, &record, &place) == 0 && shown == 1) {
-        print_record(&record);
+        if (to->as == JSON) {
+            json_record(to->file, &record);
+        } else if (to->as == PAINT) {
+            paint_record(to, &record, taken - 1, count);
+        } else {
+            print_record(&record, to->as);
+        }
     }
 }
 
@@ -263,7 +332,7 @@ static words list_for(bytes script, size_t record_words) {
     return list;
 }
 
-/* koto_scan, koto_scan_half or koto_scan_profile. */
+/* koto_scan, koto_scan_fast, koto_scan_half or koto_scan_profile. */
 typedef uint32_t (*scanner)(const uint8_t *, size_t, const uint32_t *, size_t, uint32_t, uint32_t *, size_t, uint32_t *, size_t *, size_t *);
 
 static answer scan(scanner by, bytes script, words table, uint32_t edition, words list) {
@@ -326,7 +395,7 @@ static int scan_edited(const options *asked, bytes script, words table, uint32_t
             /* What the length says, or a number that fits nothing. */
             by.put_in = script.len + by.removed - old.len;
         }
-        answer before = scan(koto_scan, old, table, edition, old_list);
+        answer before = scan(koto_scan_fast, old, table, edition, old_list);
         to->refused = koto_rescan(old.at, old.len, old_list.at, old_list.len, before.count, by.place, by.removed, by.put_in, script.at,
                                   script.len, table.at, table.len, edition, list.at, list.len, &to->end, &to->count, &to->byte);
     }
@@ -335,8 +404,41 @@ static int scan_edited(const options *asked, bytes script, words table, uint32_t
     return status;
 }
 
+/* Says how a scan ended. */
+static int print_end(printer *to, const answer *said) {
+    /* Of a script that was refused before it was read nothing is painted. */
+    if (to->as == PAINT && (said->refused == 0 || said->count > 0)) {
+        paint_rest(to);
+    }
+    if (said->refused != 0) {
+        return say_refused(to->as, to->file, said->refused, said->byte, said->refused == KOTO_CUT_UTF8 ? STILL_ARRIVING : SCAN_REFUSED);
+    }
+    bool stuck = said->end == KOTO_STUCK || said->end == KOTO_STUCK_HALF;
+    const char *end = stuck ? "stuck" : "end";
+    if (to->as == JSON) {
+        json_end(to->file, end, said->count, said->byte);
+    } else if (to->as != PAINT) {
+        printf("%s %zu %zu\n", end, said->count, said->byte);
+    } else if (stuck) {
+        fflush(stdout);
+        fprintf(stderr, "kotolex: %s: stuck %zu %zu\n", to->file, said->count, said->byte);
+    }
+    return FINE;
+}
+
+/* The call that scans as asked. */
+static scanner scanner_of(const options *asked) {
+    if (asked->profile) {
+        return koto_scan_profile;
+    }
+    if (asked->half) {
+        return koto_scan_half;
+    }
+    return is_first(asked) ? koto_scan : koto_scan_fast;
+}
+
 /* Scans the script and prints what was written and how it ended. */
-static int list_tokens(const options *asked, bytes script, words table, uint32_t edition) {
+static int list_tokens(const options *asked, const char *file, bytes script, words table, uint32_t edition) {
     words list = list_for(script, asked->half ? KOTO_HALF_RECORD_WORDS : KOTO_RECORD_WORDS);
     if (list.at == NULL) {
         return fail(NO_MEMORY, "no memory for the list", "");
@@ -344,233 +446,72 @@ static int list_tokens(const options *asked, bytes script, words table, uint32_t
     answer said = {0, 0, 0, 0};
     int status = FINE;
     if (asked->old == NULL) {
-        scanner by = asked->profile ? koto_scan_profile : asked->half ? koto_scan_half : koto_scan;
+        scanner by = scanner_of(asked);
         said = scan(by, script, table, edition, list);
     } else {
         status = scan_edited(asked, script, table, edition, list, &said);
     }
     if (status == FINE) {
-        print_records(list, said.count, asked->half ? KOTO_END_HALF : KOTO_END);
+        size_t forbidden = said.refused == KOTO_NOT_IN_PROFILE ? said.byte : SIZE_MAX;
+        printer to = {asked->as, file, script, asked->always || isatty(STDOUT_FILENO), 0, forbidden};
+        if (asked->count > 1 && asked->as != JSON) {
+            printf("file %s\n", file);
+        }
+        print_records(&to, list, said.count, asked->half ? KOTO_END_HALF : KOTO_END);
+        status = print_end(&to, &said);
     }
     free(list.at);
-    if (status != FINE) {
-        return status;
-    }
-    if (said.refused != 0) {
-        return print_refused(said.refused, said.byte, said.refused == KOTO_CUT_UTF8 ? STILL_ARRIVING : SCAN_REFUSED);
-    }
-    printf("%s %zu %zu\n", said.end == KOTO_STUCK || said.end == KOTO_STUCK_HALF ? "stuck" : "end", said.count, said.byte);
-    return FINE;
-}
-
-/* ---- checking a list ---- */
-
-/* A line has ten numbers of at most ten digits. */
-#define LINE_ROOM 256
-#define LINE_NUMBERS 10
-/* The first word of no record that a scan writes. */
-#define NO_RECORD UINT32_MAX
-
-/* Another lexer's list, with its count and its status. */
-typedef struct {
-    words records;
-    size_t count;
-    uint32_t status;
-} foreign;
-
-/* Splits a line into numbers of 32 bits. How many they are; 0 where a word is another or they are too many. */
-static size_t read_numbers(char *line, uint32_t *to) {
-    size_t n = 0;
-    for (char *word = strtok(line, " \n"); word != NULL; word = strtok(NULL, " \n")) {
-        if (n == LINE_NUMBERS || !read_number_32(word, &to[n])) {
-            return 0;
-        }
-        n++;
-    }
-    return n;
-}
-
-/* Puts a record behind those that were read: kind, detail, the seven numbers that stand in a list as they are, depth. */
-static bool put_record(const uint32_t *numbers, foreign *to, size_t *room) {
-    if (to->records.len == *room) {
-        size_t more = *room == 0 ? KOTO_RECORD_WORDS * 1024 : 2 * *room;
-        uint32_t *at = realloc(to->records.at, more * sizeof *at);
-        if (at == NULL) {
-            return false;
-        }
-        to->records.at = at;
-        *room = more;
-    }
-    /* Numbers that have no room beside each other would be read as others. */
-    bool fits = numbers[0] < 128 && numbers[1] < 8192 && numbers[9] < 256;
-    uint32_t *record = to->records.at + to->records.len;
-    record[0] = fits ? numbers[0] + 128 * numbers[1] + 1048576 * numbers[9] : NO_RECORD;
-    memcpy(record + 1, numbers + 2, (KOTO_RECORD_WORDS - 1) * sizeof *record);
-    to->records.len += KOTO_RECORD_WORDS;
-    return true;
-}
-
-/* Reads the last line: how the list ended. False for another line. */
-static bool read_end(char *line, foreign *to) {
-    static const char *const ends[] = {"end ", "stuck ", "refused "};
-    uint32_t numbers[LINE_NUMBERS];
-    for (uint32_t status = KOTO_END; status <= KOTO_REFUSED; status++) {
-        size_t len = strlen(ends[status]);
-        if (strncmp(line, ends[status], len) == 0) {
-            bool whole = read_numbers(line + len, numbers) == 2;
-            to->status = status;
-            to->count = status == KOTO_REFUSED ? to->records.len / KOTO_RECORD_WORDS : numbers[0];
-            return whole;
-        }
-    }
-    return false;
-}
-
-/* Reads the lines of a list. */
-static int read_lines(FILE *file, const char *path, foreign *to) {
-    char line[LINE_ROOM];
-    uint32_t numbers[LINE_NUMBERS];
-    size_t room = 0;
-    while (fgets(line, sizeof line, file) != NULL) {
-        if (strchr("0123456789", line[0]) == NULL) {
-            bool whole = read_end(line, to) && fgetc(file) == EOF;
-            return whole ? FINE : fail(NO_LIST, "no list as kotolex prints it", path);
-        }
-        /* A line that is longer than the room would be taken for two. */
-        if (strchr(line, '\n') == NULL || read_numbers(line, numbers) != LINE_NUMBERS) {
-            break;
-        }
-        if (!put_record(numbers, to, &room)) {
-            return fail(NO_MEMORY, "no memory for the list", path);
-        }
-    }
-    return fail(NO_LIST, "no list as kotolex prints it", path);
-}
-
-/* Checks the list of a file against the script. */
-static int check_list(bytes script, words table, uint32_t edition, const char *path) {
-    FILE *file = fopen(path, "rb");
-    if (file == NULL) {
-        return fail(NO_LIST, "can't open", path);
-    }
-    foreign list = {{NULL, 0}, 0, KOTO_REFUSED};
-    int status = read_lines(file, path, &list);
-    fclose(file);
-    if (status == FINE) {
-        uint32_t none = 0, same;
-        size_t differs, place;
-        const uint32_t *records = list.records.at == NULL ? &none : list.records.at;
-        uint32_t refused = koto_check_list(script.at, script.len, table.at, table.len, edition, records, list.records.len, list.count,
-                                           list.status, &same, &differs, &place);
-        if (refused != 0) {
-            status = print_refused(refused, place, refused == KOTO_CUT_UTF8 ? STILL_ARRIVING : SCAN_REFUSED);
-        } else if (same == 1) {
-            puts("same");
-        } else {
-            printf("differs %zu\n", differs);
-            status = LIST_DIFFERS;
-        }
-    }
-    free(list.records.at);
     return status;
 }
 
-/* ---- padding ---- */
-
-typedef struct {
-    uint64_t alignment;
-    uint64_t width;
-    bool filled;
-    const uint8_t *fill;
-    size_t fill_len;
-} padding;
-
-/* Reads the words of --pad. False where one is not as the help says; whether a number is a width the library says. */
-static bool read_padding(const options *asked, padding *to) {
-    static const char *const sides[] = {"default", "left", "center", "right"};
-    for (to->alignment = 0; asked->align != NULL && strcmp(asked->align, sides[to->alignment]) != 0;) {
-        to->alignment++;
-        if (to->alignment == sizeof sides / sizeof sides[0]) {
-            return false;
-        }
+/* Does what is asked for with one script. */
+static int run_one(const options *asked, const char *file, bytes script, words table, uint32_t edition, const padding *by) {
+    if (asked->width != NULL) {
+        return pad_lines(script, table, edition, by);
     }
-    if (!read_number(asked->width, &to->width)) {
-        return false;
+    if (asked->list != NULL) {
+        return check_list(script, table, edition, asked->list);
     }
-    to->filled = asked->fill != NULL;
-    const char *fill = to->filled ? asked->fill : " ";
-    to->fill = (const uint8_t *)fill;
-    to->fill_len = strlen(fill);
-    return true;
+    return list_tokens(asked, file, script, table, edition);
 }
 
-/* Pads one line and prints it. */
-static int pad_line(const uint8_t *line, size_t len, const padding *by, words table, uint32_t edition) {
-    /* Room for the line and as many fills as the width asks for; what is refused needs none. */
-    size_t room = len + (by->width <= UINT32_MAX && by->fill_len <= KOTO_TEXT_MOST ? (size_t)by->width * by->fill_len : 0);
-    uint8_t *buffer = malloc(room + 1);
-    if (buffer == NULL) {
-        return fail(NO_MEMORY, "no memory for a padded line", "");
-    }
-    size_t padded, place;
-    uint32_t refused = koto_pad(line, len, by->alignment, by->width, by->filled, by->fill, by->fill_len, table.at, table.len,
-                                edition, buffer, room, &padded, &place);
-    if (refused == 0) {
-        fwrite(buffer, 1, padded, stdout);
-        putchar('\n');
-    }
-    free(buffer);
-    return refused == 0 ? FINE : print_refused(refused, place, PAD_REFUSED);
-}
-
-/* Pads each line of a file. What stands behind the last newline is a line, if it is something. */
-static int pad_lines(bytes text, words table, uint32_t edition, const padding *by) {
-    if (text.len > KOTO_SOURCE_MOST) {
-        return print_refused(KOTO_TOO_LONG, 0, PAD_REFUSED);
-    }
-    int status = FINE;
-    for (size_t start = 0; status == FINE && start < text.len;) {
-        const uint8_t *newline = memchr(text.at + start, '\n', text.len - start);
-        size_t end = newline == NULL ? text.len : (size_t)(newline - text.at);
-        status = pad_line(text.at + start, end - start, by, table, edition);
-        start = end + 1;
-    }
-    return status;
-}
-
+/* Goes through the files. The status is that of the first file that has another than 0; without a table no other is tried. */
 static int run(const options *asked, uint32_t edition, const char *program) {
     char beside[PATH_ROOM];
     padding by;
     edit given;
-    if ((asked->width != NULL && !read_padding(asked, &by)) || (asked->edit != NULL && !read_edit(asked->edit, &given))) {
+    if ((asked->width != NULL && !read_padding(asked->width, asked->align, asked->fill, &by)) || (asked->edit != NULL && !read_edit(asked->edit, &given))) {
         fputs(HELP, stderr);
         return BAD_USAGE;
     }
     if (asked->table == NULL && !path_beside(program, beside, sizeof beside)) {
         return fail(NO_TABLE, "where is the table? --table FILE says it", "");
     }
-    bytes script = {NULL, 0};
     words table = {NULL, 0};
-    int status = read_file(asked->script, SCRIPT_ROOM, NO_SCRIPT, &script);
-    if (status == FINE) {
-        status = read_table(asked->table != NULL ? asked->table : beside, &table);
+    int first = FINE;
+    for (size_t i = 0; i < asked->count; i++) {
+        bytes script = {NULL, 0};
+        int status = read_file(asked->scripts[i], SCRIPT_ROOM, NO_SCRIPT, &script);
+        bool no_table = false;
+        if (status == FINE && table.at == NULL) {
+            status = read_table(asked->table != NULL ? asked->table : beside, asked->as, &table);
+            no_table = status != FINE;
+        }
+        if (status == FINE) {
+            status = run_one(asked, asked->scripts[i], script, table, edition, &by);
+        }
+        free(script.at);
+        first = first != FINE ? first : status;
+        if (no_table) {
+            break;
+        }
     }
-    if (status != FINE) {
-        /* told already */
-    } else if (asked->width != NULL) {
-        status = pad_lines(script, table, edition, &by);
-    } else if (asked->list != NULL) {
-        status = check_list(script, table, edition, asked->list);
-    } else {
-        status = list_tokens(asked, script, table, edition);
-    }
-    free(script.at);
     free(table.at);
-    return status;
+    return first;
 }
 
 int main(int argc, char **argv) {
-    options asked = {NULL, NULL, NULL, NULL, NULL, NULL, NULL, NULL, NULL, false, false, false};
+    options asked = {0};
     uint32_t edition = KOTO_WITH_GB9C;
     int status = FINE;
     if (!read_options(argc, argv, &asked) || (asked.edition != NULL && !read_number_32(asked.edition, &edition))) {

@@ -1,9 +1,12 @@
-//! Links libkoto_lexer.a. KOTO_LEXER_LIB is its folder; without it, the one where `tools/archive` writes.
+//! Links libkoto_lexer.a. KOTO_LEXER_LIB is its folder; without it, that of a package, or else the one where `tools/archive` writes.
 
 use std::path::PathBuf;
 
 fn main() {
-    let beside = PathBuf::from(env!("CARGO_MANIFEST_DIR")).join("../../target/staticlib");
+    let here = PathBuf::from(env!("CARGO_MANIFEST_DIR"));
+    let machine = std::env::var("CARGO_CFG_TARGET_ARCH").expect("cargo names the machine");
+    let packed = here.join(format!("../lib/{machine}-linux-gnu"));
+    let beside = if packed.is_dir() { packed } else { here.join("../../target/staticlib") };
     let folder = std::env::var_os("KOTO_LEXER_LIB").map_or(beside, PathBuf::from);
     let archive = folder.join("libkoto_lexer.a");
     assert!(archive.is_file(), "{} is missing: `tools/archive` makes it", archive.display());

@@ -135,6 +135,11 @@ impl Library {
         self.scan_by(raw::koto_scan_half, which, edition)
     }
 
+    /// as of `scan`, by the second engine
+    pub fn scan_fast(&mut self, which: Table, edition: u32) -> Said<(u32, usize, usize)> {
+        self.scan_by(raw::koto_scan_fast, which, edition)
+    }
+
     /// as of `scan`, with the record's index in the place of the byte where the profile refuses
     pub fn scan_profile(&mut self, which: Table, edition: u32) -> Said<(u32, usize, usize)> {
         self.scan_by(raw::koto_scan_profile, which, edition)

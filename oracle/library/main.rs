@@ -5,6 +5,7 @@ mod conjuncts;
 mod cursors;
 mod cuts;
 mod damage;
+mod engines;
 mod foreign;
 mod formats;
 mod hosts;

@@ -4,7 +4,7 @@ use crate::calls::{Cursor, SOURCE_MOST, Said};
 use crate::damage::damaged;
 use crate::hosts::{self, Host};
 use crate::rich::Dice;
-use crate::{Run, foreign, scripts};
+use crate::{Run, engines, foreign, scripts};
 use answers::{Call, Shown, Status, text_of};
 use koto_lexer::raw::Record;
 
@@ -16,7 +16,7 @@ const QUEUE: usize = 65_535;
 
 pub fn compare(run: &mut Run, dice: &mut Dice, count: usize) {
     full_queues(run);
-    let mut done = [0; 4];
+    let mut done = [0; 5];
     for source in scripts::long(dice) {
         done[0] += one(run, dice, &source);
     }
@@ -25,6 +25,9 @@ pub fn compare(run: &mut Run, dice: &mut Dice, count: usize) {
     }
     for source in scripts::short() {
         done[2] += one(run, dice, &source);
+    }
+    for source in engines::sources() {
+        done[3] += one(run, dice, &source);
     }
     while done.iter().sum::<usize>() < count {
         let source = match dice.below(10) {
@@ -40,13 +43,13 @@ pub fn compare(run: &mut Run, dice: &mut Dice, count: usize) {
             2..4 => scripts::script(dice),
             _ => scripts::nested(dice),
         };
-        done[3] += one(run, dice, &source);
+        done[4] += one(run, dice, &source);
         let source = damaged(dice, &source);
-        done[3] += one(run, dice, &source);
+        done[4] += one(run, dice, &source);
     }
-    let [long, limits, short, random] = done;
+    let [long, limits, short, engines, random] = done;
     println!(
-        "sources: {} ({long} of about 1 MiB, {limits} at other limits, {short} short, {random} random)",
+        "sources: {} ({long} of about 1 MiB, {limits} at other limits, {short} short, {engines} for the second engine, {random} random)",
         done.iter().sum::<usize>()
     );
 }
@@ -97,7 +100,7 @@ fn put_half(list: &mut [u32], records: &[answers::Record], is_stuck: bool) {
     }
 }
 
-/// The list that a host has, by the scan, by the one at half the size and by the profile's
+/// The list that a host has, by both engines of the scan, by the one at half the size and by the profile's
 fn scan(run: &mut Run, source: &[u8], room: usize, host: &Host, dice: &mut Dice) -> Vec<u32> {
     let mut list = vec![OLD; room];
     // Room for as many records, and sometimes a few words more
@@ -132,6 +135,9 @@ fn scan(run: &mut Run, source: &[u8], room: usize, host: &Host, dice: &mut Dice)
         refused => refused,
     };
     walked(run, "scan_half", said, by_half, source, &half, host, is_walked.then_some(&mut *dice));
+    run.library.list.fill(&vec![OLD; room]);
+    let said = run.library.scan_fast(host.table, host.edition);
+    scanned(run, "scan_fast", said, wanted, source, &list);
     run.library.list.fill(&vec![OLD; room]);
     let said = run.library.scan(host.table, host.edition);
     walked(run, "scan", said, wanted, source, &list, host, is_walked.then_some(dice));

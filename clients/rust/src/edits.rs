@@ -92,8 +92,9 @@ impl Editor {
         }
         let old = Old { source: &self.source, list: &self.list, count: self.scanned.count() };
         let edit = Edit { place, removed, put_in: put_in.len() };
-        let Rescanned::AsScan(scanned) = rescan(old, edit, &source, &self.table, self.edition, &mut self.spare) else {
-            unreachable!("the edit was made here, and the list is a scan's");
+        let scanned = match rescan(old, edit, &source, &self.table, self.edition, &mut self.spare) {
+            Rescanned::AsScan(scanned) => scanned,
+            Rescanned::BadEdit | Rescanned::BadState => unreachable!("the edit was made here, and the list is a scan's"),
         };
         std::mem::swap(&mut self.list, &mut self.spare);
         (self.source, self.scanned) = (source, scanned);

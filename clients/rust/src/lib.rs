@@ -17,7 +17,7 @@ pub use edits::{rescan, Edit, Editor, Old, Rescanned};
 pub use foreign::{check_list, Checked};
 pub use formats::{add_string, parse, Added, Alignment, Fill, Options, Parsed, Pool, Representation};
 pub use lists::{
-    half_room_for, look_ahead, next, peek, room_for, scan, scan_half, scan_profile, Cursor, Given, Peeked, Profiled, Scanned, Status,
+    half_room_for, look_ahead, next, peek, room_for, scan, scan_fast, scan_half, scan_profile, Cursor, Given, Peeked, Profiled, Scanned, Status,
     HALF_RECORD_WORDS, RECORD_WORDS,
 };
 pub use padding::{pad, Padded, Padding};

@@ -81,7 +81,7 @@ pub type Look = unsafe extern "C" fn(
     place: *mut usize,
 ) -> u32;
 
-/// A call that scans: [`koto_scan`], [`koto_scan_half`] or [`koto_scan_profile`]
+/// A call that scans: [`koto_scan`], [`koto_scan_fast`], [`koto_scan_half`] or [`koto_scan_profile`]
 pub type Scan = unsafe extern "C" fn(
     source: *const u8,
     source_len: usize,
@@ -129,6 +129,18 @@ extern "C" {
         byte: *mut usize,
     ) -> u32;
     pub fn koto_scan_half(
+        source: *const u8,
+        source_len: usize,
+        table: *const u32,
+        table_len: usize,
+        edition: u32,
+        list: *mut u32,
+        list_len: usize,
+        status: *mut u32,
+        count: *mut usize,
+        byte: *mut usize,
+    ) -> u32;
+    pub fn koto_scan_fast(
         source: *const u8,
         source_len: usize,
         table: *const u32,

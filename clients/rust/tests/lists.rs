@@ -73,3 +73,18 @@ fn each_refusal_in_its_order() {
     // Whatever the list has: here it differs from the first record on.
     assert_eq!(by(&deep, &table, 2, 0), Checked::ModesFull(64));
 }
+
+#[test]
+fn both_engines_list_the_same() {
+    let table = full_table();
+    let long = ["# ".to_string() + &"a".repeat(200), "'".to_string() + &"b".repeat(130) + "{x:>5}'", "name_1 ".repeat(50)];
+    let short = ["", "x = 'a{b}' + r#'c'#", "'", "#- x", "\u{6f22}\u{e9}", "else if iffy", "\r"].map(str::to_string);
+    for source in long.iter().chain(&short).map(String::as_bytes).chain([b"a\xff".as_slice()]) {
+        for room in [0, 8, 20, room_for(source.len())] {
+            let (mut first, mut fast) = (vec![7; room], vec![7; room]);
+            let said = scan(source, &table, Edition::WITH_GB9C, &mut first);
+            assert_eq!(scan_fast(source, &table, Edition::WITH_GB9C, &mut fast), said);
+            assert_eq!(fast, first);
+        }
+    }
+}

@@ -9,10 +9,8 @@ use native.Mathlib.Omega.{arith}
 use mathlib.Core.Path.{_≡_, refl, sym, ap, subst, _∙_}
 use mathlib.Core.Bool.{true}
 use mathlib.Core.List.{List, [], _∷_, _++_, append-nil}
-use lib.Dec.{ltb}
-use lib.ListN.{length, getD, take, List·getD-append}
+use lib.ListN.{length, getD, List·getD-append}
 use lib.Seq.{drop-append-add, getD-append-add}
-use Rattle.base.specs.Pick.{pick}
 use Rattle.base.specs.PickLaws.{by-test, by-lt, split-lt, split-eq}
 use Rattle.base.specs.RangeLaws.{is-inside}
 use Rattle.utf8.specs.Encode.{encode, encodeAll, Scalars, WellFormed}

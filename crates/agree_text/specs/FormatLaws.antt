@@ -7,7 +7,6 @@ use mathlib.Core.Path.{_≡_, refl}
 use mathlib.Core.List.{List, [], _∷_}
 use lib.ListN.{length, take}
 use Rattle.utf8.specs.Encode.{encodeAll}
-use Rattle.cluster.specs.First.{firstEnd}
 use Rattle.cluster.specs.FirstLaws.{Agree, same-first}
 use Rattle.format_options.specs.Options.{noOptions}
 use Rattle.format_options.specs.declared.Options.{Options}

@@ -3,24 +3,26 @@
 --     check-agrees, pads-agree      the refusals before any work, and the call with its answer and the buffer after it
 -- Assumes nothing.
 use Prim.Native.Nat.{ℕ, suc, _+_}
-use mathlib.Core.Path.{_≡_, refl, sym, ap, _∙_}
+use mathlib.Core.Path.{_≡_, refl, sym, _∙_}
 use mathlib.Core.Bool.{Bool, true, false}
 use mathlib.Core.List.{List, [], _∷_}
-use lib.Dec.{ltb, eqb}
+use lib.Dec.{eqb}
 use lib.ListN.{length}
 use Rattle.base.specs.Pick.{pick}
 use Rattle.utf8.specs.Chars.{chars, checkFrom}
 use Rattle.property.specs.Table.{propertiesAt}
 use Rattle.fitness.specs.Fit.{tableCheck}
 use Rattle.fitness.specs.declared.TableCheck.the-variants.{Fit}
+use Rattle.input.specs.Input.{onUtf8, onInput}
+use Rattle.input.specs.declared.Refusal.the-variants.{TooLong}
 use Rattle.uax29.specs.Uax29.{joined}
 use Rattle.cluster.specs.FirstLaws.{Agree}
 use Rattle.cluster_count.specs.Count.{breaksFrom, clusterCount, begunIn}
 use Rattle.cluster_count.specs.CountLaws.{count-begun}
 use Rattle.fills.specs.Pad.{padded}
-use Rattle.pad_input.specs.Check.{textMost, onTable, onText, onFill, longFill, formatCheck, fillCheck, padCheck}
-use Rattle.pad_input.specs.declared.Check.the-variants.{Refused}
-use Rattle.pad_input.specs.declared.Refusal.the-variants.{TooLong, BadEdition, NoSuchFormat}
+use Rattle.pad_input.specs.Check.{textMost, longFill, formatCheck, fillCheck, padCheck}
+use Rattle.pad_input.specs.declared.Check.the-variants.{Refused, FillRefused, NoSuchFormat}
+use Rattle.agree.specs.ScanLaws.{inputs-agree}
 use Rattle.pad.specs.Call.{inRoom, bufferAfter, fillOf, onCheck, paddedText, padAnswer, Pads}
 use Rattle.pad.specs.declared.Padded.{Padded}
 
@@ -47,9 +49,9 @@ module _ (text : List ℕ) (alignment width : ℕ) (given : Bool) (fill t u : Li
       → fillCheck (propertiesAt t) edition alignment width fill ≡ fillCheck (propertiesAt u) edition alignment width fill
   unfolding fillCheck
   fill-agrees e =
-      λ i. onFill (checkFrom 0 fill)
+      λ i. onInput FillRefused (onUtf8 (checkFrom 0 fill))
       (pick (eqb (count-agrees (propertiesAt t) (propertiesAt u) edition (chars fill) (of-fill e) i) 1) (formatCheck alignment width)
-      (Refused NoSuchFormat))
+      NoSuchFormat)
 
   given-agrees : (b : Bool) → given ≡ b → pick b (fillCheck (propertiesAt t) edition alignment width fill) (formatCheck alignment width)
       ≡ pick b (fillCheck (propertiesAt u) edition alignment width fill) (formatCheck alignment width)
@@ -59,12 +61,8 @@ module _ (text : List ℕ) (alignment width : ℕ) (given : Bool) (fill t u : Li
   pub check-agrees : padCheck text alignment width given fill t edition ≡ padCheck text alignment width given fill u edition
   unfolding padCheck
   check-agrees =
-      λ i. pick (ltb textMost (length text)) (Refused TooLong)
-      (pick (longFill given fill) (Refused TooLong)
-      (pick (ltb edition 1) (Refused BadEdition)
-      (pick (ltb 2 edition) (Refused BadEdition)
-      (onTable ((fit ∙ sym also) i)
-      (onText (checkFrom 0 text) (given-agrees given refl i))))))
+      λ i. pick (longFill given fill) (Refused TooLong)
+      (onInput Refused (inputs-agree textMost text t u edition fit also i) (given-agrees given refl i))
 
   text-agrees : paddedText text alignment width given fill t edition ≡ paddedText text alignment width given fill u edition
   text-agrees =

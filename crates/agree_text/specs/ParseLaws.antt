@@ -16,9 +16,9 @@ use Rattle.cluster.specs.FirstLaws.{Agree}
 use Rattle.pool_rows.specs.Rows.{fitPool}
 use Rattle.pool_rows.specs.declared.Counts.{Counts}
 use Rattle.format.specs.Parse.{stringOf}
-use Rattle.parse.specs.Call.{Pool, addTo, lent, parsed, answer, Comes, comes, refusedAs, call, Parses}
+use Rattle.parse.specs.Call.{Pool, addTo, lent, parsed, answer, Comes, comes, call, Parses}
 use Rattle.parse.specs.declared.After.{After}
-use Rattle.parse.specs.declared.Parsed.the-variants.{BadState}
+use Rattle.parse.specs.declared.Parsed.the-variants.{Refused, BadState}
 use Rattle.agree.specs.ScanLaws.{inputs-agree}
 use Rattle.agree_text.specs.FormatLaws.{parse-agrees}
 
@@ -32,7 +32,7 @@ module _ (format t u : List ℕ) (edition : ℕ) (fit : tableCheck t ≡ Fit) (a
   pub call-agrees : (p : Pool) → call format t edition p ≡ call format u edition p
   unfolding call
   call-agrees p =
-      λ i. onInput (λ (x : Refusal). comes (refusedAs x) p) (inputs-agree formatMost format t u edition fit also i)
+      λ i. onInput (λ (x : Refusal). comes (Refused x) p) (inputs-agree formatMost format t u edition fit also i)
       (pick (fitPool (p .bytes) (p .entries) (p .counts)) (comes (answer (parsed-agrees p i)) (parsed-agrees p i .pool)) (comes BadState p))
 
   pub parses-agree : {bytes entries newBytes newEntries : List ℕ} {counts : Counts} {r : After}

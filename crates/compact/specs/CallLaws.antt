@@ -1,18 +1,17 @@
 -- Laws of the call `compact`.
 --     unfit, bad-mark, fine               the call where it is refused, and where not
---     good-of                             what good marks are
+--     rows-kept                           `compact_rows`
 --     Left, left-of                       how long the rows are after a compaction, and that what is held can be counted
 --     settled, settled-kept               a return of `compact`
 --     one-answer                          no second answer and no second rows fit `Compacts`
 -- Assumes nothing.
-use Prim.Native.Nat.{ℕ, _+_, _*_, _/_, _<_, _≤_}
+use Prim.Native.Nat.{ℕ, _*_, _/_, _≤_}
 use native.Mathlib.Omega.{arith}
 use mathlib.Core.Path.{_≡_, refl, sym, ap, _∙_}
 use mathlib.Core.Bool.{Bool, true, false}
 use mathlib.Core.List.{List}
-use lib.ListN.{length, getD}
-use Rattle.base.specs.Pick.{pick}
-use Rattle.base.specs.PickLaws.{by-test, by-lt}
+use lib.ListN.{length, getD, drop, replicate}
+use Rattle.base.specs.PickLaws.{by-test}
 use Rattle.pool_rows.specs.Rows.{stringAt, byteRoom, entryRoom}
 use Rattle.pool_rows.specs.FitLaws as pool
 use Rattle.pool_rows.specs.declared.Counts.{Counts}
@@ -21,10 +20,12 @@ use Rattle.desks.specs.FitLaws.{Fit, fit-of}
 use Rattle.desks.specs.SpentLaws.{spent, all-spent}
 use Rattle.desks.specs.declared.Desks.{Desks}
 use Rattle.desks.specs.declared.Which.the-variants.{First, Second}
-use Rattle.compact.specs.Compact.{keptStrings, keptOwners, newIndex, translated, joined, laidOut, headed, Compacted, isMarked, allGiven, goodMarks, countsAfter, desksAfter}
-use Rattle.compact.specs.Compact.{recharged, desksThen, compacted, Comes, comes, call, Compacts}
-use Rattle.compact.specs.CompactLaws.{kept-long, new-most, laid-long, kept-bytes}
-use Rattle.compact.specs.HeadLaws.{head-long}
+use Rattle.slide.specs.Slide.{keptStrings, keptOwners, gone, translated, joined, laidOut, headed, Compacted, stays}
+use Rattle.slide.specs.SlideLaws.{kept-long, new-most, laid-long, kept-bytes, compacted-same}
+use Rattle.slide.specs.HeadLaws.{head-long}
+use Rattle.marks.specs.Marks.{isMarked, allGiven, goodMarks, marked}
+use Rattle.marks.specs.MarksLaws.{marks-say, marks-rest}
+use Rattle.compact.specs.Compact.{countsAfter, desksAfter, recharged, compacted, Comes, comes, call, Compacts}
 use Rattle.compact.specs.LaidLaws.{runs-there}
 use Rattle.compact.specs.declared.Compaction.{Compaction}
 use Rattle.compact.specs.declared.Compaction.the-variants.{Kept, BadMark, BadState}
@@ -99,19 +100,19 @@ module _ (first second : List ℕ) (s : Shared) (moved : List ℕ) where
         moved-left = d .moved-left ∙ sym (ap (λ (c : Comes). c .moved) e);
       }
 
-both : (a b : Bool) → pick a b false ≡ true → (a ≡ true) × (b ≡ true)
-both true b e = (refl, e)
-both false b e = let z : _≡_ {A = ℕ} 0 1 = cc in absurd (omega arith)
-
-pub good-of : (first second moved : List ℕ) (n : ℕ) → goodMarks first second moved n ≡ true
-    → (n ≤ length moved) × (allGiven first n ≡ true) × (allGiven second n ≡ true)
-unfolding goodMarks
-good-of first second moved n =
-    by-lt (λ (t : Bool). t ≡ true → (n ≤ length moved) × (allGiven first n ≡ true) × (allGiven second n ≡ true)) (length moved) n
-    (λ l e. let z : _≡_ {A = ℕ} 0 1 = cc in absurd (omega arith))
-    (λ l e. let p = both _ _ e in (l, p .0, p .1))
-
 -- ---- the rows after a compaction
+
+-- what `slide` makes of the row that `clear` and `mark` leave
+pub rows-kept : (first second : List ℕ) (n : ℕ) (b e o m m1 m2 m3 b′ e′ o′ r : List ℕ) (counts : Counts) → n ≤ length m
+    → allGiven first n ≡ true → allGiven second n ≡ true
+    → m1 ≡ headed (replicate n gone) m → m2 ≡ marked m1 first → m3 ≡ marked m2 second
+    → Compacted (stays m3) n b e o m3 b′ e′ o′ r counts → Compacted (isMarked first second) n b e o m b′ e′ o′ r counts
+rows-kept first second n b e o m m1 m2 m3 b′ e′ o′ r counts h f g p q t c =
+    let w : m3 ≡ marked (marked (headed (replicate n gone) m) first) second =
+    t ∙ ap (λ (l : List ℕ). marked l second) (q ∙ ap (λ (l : List ℕ). marked l first) p) in
+    compacted-same (stays m3) (isMarked first second) n b e o m3 m b′ e′ o′ r counts
+    (λ k l. ap (λ (x : List ℕ). stays x k) w ∙ marks-say m first second n h k l)
+    (ap (drop n) w ∙ marks-rest m first second n h f g) c
 
 pub record Left (bytes entries owners newBytes newEntries newOwners : List ℕ) (counts after : Counts) : Type 0 where
   pub bytes-long : length newBytes ≡ length bytes

@@ -13,16 +13,15 @@ use mathlib.Core.List.{List, [], _∷_, _++_, append-assoc, append-nil}
 use lib.Dec.{eqb}
 use lib.ListN.{length, getD, length-append}
 use lib.Seq.{getD-at}
-use borrow.Author.Tests.{eqb-true, eqb-false, eq-eqb, ne-eqb}
+use borrow.Author.Tests.{eqb-true}
 use Rattle.base.specs.Pick.{pick}
-use Rattle.base.specs.PickLaws.{by-test}
 use Rattle.pool_rows.specs.Rows.{lengthOf, stringAt}
 use Rattle.pool.specs.Pool.{oneMore}
 use Rattle.pool_rows.specs.declared.Counts.{Counts}
 use Rattle.desks.specs.Desks.{heldBy}
 use Rattle.desks.specs.HeldLaws.{held-more}
-use Rattle.compact.specs.Compact.{kept, keptStrings, keptOwners, newIndex, joined, laidOut}
-use Rattle.compact.specs.CompactLaws.{kept-long, kept-with, kept-without, joined-more, laid-more, laid-long}
+use Rattle.slide.specs.Slide.{kept, keptStrings, keptOwners, newIndex, joined, laidOut}
+use Rattle.slide.specs.SlideLaws.{kept-long, kept-with, kept-without, joined-more, laid-more, laid-long}
 use Rattle.compact.specs.LaidLaws.{long-here}
 
 unfoldable pub heldKept : (ℕ → Bool) → List ℕ → List ℕ → ℕ → ℕ → Counts

@@ -2,7 +2,7 @@
 --     laid-runs, laid-strings     their entries run end to end, and their strings are these
 --     at-start                    the same at the start of a row that is headed by them
 -- Assumes nothing.
-use Prim.Native.Nat.{ℕ, zero, suc, _+_, _*_, _<_, _≤_}
+use Prim.Native.Nat.{ℕ, suc, _+_, _*_}
 use native.Mathlib.Omega.{arith}
 use mathlib.Core.Path.{_≡_, refl, sym, ap, _∙_}
 use mathlib.Core.Bool.{true}
@@ -11,7 +11,7 @@ use lib.ListN.{length, getD, take, drop, length-append}
 use lib.Seq.{getD-at, getD-append-add, drop-at, take-at}
 use borrow.Author.Tests.{eq-eqb}
 use Rattle.pool_rows.specs.Rows.{startOf, lengthOf, stringAt, stringsFrom, stringsOf, runsTo}
-use Rattle.compact.specs.Compact.{joined, laidOut, headed}
+use Rattle.slide.specs.Slide.{joined, laidOut, headed}
 
 -- the two numbers of the entry behind some words
 module _ (pre : List ℕ) (k start long : ℕ) (rest : List ℕ) (h : length pre ≡ 2 * k) where

@@ -6,35 +6,28 @@
 --     fit-kept            a compaction leaves a fit state
 --     entries-grow, bytes-grow    what is free for a desk grows by no less than what its own strings gave back
 -- Assumes nothing.
-use Prim.Native.Nat.{ℕ, zero, suc, _+_, _*_, _-_, _/_, _<_, _≤_}
+use Prim.Native.Nat.{ℕ, zero, suc, _+_, _-_, _<_, _≤_}
 use native.Mathlib.Omega.{arith}
-use native.Mathlib.Numerals.{add-one}
 use mathlib.Core.Path.{_≡_, refl, sym, ap, _∙_}
-use mathlib.Core.Bool.{Bool, true, false}
-use mathlib.Core.Logic.{⊎-elim}
-use mathlib.Core.List.{List, [], _∷_, _++_, append-nil}
-use lib.Dec.{eqb}
-use lib.ListN.{length, getD, drop, length-append, length-drop, List·getD-append}
+use mathlib.Core.Bool.{Bool, true}
+use mathlib.Core.List.{List, [], _∷_}
+use lib.ListN.{length, getD, drop, length-drop, List·getD-append}
 use lib.Seq.{getD-at, length-take-le}
-use borrow.Author.Tests.{eqb-true, eq-eqb, ne-eqb}
 use Rattle.base.specs.Pick.{pick}
-use Rattle.base.specs.PickLaws.{by-test, by-eq, split-eq}
-use Rattle.pool_rows.specs.Rows.{startOf, lengthOf, stringAt, stringsOf, byteRoom, entryRoom, fitPool}
-use Rattle.pool.specs.Pool.{oneMore}
+use Rattle.base.specs.PickLaws.{split-eq}
+use Rattle.pool_rows.specs.Rows.{startOf, lengthOf, stringAt, stringsOf, byteRoom, entryRoom}
 use Rattle.pool_rows.specs.StringsLaws.{strings-at}
 use Rattle.pool_rows.specs.FitLaws as pool
 use Rattle.pool_rows.specs.declared.Counts.{Counts}
-use Rattle.desks.specs.Desks.{ownerOf, heldBy, deskOf, left, beyond, commonRoom, Shared, Fits}
+use Rattle.desks.specs.Desks.{ownerOf, heldBy, deskOf, beyond, commonRoom, Shared}
 use Rattle.desks.specs.RoomLaws.{Out, out-of, out-by, swap, frees}
 use Rattle.desk_add.specs.Add.{freeEntries, freeBytes}
-use Rattle.desks.specs.HeldLaws.{held-more, held-same, held-most}
 use Rattle.desks.specs.FitLaws.{Fit, fit-of, fit-by}
-use Rattle.desks.specs.SpentLaws.{spent}
-use Rattle.desks.specs.declared.Desks.{Desks}
 use Rattle.desks.specs.declared.Which.{Which}
 use Rattle.desks.specs.declared.Which.the-variants.{First, Second}
-use Rattle.compact.specs.Compact.{kept, keptStrings, keptOwners, newIndex, gone, translated, joined, laidOut, headed, Compacted, compacted}
-use Rattle.compact.specs.CompactLaws.{kept-long, kept-with, kept-without, new-most, translated-long, joined-more, laid-more, laid-long}
+use Rattle.compact.specs.Compact.{compacted}
+use Rattle.slide.specs.Slide.{kept, keptStrings, keptOwners, newIndex, gone, translated, joined, laidOut, headed}
+use Rattle.slide.specs.SlideLaws.{kept-long, translated-long}
 use Rattle.compact.specs.LaidLaws.{runs-there, strings-there}
 use Rattle.compact.specs.CallLaws.{Left, left-of}
 use Rattle.compact.specs.HeldKeptLaws.{heldKept, held-laid, kept-most, kept-adds-up}

@@ -12,28 +12,25 @@
 use Prim.Native.Nat.{ℕ, _+_, _*_, _-_, _/_, _<_, _≤_}
 use native.Mathlib.Omega.{arith}
 use mathlib.Core.Path.{_≡_, refl, sym, ap, subst, _∙_}
-use mathlib.Core.Bool.{Bool, true, false}
+use mathlib.Core.Bool.{true, false}
 use mathlib.Core.List.{List, _++_}
 use lib.ListN.{length, take, drop}
 use borrow.Author.Tests.{eqb-true, eq-eqb}
-use Rattle.base.specs.Pick.{pick}
 use Rattle.base.specs.PickLaws.{by-lt}
 use Rattle.utf8.specs.Chars.{checkFrom}
 use Rattle.utf8.specs.declared.Utf8Check.{Utf8Check}
 use Rattle.utf8.specs.declared.Utf8Check.the-variants as utf8
 use Rattle.pool_rows.specs.Rows.{stringsOf, indexOf, roomMost, byteRoom, entryRoom}
-use Rattle.pool.specs.Pool.{oneMore, placed, onUtf8, isNew, bytesAfter, entriesAfter, countsAfter, AddsString}
+use Rattle.pool.specs.Pool.{oneMore, placed, onUtf8, refusalAt, isNew, bytesAfter, entriesAfter, countsAfter, AddsString}
 use Rattle.pool_rows.specs.FitLaws as pool
 use Rattle.pool_rows.specs.declared.Counts.{Counts}
 use Rattle.pool.specs.declared.Added.{Added}
 use Rattle.pool.specs.declared.Added.the-variants.{BadUtf8, CutUtf8, BadState}
-use Rattle.desks.specs.Desks.{Shared, deskOf, other, entriesFor, bytesFor, fitDesks}
+use Rattle.desks.specs.Desks.{Shared, deskOf, entriesFor, bytesFor, fitDesks}
 use Rattle.desks.specs.RoomLaws.{Out, out-of, fills, swap}
 use Rattle.desks.specs.FitLaws.{Fit, fit-of}
 use Rattle.desk_add.specs.Add.{addedFor, sharedAfter, AddsFor}
 use Rattle.desk_add.specs.PartsLaws.{part-added, part-bytes, part-entries}
-use Rattle.desks.specs.declared.Desk.{Desk}
-use Rattle.desks.specs.declared.Desks.{Desks}
 use Rattle.desks.specs.declared.Which.{Which}
 use Rattle.desks.specs.declared.Which.the-variants.{First, Second}
 use Rattle.desk_add.specs.declared.AddedFor.{AddedFor}
@@ -103,7 +100,7 @@ module _ (s : Shared) (which : Which) where
     cut i e = rw e
 
     pub unfit : fitDesks s ≡ false
-        → addedFor which s string ≡ onUtf8 (checkFrom 0 string) BadState
+        → addedFor which s string ≡ refusalAt string
     unfolding addedFor
     unfit e = rw e
 

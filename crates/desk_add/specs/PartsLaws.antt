@@ -11,20 +11,15 @@ use mathlib.Core.List.{List, [], _∷_, _++_, append-assoc}
 use lib.ListN.{length, getD, set, take, drop, length-set, take-append-drop}
 use lib.Seq.{length-take-le, take-nil, getD-take, take-take, drop-append-le, set-append-left}
 use borrow.Author.Tests.{le-ltb}
-use Rattle.base.specs.Pick.{pick}
-use Rattle.base.specs.PickLaws.{by-test}
 use Rattle.utf8.specs.Chars.{checkFrom}
-use Rattle.utf8.specs.declared.Utf8Check.{Utf8Check}
-use Rattle.utf8.specs.declared.Utf8Check.the-variants as utf8
-use Rattle.pool_rows.specs.Rows.{startOf, lengthOf, stringAt, stringsOf, indexOf, roomMost, roomOf, byteRoom, entryRoom, runsTo, fitIn, fitPool}
+use Rattle.pool_rows.specs.Rows.{startOf, lengthOf, stringAt, stringsOf, indexOf, roomMost, roomOf, byteRoom, entryRoom, fitPool}
 use Rattle.pool.specs.Pool.{placed}
 use Rattle.pool.specs.Pool.{onUtf8, added, isNew, written, entered, bytesAfter, entriesAfter}
 use Rattle.pool_rows.specs.StringsLaws.{strings-same}
-use Rattle.pool_rows.specs.FitLaws.{room-within, entry-room, Fit, fit-of, fit-by, within, runs-same}
+use Rattle.pool_rows.specs.FitLaws.{room-within, entry-room, Fit, fit-by, within, runs-same}
 use Rattle.pool.specs.PoolLaws.{placed-same, old-bytes, old-entries, new-bytes, new-entries}
 use Rattle.pool_rows.specs.declared.Counts.{Counts}
 use Rattle.pool.specs.declared.Added.{Added}
-use Rattle.pool.specs.declared.Added.the-variants.{BadState}
 
 room-small : (n : ℕ) → n ≤ roomMost → roomOf n ≡ n
 unfolding roomOf

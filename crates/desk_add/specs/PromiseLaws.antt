@@ -9,40 +9,37 @@
 --     within-guarantee    a desk that stays within its guarantee is not refused with 13
 --     alone               where the other desk is guaranteed nothing, the pool alone answers so
 -- Assumes nothing.
-use Prim.Native.Nat.{ℕ, zero, suc, _+_, _*_, _-_, _/_, _<_, _≤_}
+use Prim.Native.Nat.{ℕ, _+_, _*_, _-_, _<_, _≤_}
 use native.Mathlib.Omega.{arith}
 use native.Mathlib.Numerals.{add-one}
 use mathlib.Core.Path.{_≡_, refl, sym, ap, subst, _∙_}
-use mathlib.Core.Bool.{Bool, true, false}
-use mathlib.Core.List.{List, [], _∷_}
-use lib.Dec.{eqb, ltb}
+use mathlib.Core.Bool.{true, false}
+use mathlib.Core.List.{List, []}
+use lib.Dec.{eqb}
 use lib.ListN.{length, getD, set, length-set, length-append, length-drop}
 use lib.Seq.{getD-set-same, getD-set-other, length-take-le}
-use borrow.Author.Tests.{eqb-true, eq-eqb, ne-eqb}
+use borrow.Author.Tests.{eq-eqb, ne-eqb}
 use Rattle.base.specs.Pick.{pick}
 use Rattle.base.specs.PickLaws.{by-lt, by-test}
 use Rattle.utf8.specs.Chars.{checkFrom}
-use Rattle.utf8.specs.Encode.{WellFormed}
-use Rattle.utf8.specs.CharsLaws.{fine-of-well}
 use Rattle.utf8.specs.declared.Utf8Check.{Utf8Check}
 use Rattle.utf8.specs.declared.Utf8Check.the-variants as utf8
 use Rattle.pool_rows.specs.StringsLaws.{strings-at}
 use Rattle.pool_rows.specs.Rows.{stringAt, lengthOf, stringsOf, indexOf, byteRoom, entryRoom, fitPool}
 use Rattle.pool.specs.Pool.{oneMore, placed, onUtf8, added, isNew, written, entered}
-use Rattle.pool.specs.Pool.{bytesAfter, entriesAfter, countsAfter, AddsString, Grown}
+use Rattle.pool.specs.Pool.{bytesAfter, entriesAfter, countsAfter, Grown}
 use Rattle.pool_rows.specs.FitLaws as pool
-use Rattle.pool.specs.PoolLaws.{placed-there, placed-new, unrefused, grows, old-bytes, old-entries, new-bytes, new-entries}
+use Rattle.pool.specs.PoolLaws.{placed-there, placed-new, grows, old-bytes, old-entries, new-bytes, new-entries}
 use Rattle.pool.specs.PoolLaws as pools
 use Rattle.pool_rows.specs.declared.Counts.{Counts}
 use Rattle.pool.specs.declared.Added.{Added}
 use Rattle.pool.specs.declared.Added.the-variants.{Index, BadUtf8, CutUtf8, BadState, PoolFull}
-use Rattle.desks.specs.Desks.{Shared, shared, Fits, ownerOf, heldBy, left, commonLeft, deskOf, other, entriesFor, bytesFor, fitDesks, entriesShared, bytesShared}
+use Rattle.desks.specs.Desks.{Shared, shared, Fits, ownerOf, heldBy, deskOf, other, entriesFor, bytesFor, entriesShared, bytesShared}
 use Rattle.desk_add.specs.Add.{freeEntries, freeBytes, inWords, addedFor, withMore, sharedAfter, addFor}
 use Rattle.desks.specs.RoomLaws.{Out, out-of, out-by, in-words, owed, takes, swap}
 use Rattle.desks.specs.HeldLaws.{held-more, held-same}
 use Rattle.desks.specs.FitLaws.{Fit, fit-of, fit-by}
-use Rattle.desk_add.specs.AddLaws.{fitting, unfit, unwritten, less-entries, less-bytes, fills-pool}
-use Rattle.desks.specs.declared.Desk.{Desk}
+use Rattle.desk_add.specs.AddLaws.{fitting, less-entries, less-bytes}
 use Rattle.desks.specs.declared.Desks.{Desks}
 use Rattle.desks.specs.declared.Which.{Which}
 use Rattle.desks.specs.declared.Which.the-variants.{First, Second}

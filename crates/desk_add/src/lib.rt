@@ -4,9 +4,6 @@
 // (`pool::add_string`), and what the other desk holds and is owed does not change with it.
 ghost use mathlib.Core.Path.{_≡_};
 ghost use Prim.Native.Nat.{_+_, _≤_, _<_};
-ghost use Rattle.utf8.specs.Chars.{checkFrom};
-ghost use Rattle.pool.specs.Pool.{onUtf8};
-ghost use Rattle.pool.specs.declared.Added.the-variants as added;
 ghost use Rattle.desks.specs.Desks.{shared, deskOf};
 ghost use Rattle.desk_add.specs.Add.{chargedMore, withMore, AddsFor};
 use desks::Desk;
@@ -53,17 +50,6 @@ fn charge_to(which: Which, desks: Desks, long: u32) -> Desks
     }
 }
 
-// The answer where the desks are unfit: a string that is wrong or cut is told first.
-pub fn refuse(string: &[u8]) -> Added
-    ensures { λ r. ⌜ r ≡ onUtf8 (checkFrom 0 (now (string .entry))) added.BadState ⌝ }
-{
-    match utf8::check_utf8(string) {
-        utf8::Utf8Check::BadAt(i) => Added::BadUtf8(i),
-        utf8::Utf8Check::CutAt(i) => Added::CutUtf8(i),
-        utf8::Utf8Check::Fine => Added::BadState,
-    }
-}
-
 // Adds a string for a desk to a pool: its index, the counts and both desks after it. Refused are a string that is wrong or cut, then a pool or
 // desks that are unfit, then a string that is not there and would pass the common room and what is left of the desk's guarantee. Only a new
 // string writes: its bytes, its entry and its owner behind those in use.
@@ -82,7 +68,7 @@ pub fn add_string(
 {
     if !desks::is_fit(bytes, entries, owners, counts, desks) {
         return AddedFor {
-            added: refuse(string),
+            added: pool::refusal_of(string),
             counts,
             desks,
         };

@@ -6,9 +6,9 @@
 -- Assumes nothing.
 use Prim.Native.Nat.{ℕ, _+_, _*_, _-_, _/_, _<_, _≤_}
 use native.Mathlib.Omega.{arith}
-use mathlib.Core.Path.{_≡_, refl, sym, ap, subst, _∙_}
+use mathlib.Core.Path.{_≡_, refl, sym, ap, _∙_}
 use mathlib.Core.Bool.{Bool, true, false}
-use mathlib.Core.List.{List, _++_}
+use mathlib.Core.List.{List}
 use lib.ListN.{length, set, take, drop, length-set}
 use lib.Seq.{length-take-le, take-at, drop-at}
 use Rattle.pool_rows.specs.Rows.{stringAt, roomOf, byteRoom, entryRoom}
@@ -19,7 +19,7 @@ use Rattle.pool.specs.Pool.{oneMore, added, isNew, bytesAfter, entriesAfter, co
 use Rattle.pool.specs.PoolLaws.{old-bytes, old-entries, new-bytes, new-entries}
 use Rattle.pool.specs.declared.Added.{Added}
 use Rattle.desks.specs.Desks.{Shared, ownerOf, deskOf, other, Fits, entriesFor, bytesFor}
-use Rattle.desks.specs.FitLaws.{Fit, fit-of, fit-by}
+use Rattle.desks.specs.FitLaws.{fit-of, fit-by}
 use Rattle.desks.specs.declared.Desks.{Desks}
 use Rattle.desks.specs.declared.Which.{Which}
 use Rattle.desks.specs.declared.Which.the-variants.{First, Second}

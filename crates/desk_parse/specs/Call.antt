@@ -16,9 +16,9 @@ use Rattle.pool.specs.declared.Added.the-variants as pool
 use Rattle.format.specs.Parse.{OnePass, parseWith, stringOf}
 use Rattle.format_options.specs.declared.OptionalNumber.{OptionalNumber}
 use Rattle.format_options.specs.declared.OptionalNumber.the-variants.{Number, Nothing}
-use Rattle.parse.specs.Call.{refusedAs, answerOf}
+use Rattle.parse.specs.Call.{answerOf}
 use Rattle.parse.specs.declared.Parsed.{Parsed}
-use Rattle.parse.specs.declared.Parsed.the-variants.{BadState}
+use Rattle.parse.specs.declared.Parsed.the-variants.{Refused, BadState}
 use Rattle.desks.specs.Desks.{Shared, fitDesks}
 use Rattle.desks.specs.declared.Which.{Which}
 use Rattle.desk_add.specs.Add.{addedFor, sharedAfter}
@@ -65,7 +65,7 @@ ended r = comes (answerOf (r .options) (r .outcome) (r .pool .index) (r .pool .f
 
 unfoldable pub call : List ℕ → List ℕ → ℕ → Which → Shared → Comes
 call format table edition which s =
-    onInput (λ (x : Refusal). comes (refusedAs x) s) (inputCheck formatMost format table edition)
+    onInput (λ (x : Refusal). comes (Refused x) s) (inputCheck formatMost format table edition)
     (pick (fitDesks s) (ended (parsed format table edition which s)) (comes BadState s))
 
 -- what `parse` ensures: its answer, and the counts, the desks and every word of the rows after it

@@ -30,7 +30,6 @@ use Rattle.pool.specs.declared.Added.the-variants as pool
 use Rattle.format.specs.Parse.{stringOf}
 use Rattle.format_options.specs.declared.Part.{Part}
 use Rattle.parse.specs.Call as parse
-use Rattle.parse.specs.CallLaws.{called}
 use Rattle.parse.specs.Plan.{inputOf}
 use Rattle.parse.specs.declared.After.{After}
 use Rattle.parse.specs.declared.Parsed.{Parsed}
@@ -38,7 +37,6 @@ use Rattle.parse.specs.declared.Parsed.the-variants as said
 use Rattle.parse.specs.declared.FormatInput.the-variants as read
 use Rattle.desks.specs.Desks.{Shared, ownerOf, deskOf, other, fitDesks, Fits, entriesFor, bytesFor}
 use Rattle.desks.specs.FitLaws.{fit-of}
-use Rattle.desks.specs.declared.Desks.{Desks}
 use Rattle.desks.specs.declared.Which.{Which}
 use Rattle.desks.specs.declared.Which.the-variants.{First, Second}
 use Rattle.desk_add.specs.Add.{addedFor, sharedAfter}
@@ -46,7 +44,7 @@ use Rattle.desk_add.specs.PartsLaws.{part-fit}
 use Rattle.desk_add.specs.AddLaws.{less-entries, less-bytes, fills-pool, charges-within}
 use Rattle.desk_parse.specs.Call.{Pool, lent, onAdded, addTo, parsed, Comes, comes, ended, call, ParsesFor}
 use Rattle.desk_parse.specs.Own.{ownedUp, desksUp, unfitAnswer}
-use Rattle.desk_parse.specs.MirrorLaws.{Mirrored, mirrors}
+use Rattle.desk_parse.specs.MirrorLaws.{mirrors}
 use Rattle.desk_parse.specs.BesideLaws.{Beside, beside-at-first, same-answer, bytes-then, entries-then, beside-after}
 use Rattle.desk_parse.specs.declared.ParsedFor.{ParsedFor}
 
@@ -54,7 +52,7 @@ module _ (format table : List ℕ) (edition : ℕ) (which : Which) (s : Shared) 
   -- ---- the answer, by what is checked first
 
   pub refused-is : {x : Refusal} → inputCheck formatMost format table edition ≡ input.Refused x
-      → call format table edition which s ≡ comes (parse.refusedAs x) s
+      → call format table edition which s ≡ comes (said.Refused x) s
   unfolding call
   refused-is e = rw e
 
@@ -73,8 +71,8 @@ module _ (format table : List ℕ) (edition : ℕ) (which : Which) (s : Shared) 
   unfolding call inputOf
   unfit-is e = rw e (go (inputCheck formatMost format table edition))
     where
-      go : (c : Input) → onInput (λ (x : Refusal). comes (parse.refusedAs x) s) c (comes said.BadState s)
-          ≡ comes (unfitAnswer (onInput (λ (x : Refusal). read.Refused (parse.refusedAs x)) c (read.Refused said.BadState))) s
+      go : (c : Input) → onInput (λ (x : Refusal). comes (said.Refused x) s) c (comes said.BadState s)
+          ≡ comes (unfitAnswer (onInput (λ (x : Refusal). read.Refused (said.Refused x)) c (read.Refused said.BadState))) s
       go input.Fine = refl
       go (input.Refused x) = refl
 
@@ -205,7 +203,7 @@ module _ (format table : List ℕ) (edition : ℕ) (which : Which) (s : Shared) 
       where
         go : (c : Input) → inputCheck formatMost format table edition ≡ c
             → Follows (call format table edition which s) (parse.call format table edition part)
-        go (input.Refused x) h = rw h (following (parse.refusedAs x) refl at-first)
+        go (input.Refused x) h = rw h (following (said.Refused x) refl at-first)
         go input.Fine h = rw (h, ok, part-ok) read-on
 
     -- how much is in use after the parse in the part, of which this is said

@@ -5,7 +5,7 @@ ghost use Prim.Native.Nat.{_+_, _*_, _≤_, _<_};
 ghost use mathlib.Core.Bool.{false};
 ghost use lib.ListN.{length};
 ghost use Rattle.parse.specs.Plan.{inputOf};
-ghost use Rattle.desks.specs.Desks.{shared, deskOf, ownerOf};
+ghost use Rattle.desks.specs.Desks.{shared, deskOf};
 ghost use Rattle.desk_parse.specs.Own.{unfitAnswer, ownedUp, chargedUp, desksUp};
 ghost use Rattle.desk_parse.specs.Call.{ParsesFor};
 use desks::Desk;

@@ -12,7 +12,7 @@ use mathlib.Core.List.{List}
 use lib.ListN.{length}
 use borrow.Author.Tests.{eqb-true, eq-eqb, lt-ltb, le-ltb}
 use Rattle.base.specs.Pick.{pick}
-use Rattle.base.specs.PickLaws.{by-test, by-lt, by-eq}
+use Rattle.base.specs.PickLaws.{by-lt}
 use Rattle.pool_rows.specs.Rows.{entryRoom, byteRoom, fitPool}
 use Rattle.pool_rows.specs.FitLaws as pool
 use Rattle.pool_rows.specs.declared.Counts.{Counts}

@@ -14,15 +14,13 @@ use lib.Dec.{eqb}
 use lib.ListN.{length, getD}
 use borrow.Author.Tests.{eq-eqb, ne-eqb, le-leb}
 use Rattle.base.specs.Pick.{pick}
-use Rattle.base.specs.PickLaws.{by-test}
-use Rattle.property.specs.Table.{propertiesAt}
 use Rattle.fitness.specs.First.{firstBad}
 use Rattle.token.specs.Kind.{stringStart, colon, curlyOpen}
 use Rattle.token.specs.declared.Token.{Token}
 use Rattle.rows.specs.declared.Row.{Row}
 use Rattle.rows.specs.declared.RowAt.{RowAt}
 use Rattle.rows.specs.declared.RowAt.the-variants.{Fit}
-use Rattle.state.specs.Modes.{literal, templateExpr, templateExprFormat, tagOf}
+use Rattle.state.specs.Modes.{literal, tagOf}
 use Rattle.state.specs.Lexer.{settled}
 use Rattle.state.specs.Stack.{top, rest, changed}
 use Rattle.state.specs.declared.Change.{Change}
@@ -32,9 +30,8 @@ use Rattle.moves.specs.Moves as opens
 use Rattle.moves.specs.Moves.{template, inlineMap, format, Opens, Moves}
 use Rattle.moves.specs.MovesLaws.{take-moves}
 use Rattle.reading.specs.Reading.{Reading}
-use Rattle.queue.specs.Queue.{get}
 use Rattle.queue.specs.StreamLaws.{get-in}
-use Rattle.rust.specs.TokenLexer.{TokenLexer, viewOf, givenAt, getNextToken, lexedOf, lexed, newTokenLexer, stateAt, handed}
+use Rattle.rust.specs.TokenLexer.{TokenLexer, viewOf, givenAt, getNextToken, lexedOf, stateAt, handed}
 use Rattle.rust.specs.Hands.{Hands}
 use Rattle.rust.specs.DepthLaws.{state-next, hands-depth}
 use Rattle.forbidden.specs.Forbidden.{isRaw, hasTemplate, opensInner, isForbidden, forbiddenToken}

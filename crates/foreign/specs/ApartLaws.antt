@@ -8,7 +8,7 @@
 use Prim.Native.Nat.{ℕ, zero, suc, _+_, _≤_, _<_}
 use native.Mathlib.Nat.{add-zero}
 use native.Mathlib.Omega.{arith}
-use mathlib.Core.Path.{_≡_, refl, sym, ap, subst, _∙_}
+use mathlib.Core.Path.{_≡_, refl, sym, ap, _∙_}
 use mathlib.Core.Bool.{Bool, true, false, _&&_, and-eq-true-iff}
 use mathlib.Core.List.{List, [], _∷_}
 use lib.Dec.{eqb, ltb}
@@ -19,9 +19,8 @@ use Rattle.held.specs.Held.{isRow}
 use Rattle.rows.specs.declared.Row.{Row}
 use Rattle.reading.specs.Reading.{Stop, ended, stuck, deep}
 use Rattle.reading.specs.Status.{endNumber, stuckNumber}
-use Rattle.foreign.specs.Check.{firstApart, isRight, compared, byStop}
-use Rattle.foreign.specs.declared.Checked.{Checked}
-use Rattle.foreign.specs.declared.Checked.the-variants.{Same, Differs, ModesFull}
+use Rattle.foreign.specs.Check.{firstApart, isRight, byStop}
+use Rattle.foreign.specs.declared.Checked.the-variants.{Same, Differs}
 
 module _ (list : List ℕ) (count : ℕ) where
   -- record k of the list counts, and is this one

@@ -34,7 +34,6 @@ use Rattle.rows.specs.declared.Row.{Row}
 use Rattle.state.specs.Lexer.{reachOf}
 use Rattle.state.specs.State.{startState, stateOf}
 use Rattle.state.specs.StackLaws.{state-is}
-use Rattle.state.specs.declared.Lexer.{Lexer}
 use Rattle.state.specs.declared.State.{State}
 use Rattle.lexer.specs.Step.{half, step}
 use Rattle.lexer.specs.declared.Half.{Half}
@@ -44,7 +43,7 @@ use Rattle.stepping.specs.InvariantLaws.{start-ok}
 use Rattle.reading.specs.Reading.{rowOf, stuck, Reading, onto, stopped, readFrom}
 use Rattle.reading.specs.Scan.{endOf, readingOf}
 use Rattle.reading.specs.Status.{endNumber, stuckNumber}
-use Rattle.reading.specs.HeadLaws.{Head, begin-head, left-is, left-token, left-stuck, byte-after, head-again, falls}
+use Rattle.reading.specs.HeadLaws.{Head, left-is, left-token, left-stuck, byte-after, head-again, falls}
 use Rattle.foreign.specs.Check.{firstApart, apartAfter, compared, byStop, byReading, listChecked}
 use Rattle.foreign.specs.declared.Checked.{Checked}
 use Rattle.foreign.specs.declared.Checked.the-variants.{Refused, BadState, ModesFull}

@@ -6,6 +6,7 @@ use format_options::Fill;
 use format_options::OptionalNumber;
 use format_options::Options;
 use format_options::Shown;
+use input::Refusal;
 use libc::STDOUT_FILENO;
 use parse::After;
 use parse::Parsed;
@@ -127,7 +128,7 @@ fn parse_small(text: &[u8], bytes: &mut [u8], entries: &mut [u32]) -> After {
     };
     if TEXT_MOST < text.len() {
         return After {
-            answer: Parsed::TooLong,
+            answer: Parsed::Refused(Refusal::TooLong),
             counts: none,
         };
     }

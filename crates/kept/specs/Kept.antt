@@ -1,7 +1,7 @@
 -- Document 02, C-7, of readings: which records are kept, what two sources share that begin with the same bytes up to a newline, and the state
 -- from which reading goes on behind a record.
 -- Assumes nothing.
-use Prim.Native.Nat.{ℕ, zero, suc, _+_, _≤_, _<_}
+use Prim.Native.Nat.{ℕ, suc, _+_, _≤_, _<_}
 use mathlib.Core.Path.{_≡_}
 use mathlib.Core.List.{List, [], _∷_}
 use lib.ListN.{length, getD, take}

@@ -1,7 +1,6 @@
 -- C-7: a NewLine changes no mode, so the depth behind it is the depth before it: `newline-depth`.
 -- Assumes nothing.
 use Prim.Native.Nat.{ℕ}
-use native.Mathlib.Omega.{arith}
 use mathlib.Core.Path.{_≡_, refl, ap, _∙_}
 use mathlib.Core.List.{List, [], _∷_}
 use Rattle.base.specs.PickLaws.{by-test}

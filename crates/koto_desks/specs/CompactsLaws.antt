@@ -5,7 +5,7 @@ use Prim.Native.Nat.{ℕ}
 use mathlib.Core.Path.{_≡_, ap, subst, _∙_}
 use mathlib.Core.List.{List}
 use Rattle.pool_rows.specs.declared.Counts.{Counts}
-use Rattle.compact.specs.Compact.{call, numberOf, countsAfter, desksAfter, Compacts}
+use Rattle.compact.specs.Compact.{numberOf, countsAfter, desksAfter, Compacts}
 use Rattle.compact.specs.CallLaws.{state-counts, state-desks}
 use Rattle.compact.specs.declared.Compaction.{Compaction}
 use Rattle.desks.specs.Desks.{Shared, shared}

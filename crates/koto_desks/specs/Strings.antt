@@ -4,10 +4,8 @@ use Prim.Native.Nat.{ℕ}
 use mathlib.Core.Path.{_≡_}
 use mathlib.Core.List.{List}
 use Rattle.base.specs.Pick.{pick}
-use Rattle.utf8.specs.Chars.{checkFrom}
-use Rattle.pool.specs.Pool.{onUtf8, numberOf, placeOf, addedIndex}
+use Rattle.pool.specs.Pool.{refusalAt, numberOf, placeOf, addedIndex}
 use Rattle.pool.specs.declared.Added.{Added}
-use Rattle.pool.specs.declared.Added.the-variants.{BadState}
 use Rattle.desks.specs.Desks.{Shared}
 use Rattle.desk_add.specs.Add.{addedFor, addFor}
 use Rattle.desk_add.specs.declared.AddedFor.{AddedFor}
@@ -16,7 +14,7 @@ use Rattle.koto_desks.specs.Words.{isDesk, whichOf, Leaves}
 module _ (desk : ℕ) (string : List ℕ) (s : Shared) where
   -- the answer: a number that is no desk is 8, where an unfit state is
   abbrev pub addedFrom : Added
-  addedFrom = pick (isDesk desk) (addedFor (whichOf desk) s string) (onUtf8 (checkFrom 0 string) BadState)
+  addedFrom = pick (isDesk desk) (addedFor (whichOf desk) s string) (refusalAt string)
 
   -- the shared pool after it
   abbrev pub addFrom : Shared

@@ -3,13 +3,11 @@
 --     told                the call
 -- Assumes nothing.
 use Prim.Native.Nat.{ℕ, _<_, _≤_}
-use mathlib.Core.Path.{_≡_, refl, ap, subst, _∙_}
+use mathlib.Core.Path.{_≡_, ap, subst, _∙_}
 use mathlib.Core.List.{List}
 use borrow.Author.Tests.{lt-ltb, le-ltb}
-use Rattle.utf8.specs.Chars.{checkFrom}
 use Rattle.pool_rows.specs.declared.Counts.{Counts}
-use Rattle.pool.specs.Pool.{onUtf8, numberOf, placeOf, addedIndex}
-use Rattle.pool.specs.declared.Added.the-variants.{BadState}
+use Rattle.pool.specs.Pool.{refusalAt, numberOf, placeOf, addedIndex}
 use Rattle.desks.specs.Desks.{Shared, shared}
 use Rattle.desks.specs.declared.Desks.{Desks}
 use Rattle.desks.specs.declared.Which.{Which}
@@ -19,7 +17,7 @@ use Rattle.koto_desks.specs.Words.{countsIn, desksIn, whichOf, countWord
 use Rattle.koto_desks.specs.Strings.{AddedFrom, AddStringIs}
 
 module _ {desk : ℕ} {string : List ℕ} {s : Shared} where
-  pub no-desk : 2 ≤ desk → {r : AddedFor} → r .added ≡ onUtf8 (checkFrom 0 string) BadState → r .counts ≡ s .counts → r .desks ≡ s .desks
+  pub no-desk : 2 ≤ desk → {r : AddedFor} → r .added ≡ refusalAt string → r .counts ≡ s .counts → r .desks ≡ s .desks
       → AddedFrom desk string s (s .bytes) (s .entries) (s .owners) r
   no-desk h a c d =
       let no = le-ltb desk 2 h in

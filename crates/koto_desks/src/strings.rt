@@ -24,7 +24,7 @@ fn add_from(
 {
     if words::DESKS <= desk {
         return AddedFor {
-            added: desk_add::refuse(string),
+            added: pool::refusal_of(string),
             counts,
             desks,
         };

@@ -1,6 +1,5 @@
 // The counts and the desks as a caller in C holds them.
 ghost use mathlib.Core.Path.{_≡_};
-ghost use Prim.Native.Nat.{_≤_};
 ghost use Rattle.koto_desks.specs.Words.{countsIn, countWords, desksIn, deskWords, whichOf};
 use desks::Desk;
 use desks::Desks;

@@ -6,7 +6,7 @@
 -- Assumes nothing.
 use Prim.Native.Nat.{ℕ, _≤_, _<_}
 use native.Mathlib.Omega.{arith}
-use mathlib.Core.Path.{_≡_, refl, sym, subst, _∙_}
+use mathlib.Core.Path.{_≡_, sym, subst, _∙_}
 use mathlib.Core.List.{List}
 use lib.Dec.{ltb}
 use lib.ListN.{length}
@@ -15,7 +15,7 @@ use Rattle.base.specs.PickLaws.{by-test}
 use Rattle.fitness.specs.Small.{smallTable}
 use Rattle.input.specs.Input.{withGB9c}
 use Rattle.input.specs.declared.Refusal.the-variants.{TooLong}
-use Rattle.rows.specs.Row.{room, putRows}
+use Rattle.rows.specs.Row.{room}
 use Rattle.rows.specs.RowLaws.{same-room, rows-none}
 use Rattle.reading.specs.Scan.{Scans, countOf}
 use Rattle.reading.specs.ScanLaws.{count-room}

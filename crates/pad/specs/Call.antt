@@ -7,18 +7,18 @@ use mathlib.Core.Bool.{Bool}
 use lib.Dec.{ltb}
 use lib.ListN.{length}
 use Rattle.base.specs.Pick.{pick}
-use Rattle.base.specs.Refusal.{none, noRoom}
+use Rattle.base.specs.Refusal.{none, noSuchFormat, noRoom}
 use Rattle.utf8.specs.Chars.{chars}
 use Rattle.property.specs.Table.{propertiesAt}
 use Rattle.pool.specs.Pool.{written}
 use Rattle.cluster_count.specs.Count.{clusterCount}
 use Rattle.fills.specs.Pad.{space, padded}
-use Rattle.pad_input.specs.Check as input
+use Rattle.input.specs.Input as input
 use Rattle.pad_input.specs.Check.{padCheck}
 use Rattle.pad_input.specs.declared.Check.{Check}
 use Rattle.pad_input.specs.declared.Check.the-variants as check
 use Rattle.pad.specs.declared.Padded.{Padded}
-use Rattle.pad.specs.declared.Padded.the-variants.{Length, Refused, NoRoom}
+use Rattle.pad.specs.declared.Padded.the-variants.{Length, Refused, FillRefused, NoSuchFormat, NoRoom}
 
 -- ---- the padded text, of which no check refuses
 
@@ -34,6 +34,8 @@ inRoom room needed = pick (ltb room needed) NoRoom (Length needed)
 abbrev pub bufferAfter : Padded → List ℕ → List ℕ → List ℕ
 bufferAfter (Length n) text buffer = written buffer 0 text
 bufferAfter (Refused x) text buffer = buffer
+bufferAfter (FillRefused x) text buffer = buffer
+bufferAfter NoSuchFormat text buffer = buffer
 bufferAfter NoRoom text buffer = buffer
 
 -- what `pad_text` ensures, of the buffer `new` that it leaves of the buffer `old`
@@ -51,6 +53,8 @@ fillOf given fill = pick given fill space
 abbrev pub onCheck : Check → Padded → Padded
 onCheck check.Fine r = r
 onCheck (check.Refused x) r = Refused x
+onCheck (check.FillRefused x) r = FillRefused x
+onCheck check.NoSuchFormat r = NoSuchFormat
 
 module _ (text : List ℕ) (alignment width : ℕ) (given : Bool) (fill table : List ℕ) (edition : ℕ) where
   abbrev pub paddedText : List ℕ
@@ -70,16 +74,22 @@ module _ (text : List ℕ) (alignment width : ℕ) (given : Bool) (fill table : 
 abbrev pub numberOf : Padded → ℕ
 numberOf (Length n) = none
 numberOf (Refused x) = input.numberOf x
+numberOf (FillRefused x) = input.numberOf x
+numberOf NoSuchFormat = noSuchFormat
 numberOf NoRoom = noRoom
 
 -- the refusal's place; 0 where there is none
 abbrev pub placeOf : Padded → ℕ
 placeOf (Length n) = 0
 placeOf (Refused x) = input.placeOf x
+placeOf (FillRefused x) = input.placeOf x
+placeOf NoSuchFormat = 0
 placeOf NoRoom = 0
 
 -- how many bytes the padded text has; 0 on a refusal
 abbrev pub lenOf : Padded → ℕ
 lenOf (Length n) = n
 lenOf (Refused x) = 0
+lenOf (FillRefused x) = 0
+lenOf NoSuchFormat = 0
 lenOf NoRoom = 0

@@ -1,6 +1,6 @@
 -- Laws of the call's answer.
 --     refused, told    what `pad` ensures, by what the checks answered
---     is-refused, is-short, is-padded    the answer, where a check refuses, where there is no room, and else
+--     is-checked, is-short, is-padded    the answer by what the checks answer, and, where they refuse nothing, where there is no room, and else
 --     one-answer       no second answer and no second buffer fit
 --     kept             a refusal leaves the buffer
 --     few-bytes, fits  how many bytes are needed stays below 2^64
@@ -20,11 +20,10 @@ use Rattle.fills.specs.PadLaws.{fills-within}
 use Rattle.property.specs.Table.{propertiesAt}
 use Rattle.pad_input.specs.Check.{textMost, padCheck}
 use Rattle.pad.specs.Call.{paddedBy, inRoom, bufferAfter, PadsText, fillOf, onCheck, paddedText, padAnswer, Pads, numberOf}
-use Rattle.pad_input.specs.declared.Refusal.{Refusal}
 use Rattle.pad_input.specs.declared.Check.{Check}
 use Rattle.pad_input.specs.declared.Check.the-variants as check
 use Rattle.pad.specs.declared.Padded.{Padded}
-use Rattle.pad.specs.declared.Padded.the-variants.{Length, Refused, NoRoom}
+use Rattle.pad.specs.declared.Padded.the-variants.{Length, Refused, FillRefused, NoSuchFormat, NoRoom}
 
 module _ (text : List ℕ) (alignment width : ℕ) (given : Bool) (fill table : List ℕ) (edition : ℕ) (old : List ℕ) where
   abbrev checked : Check
@@ -33,14 +32,20 @@ module _ (text : List ℕ) (alignment width : ℕ) (given : Bool) (fill table : 
   abbrev answer : Padded
   answer = padAnswer text alignment width given fill table edition (length old)
 
-  pub is-refused : (x : Refusal) → checked ≡ check.Refused x → answer ≡ Refused x
-  is-refused x e = rw e
+  -- the answer, by what the checks answer
+  abbrev pub byCheck : Check → Padded
+  byCheck c = onCheck c (inRoom (length old) (length (paddedText text alignment width given fill table edition)))
 
-  pub refused : (x : Refusal) → checked ≡ check.Refused x → Pads text alignment width given fill table edition old old (Refused x)
-  refused x e =
+  pub is-checked : {c : Check} → checked ≡ c → answer ≡ byCheck c
+  is-checked e = ap byCheck e
+
+  -- an answer of the checks that is a refusal: whatever the padded text is, the buffer stays
+  pub refused : {c : Check} → checked ≡ c → {r : Padded} → byCheck c ≡ r → ((text buffer : List ℕ) → bufferAfter r text buffer ≡ buffer)
+      → Pads text alignment width given fill table edition old old r
+  refused e {r} f k =
       let p = paddedText text alignment width given fill table edition in
-      let a = is-refused x e in
-      record { answer = sym a; contents = ap (λ (r : Padded). bufferAfter r p old) (sym a) }
+      let a : answer ≡ r = is-checked e ∙ f in
+      record { answer = sym a; contents = sym (k p old) ∙ ap (λ (q : Padded). bufferAfter q p old) (sym a) }
 
   -- the padded text with the fill that is used
   by-fill : (used : List ℕ) → used ≡ fillOf given fill
@@ -81,6 +86,8 @@ module _ (text : List ℕ) (alignment width : ℕ) (given : Bool) (fill table : 
       go : (a : Padded) → (numberOf a ≡ none → ⊥) → bufferAfter a (paddedText text alignment width given fill table edition) old ≡ old
       go (Length k) n = absurd (n refl)
       go (Refused x) n = refl
+      go (FillRefused x) n = refl
+      go NoSuchFormat n = refl
       go NoRoom n = refl
 
 -- ---- how many bytes are needed

@@ -4,6 +4,7 @@ ghost use Rattle.pad.specs.Call.{numberOf, placeOf, lenOf};
 use crate::Padded;
 use base::refusals::NO_REFUSAL;
 use base::refusals::NO_ROOM;
+use base::refusals::NO_SUCH_FORMAT;
 
 // The refusal's number; 0 where there is no refusal.
 pub fn number_of(padded: Padded) -> u32
@@ -11,7 +12,9 @@ pub fn number_of(padded: Padded) -> u32
 {
     match padded {
         Padded::Length(_) => NO_REFUSAL,
-        Padded::Refused(refusal) => pad_input::answer::number_of(refusal),
+        Padded::Refused(refusal) => input::answer::number_of(refusal),
+        Padded::FillRefused(refusal) => input::answer::number_of(refusal),
+        Padded::NoSuchFormat => NO_SUCH_FORMAT,
         Padded::NoRoom => NO_ROOM,
     }
 }
@@ -22,7 +25,9 @@ pub fn place_of(padded: Padded) -> usize
 {
     match padded {
         Padded::Length(_) => 0,
-        Padded::Refused(refusal) => pad_input::answer::place_of(refusal),
+        Padded::Refused(refusal) => input::answer::place_of(refusal),
+        Padded::FillRefused(refusal) => input::answer::place_of(refusal),
+        Padded::NoSuchFormat => 0,
         Padded::NoRoom => 0,
     }
 }
@@ -34,6 +39,8 @@ pub fn len_of(padded: Padded) -> usize
     match padded {
         Padded::Length(n) => n,
         Padded::Refused(_) => 0,
+        Padded::FillRefused(_) => 0,
+        Padded::NoSuchFormat => 0,
         Padded::NoRoom => 0,
     }
 }

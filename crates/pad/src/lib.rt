@@ -16,15 +16,19 @@ ghost use Rattle.pad.specs.Call.{PadsText, Pads};
 use cluster_count::count_clusters;
 use fills::fills_of;
 use fills::put_padded;
+use input::Refusal;
 use pad_input::Check;
-use pad_input::Refusal;
 use pad_input::check_pad;
 
 // What `pad` answers: how many bytes the padded text has, or a refusal.
 pub enum Padded {
     Length(usize),
-    // A refusal that came before any work.
+    // 1 of the text or of a fill that is given, 17, 2, 3 and 15 of the text: they come before any work, as do the next two.
     Refused(Refusal),
+    // 3 and 15 of the fill, with the offset in its own bytes.
+    FillRefused(Refusal),
+    // 18: the number of the alignment or the width is none, or a fill that is given is not exactly one cluster. Its place is 0.
+    NoSuchFormat,
     // 19: the buffer is shorter than the padded text. Its place is 0.
     NoRoom,
 }
@@ -77,5 +81,7 @@ pub fn pad(
             }
             pad_text(text, alignment, width, b" ", table, edition, buffer)
         }
+        Check::FillRefused(refusal) => Padded::FillRefused(refusal),
+        Check::NoSuchFormat => Padded::NoSuchFormat,
     }
 }

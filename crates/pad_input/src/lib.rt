@@ -1,7 +1,5 @@
 // What `pad` asks before it works (document 02, C-11): whether the text or the fill is too long, the edition none, the table unfit, the bytes
 // of the text or of the fill ill-formed, or the format none, in this order, as one answer. It knows nothing of what is then written.
-pub mod answer;
-
 ghost use mathlib.Core.Path.{_≡_};
 ghost use Rattle.property.specs.Table.{propertiesAt};
 ghost use Rattle.fitness.specs.Fit.{FitTable};
@@ -9,33 +7,22 @@ ghost use Rattle.pad_input.specs.Check.{longFill, isFormat, formatCheck,
 use cluster_count::count_clusters;
 use fills::RIGHT;
 use fills::is_width;
+use input::Input;
+use input::Refusal;
+use input::check_input;
 
 // A text, and a fill, has at most this many bytes.
 const TEXT_MOST: usize = 65535;
 
-// A refusal, under document 02's name.
-pub enum Refusal {
-    // 1: the text, or a fill that is given, has over 65,535 bytes. Its place is 0.
-    TooLong,
-    // 17: the edition is neither 1 nor 2. Its place is 0.
-    BadEdition,
-    // 2: the table is unfit, with its place.
-    BadTable(usize),
-    // 3: the text is wrong from this offset on.
-    BadUtf8(usize),
-    // 15: the text is cut at this offset.
-    CutUtf8(usize),
-    // 3 and 15 of the fill, with the offset in its own bytes.
-    FillBadUtf8(usize),
-    FillCutUtf8(usize),
-    // 18: the number of the alignment or the width is none, or a fill that is given is not exactly one cluster. Its place is 0.
-    NoSuchFormat,
-}
-
 // What the checks answer.
 pub enum Check {
     Fine,
+    // 1 of the text or of a fill that is given, 17, 2, 3 and 15 of the text.
     Refused(Refusal),
+    // 3 and 15 of the fill, with the offset in its own bytes.
+    FillRefused(Refusal),
+    // 18: the number of the alignment or the width is none, or a fill that is given is not exactly one cluster. Its place is 0.
+    NoSuchFormat,
 }
 
 // Whether a fill is given and too long.
@@ -58,7 +45,7 @@ fn check_format(alignment: u64, width: u64) -> Check
     if is_format(alignment, width) {
         return Check::Fine;
     }
-    Check::Refused(Refusal::NoSuchFormat)
+    Check::NoSuchFormat
 }
 
 // The questions after those about the text, where a fill is given.
@@ -67,18 +54,19 @@ fn check_fill(alignment: u64, width: u64, fill: &[u8], table: &[u32], edition: u
     ensures { λ r. ⌜ r ≡ fillCheck (propertiesAt (now (table .entry))) edition alignment width (now (fill .entry)) ⌝ }
 {
     match utf8::check_utf8(fill) {
-        utf8::Utf8Check::BadAt(i) => Check::Refused(Refusal::FillBadUtf8(i)),
-        utf8::Utf8Check::CutAt(i) => Check::Refused(Refusal::FillCutUtf8(i)),
+        utf8::Utf8Check::BadAt(i) => Check::FillRefused(Refusal::BadUtf8(i)),
+        utf8::Utf8Check::CutAt(i) => Check::FillRefused(Refusal::CutUtf8(i)),
         utf8::Utf8Check::Fine => {
             if count_clusters(fill, table, edition) == 1 {
                 return check_format(alignment, width);
             }
-            Check::Refused(Refusal::NoSuchFormat)
+            Check::NoSuchFormat
         }
     }
 }
 
-// Whether a text may be padded so. A fill that is given is looked at whether or not it will be needed.
+// Whether a text may be padded so. A fill that is given is looked at whether or not it will be needed. That it is too long is asked first: it is told
+// as of the text, which `check_input` asks next.
 pub fn check_pad(
     text: &[u8],
     alignment: u64,
@@ -90,29 +78,16 @@ pub fn check_pad(
 ) -> Check
     ensures { λ r. ⌜ r ≡ padCheck (now (text .entry)) alignment width filled (now (fill .entry)) (now (table .entry)) edition ⌝ }
 {
-    if TEXT_MOST < text.len() {
-        return Check::Refused(Refusal::TooLong);
-    }
     if is_long(filled, fill) {
         return Check::Refused(Refusal::TooLong);
     }
-    if edition < 1 {
-        return Check::Refused(Refusal::BadEdition);
-    }
-    if 2 < edition {
-        return Check::Refused(Refusal::BadEdition);
-    }
-    match fitness::check_table(table) {
-        fitness::TableCheck::BadTable(i) => Check::Refused(Refusal::BadTable(i)),
-        fitness::TableCheck::Fit => match utf8::check_utf8(text) {
-            utf8::Utf8Check::BadAt(i) => Check::Refused(Refusal::BadUtf8(i)),
-            utf8::Utf8Check::CutAt(i) => Check::Refused(Refusal::CutUtf8(i)),
-            utf8::Utf8Check::Fine => {
-                if filled {
-                    return check_fill(alignment, width, fill, table, edition);
-                }
-                check_format(alignment, width)
+    match check_input(text, table, edition, TEXT_MOST) {
+        Input::Refused(refusal) => Check::Refused(refusal),
+        Input::Fine => {
+            if filled {
+                return check_fill(alignment, width, fill, table, edition);
             }
-        },
+            check_format(alignment, width)
+        }
     }
 }

@@ -7,12 +7,12 @@ use mathlib.Core.Path.{_≡_}
 use mathlib.Core.Bool.{Bool, true, false}
 use mathlib.Core.List.{List}
 use Rattle.base.specs.Pick.{pick}
-use Rattle.base.specs.Refusal.{none, tooLong, badEdition, badTable, badUtf8, cutUtf8, badState, expectedNumber, formatNumberIsTooLarge, unexpectedToken, poolFull, formatMost}
+use Rattle.base.specs.Refusal.{none, badState, expectedNumber, formatNumberIsTooLarge, unexpectedToken, poolFull, formatMost}
 use Rattle.utf8.specs.Chars.{chars}
 use Rattle.property.specs.Table.{propertiesAt}
+use Rattle.input.specs.Input as input
 use Rattle.input.specs.Input.{inputCheck, onInput}
 use Rattle.input.specs.declared.Refusal.{Refusal}
-use Rattle.input.specs.declared.Refusal.the-variants as refusal
 use Rattle.pool_rows.specs.Rows.{fitPool}
 use Rattle.pool.specs.Pool.{added, bytesAfter, entriesAfter}
 use Rattle.pool_rows.specs.declared.Counts.{Counts}
@@ -28,7 +28,7 @@ use Rattle.format_options.specs.declared.Outcome.the-variants as outcome
 use Rattle.parse.specs.declared.Adding.{Adding}
 use Rattle.parse.specs.declared.After.{After}
 use Rattle.parse.specs.declared.Parsed.{Parsed}
-use Rattle.parse.specs.declared.Parsed.the-variants.{Read, TooLong, BadEdition, BadTable, BadUtf8, CutUtf8, BadState, ExpectedNumber, FormatNumberIsTooLarge, UnexpectedToken, PoolFull}
+use Rattle.parse.specs.declared.Parsed.the-variants.{Read, Refused, BadState, ExpectedNumber, FormatNumberIsTooLarge, UnexpectedToken, PoolFull}
 
 -- ---- the pool in a parse
 
@@ -103,18 +103,10 @@ pub record Comes : Type 0 where
 abbrev pub comes : Parsed → Pool → Comes
 comes r p = record { answer = r; pool = p }
 
--- a refusal that comes before any work, as an answer
-abbrev pub refusedAs : Refusal → Parsed
-refusedAs refusal.TooLong = TooLong
-refusedAs refusal.BadEdition = BadEdition
-refusedAs (refusal.BadTable i) = BadTable i
-refusedAs (refusal.BadUtf8 i) = BadUtf8 i
-refusedAs (refusal.CutUtf8 i) = CutUtf8 i
-
 -- refusals 1, 17, 2, 3 or 15, 8 in this order, each of which leaves the pool, and then the parse
 unfoldable pub call : List ℕ → List ℕ → ℕ → Pool → Comes
 call format table edition p =
-    onInput (λ (x : Refusal). comes (refusedAs x) p) (inputCheck formatMost format table edition)
+    onInput (λ (x : Refusal). comes (Refused x) p) (inputCheck formatMost format table edition)
     (pick (fitPool (p .bytes) (p .entries) (p .counts))
     (comes (answer (parsed format table edition p)) (parsed format table edition p .pool))
     (comes BadState p))
@@ -130,11 +122,7 @@ pub record Parses (format table : List ℕ) (edition : ℕ) (bytes entries : Lis
 
 abbrev pub numberOf : Parsed → ℕ
 numberOf (Read options index) = none
-numberOf TooLong = tooLong
-numberOf BadEdition = badEdition
-numberOf (BadTable i) = badTable
-numberOf (BadUtf8 i) = badUtf8
-numberOf (CutUtf8 i) = cutUtf8
+numberOf (Refused x) = input.numberOf x
 numberOf BadState = badState
 numberOf (ExpectedNumber c) = expectedNumber
 numberOf (FormatNumberIsTooLarge n) = formatNumberIsTooLarge
@@ -144,11 +132,7 @@ numberOf PoolFull = poolFull
 -- the refusal's place or value
 abbrev pub valueOf : Parsed → ℕ
 valueOf (Read options index) = 0
-valueOf TooLong = 0
-valueOf BadEdition = 0
-valueOf (BadTable i) = i
-valueOf (BadUtf8 i) = i
-valueOf (CutUtf8 i) = i
+valueOf (Refused x) = input.placeOf x
 valueOf BadState = 0
 valueOf (ExpectedNumber c) = c
 valueOf (FormatNumberIsTooLarge n) = n

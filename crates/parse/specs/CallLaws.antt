@@ -33,12 +33,12 @@ use Rattle.format.specs.Parse.{addPart}
 use Rattle.format.specs.ReadLaws.{parse-two-stages}
 use Rattle.format_options.specs.declared.OptionalNumber.{OptionalNumber}
 use Rattle.format_options.specs.declared.OptionalNumber.the-variants.{Number}
-use Rattle.parse.specs.Call.{Pool, pooled, addingAfter, onAdded, addTo, lent, answer, parsed, refusedAs, Comes, comes, call, Parses}
+use Rattle.parse.specs.Call.{Pool, pooled, addingAfter, onAdded, addTo, lent, answer, parsed, Comes, comes, call, Parses}
 use Rattle.parse.specs.Plan.{readOf}
 use Rattle.parse.specs.declared.Adding.{Adding}
 use Rattle.parse.specs.declared.After.{After}
 use Rattle.parse.specs.declared.Parsed.{Parsed}
-use Rattle.parse.specs.declared.Parsed.the-variants.{BadState}
+use Rattle.parse.specs.declared.Parsed.the-variants.{Refused, BadState}
 
 -- ---- one addition
 
@@ -193,11 +193,11 @@ module _ {format table : List ℕ} {edition : ℕ} {bytes entries : List ℕ} {c
 
   -- refusals 1, 2, 3
   pub parses-refused : {x : Refusal} → inputCheck formatMost format table edition ≡ input.Refused x
-      → Parses format table edition bytes entries counts bytes entries (record { answer = refusedAs x; counts = counts })
+      → Parses format table edition bytes entries counts bytes entries (record { answer = Refused x; counts = counts })
   unfolding call
   parses-refused {x} e =
-      let c : call format table edition (lent bytes entries counts) ≡ comes (refusedAs x) (lent bytes entries counts) = rw e in
-      parses-by {x = comes (refusedAs x) (lent bytes entries counts)} c refl refl refl refl
+      let c : call format table edition (lent bytes entries counts) ≡ comes (Refused x) (lent bytes entries counts) = rw e in
+      parses-by {x = comes (Refused x) (lent bytes entries counts)} c refl refl refl refl
 
   module _ (e : inputCheck formatMost format table edition ≡ input.Fine) where
     -- refusal 8

@@ -11,8 +11,7 @@ use Rattle.format_options.specs.declared.Fill.{Fill}
 use Rattle.format_options.specs.declared.Fill.the-variants.{Is, NoFill}
 use Rattle.format_options.specs.declared.Options.{Options}
 use Rattle.parse.specs.declared.Parsed.{Parsed}
-use Rattle.parse.specs.declared.Parsed.the-variants.{Read, TooLong, BadEdition, BadTable, BadUtf8, CutUtf8, BadState}
-use Rattle.parse.specs.declared.Parsed.the-variants.{ExpectedNumber, FormatNumberIsTooLarge, UnexpectedToken, PoolFull}
+use Rattle.parse.specs.declared.Parsed.the-variants.{Read, Refused, BadState, ExpectedNumber, FormatNumberIsTooLarge, UnexpectedToken, PoolFull}
 
 -- no number: the greatest of 64 bits
 abbrev pub noNumber : ℕ
@@ -47,11 +46,7 @@ noNumbers = noNumber ∷ noNumber ∷ noNumber ∷ noNumber ∷ noNumber ∷ noN
 
 abbrev pub numbersOf : Parsed → List ℕ
 numbersOf (Read options index) = optionsNumbers options index
-numbersOf TooLong = noNumbers
-numbersOf BadEdition = noNumbers
-numbersOf (BadTable i) = noNumbers
-numbersOf (BadUtf8 i) = noNumbers
-numbersOf (CutUtf8 i) = noNumbers
+numbersOf (Refused x) = noNumbers
 numbersOf BadState = noNumbers
 numbersOf (ExpectedNumber c) = noNumbers
 numbersOf (FormatNumberIsTooLarge n) = noNumbers

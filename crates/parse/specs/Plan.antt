@@ -19,13 +19,13 @@ use Rattle.format_options.specs.declared.OptionalNumber.the-variants.{Nothing}
 use Rattle.format_options.specs.declared.Fill.{Fill}
 use Rattle.format_options.specs.declared.Fill.the-variants.{Is, NoFill}
 use Rattle.format.specs.declared.FormatRead.{FormatRead}
-use Rattle.parse.specs.Call.{Pool, pooled, addTo, refusedAs, answerOf}
+use Rattle.parse.specs.Call.{Pool, pooled, addTo, answerOf}
 use Rattle.parse.specs.declared.Adding.{Adding}
 use Rattle.parse.specs.declared.After.{After}
 use Rattle.parse.specs.declared.Plan.{Plan}
 use Rattle.parse.specs.declared.FormatInput.{FormatInput}
 use Rattle.parse.specs.declared.FormatInput.the-variants.{Refused, Read}
-use Rattle.parse.specs.declared.Parsed.the-variants.{BadState}
+use Rattle.parse.specs.declared.Parsed.the-variants as said
 
 -- ---- before the pool is written to
 
@@ -36,8 +36,8 @@ readOf format table edition = readFormat (propertiesAt table) edition (chars for
 -- what `read` answers for a pool that is fit or not: refusals 1, 17, 2, 3 or 15, 8 in this order, and then the reading
 unfoldable pub inputOf : List ℕ → List ℕ → ℕ → Bool → FormatInput
 inputOf format table edition fit =
-    onInput (λ (x : Refusal). Refused (refusedAs x)) (inputCheck formatMost format table edition)
-    (pick fit (Read (readOf format table edition)) (Refused BadState))
+    onInput (λ (x : Refusal). Refused (said.Refused x)) (inputCheck formatMost format table edition)
+    (pick fit (Read (readOf format table edition)) (Refused said.BadState))
 
 -- ---- what is to be added
 

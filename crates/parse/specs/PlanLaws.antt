@@ -38,7 +38,7 @@ use Rattle.format_options.specs.declared.Part.{Part}
 use Rattle.format_options.specs.declared.Fill.{Fill}
 use Rattle.format_options.specs.declared.Fill.the-variants.{Is, NoFill}
 use Rattle.format.specs.declared.FormatRead.{FormatRead}
-use Rattle.parse.specs.Call.{Pool, pooled, addingAfter, addTo, lent, refusedAs, answer, Comes, comes, Parses}
+use Rattle.parse.specs.Call.{Pool, pooled, addingAfter, addTo, lent, answer, comes, Parses}
 use Rattle.parse.specs.Call as call
 use Rattle.parse.specs.CallLaws.{adds-full, adds-after, adds-fit, two-stages, parses-by, parses-refused, parses-unfit, called}
 use Rattle.parse.specs.Plan.{readOf, inputOf, planOf, CanAdd, isAdding, fillString, CanPlan, addPlan, endBy}
@@ -48,7 +48,7 @@ use Rattle.parse.specs.declared.Plan.{Plan}
 use Rattle.parse.specs.declared.FormatInput.{FormatInput}
 use Rattle.parse.specs.declared.FormatInput.the-variants.{Refused, Read}
 use Rattle.parse.specs.declared.Parsed.{Parsed}
-use Rattle.parse.specs.declared.Parsed.the-variants.{BadState}
+use Rattle.parse.specs.declared.Parsed.the-variants as said
 
 -- ---- one fill
 
@@ -109,7 +109,7 @@ pub record Reads (format table : List ℕ) (edition : ℕ) (fit : Bool) (r : For
 module _ (format table : List ℕ) (edition : ℕ) where
   -- what `inputOf` is, by what the checks answer
   abbrev byInput : Input → Bool → FormatInput
-  byInput c fit = onInput (λ (x : Refusal). Refused (refusedAs x)) c (pick fit (Read (readOf format table edition)) (Refused BadState))
+  byInput c fit = onInput (λ (x : Refusal). Refused (said.Refused x)) c (pick fit (Read (readOf format table edition)) (Refused said.BadState))
 
   reads-by : {r : FormatRead} (c : Input) (fit : Bool) → inputCheck formatMost format table edition ≡ c → byInput c fit ≡ Read r → Reads format table edition fit r
   reads-by (check.Refused x) fit w e = absurd (let z : _≡_ {A = ℕ} 0 1 = cc in omega arith)
@@ -117,11 +117,11 @@ module _ (format table : List ℕ) (edition : ℕ) where
   reads-by check.Fine true w e = record { checked = w; well = fine-of formatMost format table edition w .well; is = cc; is-fit = refl }
 
   module _ (fit : Bool) where
-    pub is-refused : {x : Refusal} → inputCheck formatMost format table edition ≡ check.Refused x → inputOf format table edition fit ≡ Refused (refusedAs x)
+    pub is-refused : {x : Refusal} → inputCheck formatMost format table edition ≡ check.Refused x → inputOf format table edition fit ≡ Refused (said.Refused x)
     unfolding inputOf
     is-refused e = rw e
 
-    pub is-unfit : inputCheck formatMost format table edition ≡ check.Fine → fit ≡ false → inputOf format table edition fit ≡ Refused BadState
+    pub is-unfit : inputCheck formatMost format table edition ≡ check.Fine → fit ≡ false → inputOf format table edition fit ≡ Refused said.BadState
     unfolding inputOf
     is-unfit e f = rw (e, f)
 
@@ -168,8 +168,8 @@ module _ (format table : List ℕ) (edition : ℕ) (bytes entries : List ℕ) (c
 
   -- what a call comes to that was refused so
   refused : (c : Input) (b : Bool) → inputCheck formatMost format table edition ≡ c → fit ≡ b → (a : Parsed) → byInput format table edition c b ≡ Refused a → Keeps a
-  refused (check.Refused x) b w f a e = let s : refusedAs x ≡ a = cc in subst Keeps s (parses-refused w)
-  refused check.Fine false w f a e = let s : BadState ≡ a = cc in subst Keeps s (parses-unfit w f)
+  refused (check.Refused x) b w f a e = let s : said.Refused x ≡ a = cc in subst Keeps s (parses-refused w)
+  refused check.Fine false w f a e = let s : said.BadState ≡ a = cc in subst Keeps s (parses-unfit w f)
   refused check.Fine true w f a e = absurd (let z : _≡_ {A = ℕ} 0 1 = cc in omega arith)
 
   module _ {newBytes newEntries : List ℕ} {two : Adding} where

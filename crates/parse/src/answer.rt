@@ -2,16 +2,11 @@
 ghost use mathlib.Core.Path.{_≡_};
 ghost use Rattle.parse.specs.Call.{numberOf, valueOf};
 use crate::Parsed;
-use base::refusals::BAD_EDITION;
 use base::refusals::BAD_STATE;
-use base::refusals::BAD_TABLE;
-use base::refusals::BAD_UTF8;
-use base::refusals::CUT_UTF8;
 use base::refusals::EXPECTED_NUMBER;
 use base::refusals::FORMAT_NUMBER_IS_TOO_LARGE;
 use base::refusals::NO_REFUSAL;
 use base::refusals::POOL_FULL;
-use base::refusals::TOO_LONG;
 use base::refusals::UNEXPECTED_TOKEN;
 
 // The refusal's number; 0 where there is no refusal.
@@ -23,11 +18,7 @@ pub fn number_of(parsed: Parsed) -> u32
             options: _,
             index: _,
         } => NO_REFUSAL,
-        Parsed::TooLong => TOO_LONG,
-        Parsed::BadEdition => BAD_EDITION,
-        Parsed::BadTable(_) => BAD_TABLE,
-        Parsed::BadUtf8(_) => BAD_UTF8,
-        Parsed::CutUtf8(_) => CUT_UTF8,
+        Parsed::Refused(refusal) => input::answer::number_of(refusal),
         Parsed::BadState => BAD_STATE,
         Parsed::ExpectedNumber(_) => EXPECTED_NUMBER,
         Parsed::FormatNumberIsTooLarge(_) => FORMAT_NUMBER_IS_TOO_LARGE,
@@ -45,11 +36,7 @@ pub fn value_of(parsed: Parsed) -> u64
             options: _,
             index: _,
         } => 0,
-        Parsed::TooLong => 0,
-        Parsed::BadEdition => 0,
-        Parsed::BadTable(i) => i as u64,
-        Parsed::BadUtf8(i) => i as u64,
-        Parsed::CutUtf8(i) => i as u64,
+        Parsed::Refused(refusal) => input::answer::place_of(refusal) as u64,
         Parsed::BadState => 0,
         Parsed::ExpectedNumber(code) => code as u64,
         Parsed::FormatNumberIsTooLarge(value) => value,

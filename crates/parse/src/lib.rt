@@ -8,7 +8,7 @@ pub mod numbers;
 
 ghost use mathlib.Core.Path.{_≡_};
 ghost use Rattle.format.specs.Parse.{addFill, addPart, FillIn};
-ghost use Rattle.parse.specs.Call.{pooled, addingAfter, addTo, refusedAs, answerOf, Parses};
+ghost use Rattle.parse.specs.Call.{pooled, addingAfter, addTo, answerOf, Parses};
 ghost use Rattle.parse.specs.Plan.{inputOf, planWith, planOf, CanAdd, isAdding, fillString, CanPlan, addPlan, endBy};
 use format::FormatRead;
 use format::read_format;
@@ -29,16 +29,8 @@ pub enum Parsed {
         options: Options,
         index: OptionalNumber,
     },
-    // Refusal 1: the format string is over 65,535 bytes.
-    TooLong,
-    // Refusal 17: the number is no edition of the cluster rules.
-    BadEdition,
-    // Refusal 2: the table is unfit, with its place.
-    BadTable(usize),
-    // Refusal 3: the bytes are wrong from this offset on.
-    BadUtf8(usize),
-    // Refusal 15: the end cuts the character that begins at this offset.
-    CutUtf8(usize),
+    // Refusals 1 (the format string is over 65,535 bytes), 17, 2, 3 and 15: they come before any work.
+    Refused(Refusal),
     // Refusal 8: the pool is unfit.
     BadState,
     // Refusal 10, with the code point.
@@ -83,19 +75,6 @@ pub struct Plan {
     pub none: Adding,
 }
 
-// A refusal that comes before any work, as an answer.
-fn refused(refusal: Refusal) -> Parsed
-    ensures { λ r. ⌜ r ≡ refusedAs refusal ⌝ }
-{
-    match refusal {
-        Refusal::TooLong => Parsed::TooLong,
-        Refusal::BadEdition => Parsed::BadEdition,
-        Refusal::BadTable(i) => Parsed::BadTable(i),
-        Refusal::BadUtf8(i) => Parsed::BadUtf8(i),
-        Refusal::CutUtf8(i) => Parsed::CutUtf8(i),
-    }
-}
-
 // Reads a format string, for a pool that is fit or not. Refused are a format string that is too long, then a number that is no edition, then a
 // table that is unfit, then bytes that are wrong or cut, then a pool that is unfit.
 pub fn read(format: &[u8], table: &[u32], terms: Terms, fit: bool) -> FormatInput
@@ -103,7 +82,7 @@ pub fn read(format: &[u8], table: &[u32], terms: Terms, fit: bool) -> FormatInpu
 {
     let edition = terms.edition;
     match input::check_input(format, table, edition, FORMAT_MOST) {
-        Input::Refused(refusal) => FormatInput::Refused(refused(refusal)),
+        Input::Refused(refusal) => FormatInput::Refused(Parsed::Refused(refusal)),
         Input::Fine => {
             if fit {
                 return FormatInput::Read(read_format(format, table, edition));

@@ -79,11 +79,7 @@ pub fn numbers_of(parsed: Parsed) -> [u64; 7]
 {
     match parsed {
         Parsed::Read { options, index } => options_numbers(options, index),
-        Parsed::TooLong => no_numbers(),
-        Parsed::BadEdition => no_numbers(),
-        Parsed::BadTable(_) => no_numbers(),
-        Parsed::BadUtf8(_) => no_numbers(),
-        Parsed::CutUtf8(_) => no_numbers(),
+        Parsed::Refused(_) => no_numbers(),
         Parsed::BadState => no_numbers(),
         Parsed::ExpectedNumber(_) => no_numbers(),
         Parsed::FormatNumberIsTooLarge(_) => no_numbers(),

@@ -1,13 +1,13 @@
 -- What the loop of `copy_in` keeps, over lists and numbers: how it starts, goes on and ends.
 --     Copied: copy-none, copy-one, copy-all    the first i bytes stand in the row, and it is as long as it was
 -- Assumes nothing.
-use Prim.Native.Nat.{ℕ, suc, _+_, _-_, _<_, _≤_}
+use Prim.Native.Nat.{ℕ, _+_, _-_, _<_, _≤_}
 use native.Mathlib.Omega.{arith}
 use native.Mathlib.Numerals.{add-one}
-use mathlib.Core.Path.{_≡_, refl, ap, _∙_}
+use mathlib.Core.Path.{_≡_, refl, _∙_}
 use mathlib.Core.List.{List, append-assoc}
 use lib.ListN.{length, getD, set, take, drop, length-set}
-use lib.Seq.{take-length, drop-length, paste, paste-zero, paste-suc}
+use lib.Seq.{take-length, paste, paste-zero, paste-suc}
 use Rattle.pool.specs.Pool.{written}
 
 -- the first i bytes of the string stand in the row from index `at` on, and it is as long as it was

@@ -48,6 +48,10 @@ added string bytes entries counts =
     onUtf8 (checkFrom 0 string)
     (pick (fitPool bytes entries counts) (addedToFit string bytes entries counts) BadState)
 
+-- what is refused before an addition, where something is
+abbrev pub refusalAt : List ℕ → Added
+refusalAt string = onUtf8 (checkFrom 0 string) BadState
+
 -- whether an answer hands out an index that no string had before
 abbrev pub isNew : Counts → Added → Bool
 isNew counts (Index index after) = eqb index (counts .entries)

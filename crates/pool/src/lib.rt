@@ -8,7 +8,7 @@ ghost use mathlib.Core.Bool.{true};
 ghost use Prim.Native.Nat.{_+_, _*_, _≤_, _<_};
 ghost use lib.ListN.{length};
 ghost use Rattle.pool_rows.specs.Rows.{fitPool};
-ghost use Rattle.pool.specs.Pool.{placed, isNew, written, entered, AddsToFit, AddsString};
+ghost use Rattle.pool.specs.Pool.{placed, refusalAt, isNew, written, entered, AddsToFit, AddsString};
 use pool_rows::Counts;
 use pool_rows::find_string;
 use pool_rows::is_pool_fit;
@@ -109,6 +109,17 @@ pub fn add_to_fit(string: &[u8], bytes: &mut [u8], entries: &mut [u32], counts: 
     copy_in(string, bytes, used as usize);
     put_entry(entries, n, used, string.len() as u32);
     answer
+}
+
+// What is refused before an addition, where something is: the string's bytes with 3 or 15, or else the pool with 8.
+pub fn refusal_of(string: &[u8]) -> Added
+    ensures { λ r. ⌜ r ≡ refusalAt (now (string .entry)) ⌝ }
+{
+    match utf8::check_utf8(string) {
+        utf8::Utf8Check::BadAt(i) => Added::BadUtf8(i),
+        utf8::Utf8Check::CutAt(i) => Added::CutUtf8(i),
+        utf8::Utf8Check::Fine => Added::BadState,
+    }
 }
 
 // Adds a string to a pool: its index, and the counts after it. Refused are a string that is wrong or cut, then a pool that is unfit, then a

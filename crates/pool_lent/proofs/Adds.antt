@@ -19,7 +19,7 @@ use Rattle.utf8.specs.Chars.{checkFrom}
 use Rattle.utf8.specs.declared.Utf8Check.{Utf8Check}
 use Rattle.utf8.specs.declared.Utf8Check.the-variants as utf8
 use Rattle.pool_rows.specs.Rows.{indexOf, stringsOf, roomOf, byteRoom, entryRoom, runsTo, fitIn, fitPool}
-use Rattle.pool.specs.Pool.{onUtf8, placed, addedToFit, added}
+use Rattle.pool.specs.Pool.{onUtf8, placed, addedToFit, added, refusalAt}
 use Rattle.pool.specs.Pool.{isNew, bytesAfter, AddsToFit, AddsString}
 use Rattle.pool_rows.specs.FitLaws.{room-within, fit-of}
 use Rattle.pool.specs.PoolLaws.{settled, adds-fine, placed-same, old-bytes, old-entries, new-entries}
@@ -27,7 +27,7 @@ use Rattle.pool_rows.specs.declared.Counts.{Counts}
 use Rattle.pool.specs.declared.Added.{Added}
 use Rattle.pool.specs.declared.Added.the-variants.{BadState}
 use Rattle.pool_lent.specs.Entries.{numbersOf, entryOf}
-use Rattle.pool_lent.specs.Decided.{least, EndsAt, fitAt, fineBy, fineAt, refusalAt}
+use Rattle.pool_lent.specs.Decided.{least, EndsAt, fitAt, fineBy, fineAt}
 use Rattle.pool_lent.specs.EntriesLaws.{numbers-long, numbers-set}
 use Rattle.pool_lent.specs.declared.Entry.{Entry}
 use Rattle.pool_lent.proofs.Numbers.{least-is, new-room}

@@ -10,10 +10,7 @@ use Rattle.utf8.specs.Chars.{checkFrom}
 use Rattle.utf8.specs.declared.Utf8Check.{Utf8Check}
 use Rattle.utf8.specs.declared.Utf8Check.the-variants as utf8
 use Rattle.pool_rows.specs.Rows.{roomMost, roomOf, runsTo}
-use Rattle.pool.specs.Pool.{onUtf8}
 use Rattle.pool_rows.specs.declared.Counts.{Counts}
-use Rattle.pool.specs.declared.Added.{Added}
-use Rattle.pool.specs.declared.Added.the-variants.{BadState}
 use Rattle.pool_lent.specs.Entries.{numbersOf}
 use Rattle.pool_lent.specs.declared.Entry.{Entry}
 
@@ -48,7 +45,3 @@ fineBy (utf8.CutAt i) fit = false
 
 abbrev pub fineAt : List ℕ → Bool → Bool
 fineAt string fit = fineBy (checkFrom 0 string) fit
-
--- what is refused, where something is
-abbrev pub refusalAt : List ℕ → Added
-refusalAt string = onUtf8 (checkFrom 0 string) BadState

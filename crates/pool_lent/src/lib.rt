@@ -8,7 +8,7 @@ ghost use lib.ListN.{length, set, take, drop};
 ghost use Rattle.pool_rows.specs.Rows.{same, indexOf, stringsOf, roomOf, byteRoom, fitPool};
 ghost use Rattle.pool.specs.Pool.{placed, bytesAfter, countsAfter, AddsToFit, AddsString};
 ghost use Rattle.pool_lent.specs.Entries.{numbersOf, entryOf, AddsEntry};
-ghost use Rattle.pool_lent.specs.Decided.{least, endOf, EndsAt, fitAt, fineAt, refusalAt};
+ghost use Rattle.pool_lent.specs.Decided.{least, endOf, EndsAt, fitAt, fineAt};
 use pool::Added;
 use pool_rows::Counts;
 
@@ -97,17 +97,6 @@ fn is_fine(string: &[u8], fit: bool) -> bool
         utf8::Utf8Check::BadAt(_) => false,
         utf8::Utf8Check::CutAt(_) => false,
         utf8::Utf8Check::Fine => fit,
-    }
-}
-
-// What is refused before an addition, where something is: the string's bytes with 3 or 15, or else the pool with 8.
-fn refusal_of(string: &[u8]) -> Added
-    ensures { λ r. ⌜ r ≡ refusalAt (now (string .entry)) ⌝ }
-{
-    match utf8::check_utf8(string) {
-        utf8::Utf8Check::BadAt(i) => Added::BadUtf8(i),
-        utf8::Utf8Check::CutAt(i) => Added::CutUtf8(i),
-        utf8::Utf8Check::Fine => Added::BadState,
     }
 }
 
@@ -209,7 +198,7 @@ pub fn add_row(string: &[u8], bytes: &mut [u8], entries: &mut [Entry], counts: C
     if is_fine(string, fit) {
         return add_to_fit_row(string, bytes, entries, counts);
     }
-    refusal_of(string)
+    pool::refusal_of(string)
 }
 
 // Adds a string to a pool whose counts are lent: they are those after the addition.

@@ -3,7 +3,7 @@
 use Prim.Native.Nat.{ℕ, _<_, _≤_}
 use mathlib.Core.Path.{_≡_}
 use mathlib.Core.Bool.{true, false}
-use mathlib.Core.List.{List, [], _∷_}
+use mathlib.Core.List.{List, []}
 use lib.ListN.{length, take}
 use Rattle.base.specs.Refusal.{none, tooLong, badEdition, badTable, badUtf8, cutUtf8, sourceMost}
 use Rattle.utf8.specs.Encode.{encodeAll, WellFormed}

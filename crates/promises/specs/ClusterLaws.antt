@@ -1,7 +1,7 @@
 -- The promise of `Cluster`, proved, and that no second answer fits.
 --     first-cluster-promise, first-cluster-has-one-answer
 -- Assumes nothing.
-use Prim.Native.Nat.{ℕ, _<_, _≤_}
+use Prim.Native.Nat.{ℕ, _≤_}
 use native.Mathlib.Omega.{arith}
 use mathlib.Core.Path.{_≡_, refl, sym, ap, subst, _∙_}
 use mathlib.Core.Bool.{true}
@@ -13,7 +13,7 @@ use Rattle.utf8.specs.Chars.{chars}
 use Rattle.utf8.specs.Meaning.{Arriving, Damaged}
 use Rattle.property.specs.Table.{propertiesAt}
 use Rattle.fitness.specs.Fit.{tableCheck}
-use Rattle.fitness.specs.declared.TableCheck.the-variants.{Fit, BadTable}
+use Rattle.fitness.specs.declared.TableCheck.the-variants.{Fit}
 use Rattle.cluster.specs.First.{Shortest, firstSize, firstEnd}
 use Rattle.cluster.specs.FirstLaws.{first-is-shortest, one-shortest}
 use Rattle.cluster.specs.Call.{firstCluster, numberOf, placeOf, lenOf}
@@ -22,7 +22,7 @@ use Rattle.input.specs.InputLaws.{is-long, is-none, is-table, is-bad, is-cut, o
 use Rattle.cluster.specs.CallLaws.{refused, unrefused, no-bytes}
 use Rattle.cluster.specs.declared.Cluster.{Cluster}
 use Rattle.cluster.specs.declared.Cluster.the-variants as answer
-use Rattle.promises.specs.Said.{Said, says}
+use Rattle.promises.specs.Said.{says}
 use Rattle.promises.specs.Cluster.{FirstClusterEnsures, clusterSays, FirstClusterPromise}
 
 module _ (source table : List ℕ) (edition : ℕ) where

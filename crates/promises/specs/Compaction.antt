@@ -11,7 +11,9 @@ use Rattle.pool.specs.Pool.{added}
 use Rattle.desks.specs.Desks.{Shared, deskOf, other, fitDesks, Fits}
 use Rattle.desks.specs.declared.Which.{Which}
 use Rattle.desk_add.specs.Add.{freeEntries, freeBytes, addedFor}
-use Rattle.compact.specs.Compact.{keptStrings, newIndex, gone, isMarked, goodMarks, numberOf}
+use Rattle.slide.specs.Slide.{keptStrings, newIndex, gone}
+use Rattle.marks.specs.Marks.{isMarked, goodMarks}
+use Rattle.compact.specs.Compact.{numberOf}
 use Rattle.compact.specs.declared.Compaction.{Compaction}
 use Rattle.promises.specs.Desks.{Stays}
 

@@ -4,20 +4,22 @@
 use Prim.Native.Nat.{ℕ}
 use mathlib.Core.Path.{_≡_, refl, sym, ap, subst, _∙_}
 use mathlib.Core.List.{List}
-use mathlib.Core.Bool.{Bool, true, false}
+use mathlib.Core.Bool.{Bool}
 use lib.ListN.{length, drop}
 use lib.Seq.{drop-at}
-use Rattle.desks.specs.Desks.{Shared, shared, deskOf, other, fitDesks, Fits}
+use Rattle.desks.specs.Desks.{Shared, shared, deskOf, other, Fits}
 use Rattle.desks.specs.FitLaws.{fit-of, fit-by}
 use Rattle.desks.specs.declared.Which.{Which}
 use Rattle.desks.specs.declared.Which.the-variants.{First, Second}
-use Rattle.compact.specs.Compact.{keptStrings, translated, headed, isMarked, goodMarks, numberOf, countsAfter, desksAfter, compacted, Comes, comes, call, Compacts}
-use Rattle.compact.specs.CompactLaws.{translated-long}
+use Rattle.slide.specs.Slide.{keptStrings, translated, headed}
+use Rattle.slide.specs.SlideLaws.{translated-long}
+use Rattle.marks.specs.Marks.{isMarked}
+use Rattle.compact.specs.Compact.{numberOf, countsAfter, desksAfter, compacted, Comes, comes, call, Compacts}
 use Rattle.compact.specs.LaidLaws.{strings-there}
 use Rattle.compact.specs.CallLaws as compact
 use Rattle.compact.specs.PromiseLaws as after
 use Rattle.compact.specs.declared.Compaction.{Compaction}
-use Rattle.compact.specs.declared.Compaction.the-variants.{Kept, BadMark, BadState}
+use Rattle.compact.specs.declared.Compaction.the-variants.{BadMark, BadState}
 use Rattle.promises.specs.Desks.{Stays}
 use Rattle.promises.specs.DesksLaws.{desk-alone}
 use Rattle.promises.specs.Compaction.{Keeps, CompactPromise}

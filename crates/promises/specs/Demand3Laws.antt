@@ -9,14 +9,12 @@ use mathlib.Core.Bool.{true}
 use mathlib.Core.Logic.{_⊎_, inl, inr}
 use mathlib.Core.List.{List, [], _∷_}
 use lib.ListN.{length, getD, take}
-use borrow.Author.Tests.{le-ltb}
 use Rattle.base.specs.PickLaws.{by-lt}
 use Rattle.base.specs.Refusal.{listFull, sourceMost}
 use Rattle.position.specs.declared.ByteOffset.{ByteOffset}
 use Rattle.position.specs.declared.Position.{Position}
 use Rattle.utf8.specs.Encode.{WellFormed}
 use Rattle.utf8.specs.Read.{isTail}
-use Rattle.utf8.specs.CharsLaws.{fine-of-well}
 use Rattle.property.specs.Table.{propertiesAt}
 use Rattle.fitness.specs.Fit.{tableCheck, FitTable}
 use Rattle.fitness.specs.FitLaws.{fit-of}

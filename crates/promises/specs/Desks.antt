@@ -14,8 +14,6 @@ use Rattle.input.specs.declared.Input.the-variants as input
 use Rattle.pool_rows.specs.Rows.{stringAt}
 use Rattle.pool.specs.Pool.{oneMore, written, entered, numberOf, addedIndex}
 use Rattle.pool.specs.declared.Added.the-variants as added
-use Rattle.parse.specs.Call.{refusedAs}
-use Rattle.parse.specs.declared.Parsed.{Parsed}
 use Rattle.parse.specs.declared.Parsed.the-variants as said
 use Rattle.desks.specs.Desks.{Shared, deskOf, other, ownerOf, fitDesks, Fits}
 use Rattle.desks.specs.declared.Which.{Which}
@@ -79,7 +77,7 @@ pub record DeskAddPromise (string : List ℕ) (which : Which) (s t : Shared) (r 
 
 pub record DeskParsePromise (format table : List ℕ) (edition : ℕ) (which : Which) (s t : Shared) (r : ParsedFor) : Type 0 where
   -- refusals 1, 17, 2, 3 or 15, and then 8
-  pub refused : (x : Refusal) → inputCheck formatMost format table edition ≡ input.Refused x → (r .answer ≡ refusedAs x) × Stays s t
+  pub refused : (x : Refusal) → inputCheck formatMost format table edition ≡ input.Refused x → (r .answer ≡ said.Refused x) × Stays s t
   pub bad-state : inputCheck formatMost format table edition ≡ input.Fine → fitDesks s ≡ false → (r .answer ≡ said.BadState) × Stays s t
   -- else the one pass of the parse, in which each addition is one for the desk, one after the other
   pub reads : inputCheck formatMost format table edition ≡ input.Fine → Fits s

@@ -4,32 +4,27 @@
 --     guarantee           whatever the other desk does, a desk gets its guaranteed room
 --     desk-alone          one desk alone is answered as the pool alone answers, so that demand 2's indices hold for it
 -- Assumes nothing.
-use Prim.Native.Nat.{ℕ, _+_, _<_, _≤_}
+use Prim.Native.Nat.{ℕ, _<_, _≤_}
 use native.Mathlib.Omega.{arith}
 use mathlib.Core.Path.{_≡_, refl, sym, ap, subst, _∙_}
-use mathlib.Core.Bool.{true, false}
+use mathlib.Core.Bool.{false}
 use mathlib.Core.List.{List, [], _∷_}
 use lib.ListN.{length}
 use borrow.Author.Tests.{lt-ltb, le-ltb, eq-eqb, ne-eqb}
-use Rattle.base.specs.Pick.{pick}
-use Rattle.base.specs.Refusal.{none, formatMost}
+use Rattle.base.specs.Refusal.{none}
 use Rattle.utf8.specs.Chars.{checkFrom}
 use Rattle.utf8.specs.CharsLaws.{fine-of-well}
 use Rattle.utf8.specs.MeaningLaws.{is-check}
 use Rattle.utf8.specs.declared.Utf8Check.the-variants as utf8
-use Rattle.input.specs.Input.{inputCheck}
-use Rattle.input.specs.declared.Input.the-variants as input
-use Rattle.input.specs.declared.Refusal.{Refusal}
-use Rattle.pool_rows.specs.Rows.{stringsOf, indexOf, stringAt}
+use Rattle.pool_rows.specs.Rows.{stringsOf, indexOf}
 use Rattle.pool_rows.specs.declared.Counts.{Counts}
-use Rattle.pool.specs.Pool.{oneMore, onUtf8, added, isNew, numberOf, addedIndex, countsAfter}
+use Rattle.pool.specs.Pool.{oneMore, added, isNew, numberOf, addedIndex, countsAfter}
 use Rattle.pool.specs.PoolLaws.{old-bytes, old-entries, new-bytes, new-entries}
 use Rattle.pool.specs.declared.Added.{Added}
 use Rattle.pool.specs.declared.Added.the-variants.{Index, BadUtf8, CutUtf8, BadState, PoolFull}
-use Rattle.parse.specs.Call.{refusedAs}
 use Rattle.parse.specs.declared.Parsed.the-variants as said
 use Rattle.desks.specs.Desks.{Shared, shared, deskOf, other, fitDesks, Fits}
-use Rattle.desks.specs.FitLaws.{Fit, fit-of, fit-by}
+use Rattle.desks.specs.FitLaws.{fit-of, fit-by}
 use Rattle.desks.specs.declared.Which.{Which}
 use Rattle.desks.specs.declared.Which.the-variants.{First, Second}
 use Rattle.desk_add.specs.Add.{freeEntries, freeBytes, inWords, addedFor, sharedAfter, addFor, AddsFor}
@@ -41,7 +36,7 @@ use Rattle.desk_parse.specs.CallLaws as parse
 use Rattle.desk_parse.specs.declared.ParsedFor.{ParsedFor}
 use Rattle.promises.specs.Pool.{addedSays}
 use Rattle.promises.specs.PoolLaws.{first-is, none-is}
-use Rattle.promises.specs.Desks.{TakenFor, StandsIn, AbsentIn, Stays, DeskAddPromise, DeskParsePromise, Act, Adds, Parses, acted, actAll, Guarantee}
+use Rattle.promises.specs.Desks.{TakenFor, AbsentIn, Stays, DeskAddPromise, DeskParsePromise, Act, Adds, Parses, acted, actAll, Guarantee}
 
 -- ---- an addition for a desk
 
@@ -160,7 +155,7 @@ desk-parse-promise format table edition which s {newBytes} {newEntries} {newOwne
     subst (λ (t : Shared). DeskParsePromise format table edition which s t r)
     (λ i. shared (sym (p .bytes-left) i) (sym (p .entries-left) i) (sym (p .owners-left) i) (sym (p .counts-left) i) (sym (p .desks-left) i))
     (record {
-      refused = λ x e. comes-to (comes (refusedAs x) s) (parse.refused-is format table edition which s e);
+      refused = λ x e. comes-to (comes (said.Refused x) s) (parse.refused-is format table edition which s e);
       bad-state = λ e f. comes-to (comes said.BadState s) (parse.bad-state-is format table edition which s e f);
       reads = λ e f. comes-to (ended (parsed format table edition which s)) (parse.reads-is format table edition which s e f);
       fits = parse.parse-fits format table edition which s;

@@ -40,7 +40,7 @@ use Rattle.foreign.specs.Check.{firstApart, isRight, compared, byReading, bySto
 use Rattle.foreign.specs.CheckLaws.{is-refused, is-short, is-compared}
 use Rattle.foreign.specs.ApartLaws.{has, apart-is, apart-all, StatusIs, same-is, is-same, differs-is}
 use Rattle.foreign.specs.declared.Checked.{Checked}
-use Rattle.foreign.specs.declared.Checked.the-variants.{Same, Differs, Refused, BadState, ModesFull}
+use Rattle.foreign.specs.declared.Checked.the-variants.{Same, Differs, Refused, BadState}
 use Rattle.promises.specs.Scan.{Readable, rows, stop}
 use Rattle.promises.specs.Stream.{rustStream}
 use Rattle.layout.specs.declared.Layout.the-variants.{Whole}

@@ -7,13 +7,13 @@ use mathlib.Core.Path.{_≡_, refl, sym, ap, subst, _∙_}
 use mathlib.Core.Bool.{Bool, true, false}
 use mathlib.Core.List.{List}
 use lib.Dec.{ltb}
-use borrow.Author.Tests.{leb-true, lt-ltb, le-ltb}
+use borrow.Author.Tests.{lt-ltb, le-ltb}
 use Rattle.base.specs.Refusal.{none, peekTooFar}
 use Rattle.layout.specs.Layout.{roomIn, shownIn}
 use Rattle.layout.specs.LayoutLaws.{shown-fit, shown-unfit}
 use Rattle.layout.specs.declared.Layout.{Layout}
 use Rattle.cursor.specs.Cursor.{queueMost, isFit, ahead, queuedFor, queueing}
-use Rattle.cursor.specs.CursorLaws.{fits-of, there-end, queued-for}
+use Rattle.cursor.specs.CursorLaws.{there-end, queued-for}
 use Rattle.lookahead.specs.Seen.{seenAt}
 use Rattle.lookahead.specs.Peek as ofPeek
 use Rattle.lookahead.specs.Peek.{shownBy}
@@ -28,7 +28,7 @@ use Rattle.lookahead.specs.declared.Peeked.{Peeked}
 use Rattle.lookahead.specs.declared.Peeked.the-variants as peeked
 use Rattle.queue.specs.Calls.{peekedToken, peekedCursor, next, call, afterCalls}
 use Rattle.queue.specs.LookLaws.{same-nexts, look-fits, look-token}
-use Rattle.promises.specs.Lookahead.{Unfit, peekedSays}
+use Rattle.promises.specs.Lookahead.{peekedSays}
 use Rattle.promises.specs.LookaheadLaws.{unfit-is, fit-is}
 use Rattle.promises.specs.Look.{LookAheadEnsures, Lacks, nothing, at-stuck, at-end, past-end, nextsOf, LookAheadPromise}
 

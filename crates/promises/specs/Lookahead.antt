@@ -8,7 +8,7 @@ use mathlib.Core.List.{List}
 use mathlib.Core.Option.{Option, some}
 use mathlib.Core.Option as option
 use lib.ListN.{length, getD}
-use Rattle.base.specs.Refusal.{none, peekTooFar, queueFull, badState, badRecord}
+use Rattle.base.specs.Refusal.{peekTooFar, queueFull, badState, badRecord}
 use Rattle.layout.specs.Layout.{roomIn, rowIn, fitsIn, shownIn}
 use Rattle.layout.specs.declared.Layout.{Layout}
 use Rattle.rows.specs.declared.Row.{Row}

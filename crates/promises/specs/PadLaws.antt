@@ -6,33 +6,32 @@
 --     length-fits          how many bytes are needed is a number of 64 bits
 --     alignment-numbers    an alignment's number is the one that a parse tells of it
 -- Assumes nothing.
-use Prim.Native.Nat.{ℕ, _+_, _<_, _≤_}
+use Prim.Native.Nat.{ℕ, _<_, _≤_}
 use native.Mathlib.Omega.{arith}
 use mathlib.Core.Path.{_≡_, refl, sym, ap, _∙_}
 use mathlib.Core.Bool.{Bool, true, false, _&&_}
 use mathlib.Core.List.{List}
 use lib.Dec.{leb}
 use lib.ListN.{length}
-use borrow.Author.Tests.{lt-ltb, le-ltb, lt-leb, ne-eqb}
+use borrow.Author.Tests.{lt-leb, ne-eqb}
 use Rattle.base.specs.Refusal.{none}
-use Rattle.base.specs.PickLaws.{by-eq, split-lt, split-eq}
+use Rattle.base.specs.PickLaws.{by-eq, split-lt}
 use Rattle.format_options.specs.Options.{alignmentNumber}
 use Rattle.format_options.specs.declared.Alignment.the-variants as alignment
 use Rattle.pool.specs.Pool.{written}
 use Rattle.cluster_count.specs.Count.{clusterCount}
 use Rattle.cluster_count.specs.CountLaws.{each-break, no-other}
 use Rattle.cluster_count.specs.CutLaws.{cut-count, cut-all, cut-some}
-use Rattle.fills.specs.Pad.{default, left, center, right, noWidth, widthMost, isWidth, fills, filled}
+use Rattle.fills.specs.Pad.{default, left, center, right, noWidth, widthMost, isWidth, fills}
 use Rattle.fills.specs.PadLaws.{all-fills, default-left, left-behind, right-before, odd-right, no-fills, length-padded}
 use Rattle.pad_input.specs.Check.{textMost, isFormat, padCheck}
 use Rattle.pad_input.specs.CheckLaws.{long-text, fill-long, no-edition, unfit, bad-text, cut-text, bad-fill, cut-fill, not-one, no-format, is-fine, width-of}
+use Rattle.pad_input.specs.declared.Check.{Check}
 use Rattle.pad_input.specs.declared.Check.the-variants as check
-use Rattle.pad_input.specs.declared.Refusal.{Refusal}
-use Rattle.pad_input.specs.declared.Refusal.the-variants.{NoSuchFormat}
 use Rattle.pad.specs.Call.{fillOf, Pads, paddedText, lenOf}
-use Rattle.pad.specs.CallLaws.{fits, is-refused, is-short, is-padded, one-answer, kept}
+use Rattle.pad.specs.CallLaws.{fits, byCheck, is-checked, is-short, is-padded, one-answer, kept}
 use Rattle.pad.specs.declared.Padded.{Padded}
-use Rattle.pad.specs.declared.Padded.the-variants.{Length, Refused, NoRoom}
+use Rattle.pad.specs.declared.Padded.the-variants.{NoRoom}
 use Rattle.promises.specs.Said.{says}
 use Rattle.promises.specs.Pad.{padSays, CountPromise, SidesPromise, Lacks, clustersIn, Asked, Taken, between, PadPromise}
 
@@ -106,8 +105,9 @@ module _ (text : List ℕ) (alignment width : ℕ) (given : Bool) (fill table : 
       go false f = omega arith
 
   module _ (old new : List ℕ) (r : Padded) (p : Pads text alignment width given fill table edition old new r) where
-    says-refused : (x : Refusal) → padCheck text alignment width given fill table edition ≡ check.Refused x → padSays r ≡ padSays (Refused x)
-    says-refused x e = ap padSays (p .answer ∙ is-refused text alignment width given fill table edition old x e)
+    says-checked : {c : Check} → padCheck text alignment width given fill table edition ≡ c
+        → padSays r ≡ padSays (byCheck text alignment width given fill table edition old c)
+    says-checked e = ap padSays (p .answer ∙ is-checked text alignment width given fill table edition old e)
 
     fine : Taken text alignment width given fill table edition → padCheck text alignment width given fill table edition ≡ check.Fine
     fine t = is-fine text alignment width given fill table edition t
@@ -115,19 +115,19 @@ module _ (text : List ℕ) (alignment width : ℕ) (given : Bool) (fill table : 
     pub pad-promise : PadPromise text alignment width given fill table edition old new r
     pad-promise =
         record {
-          long-text = λ h. says-refused _ (long-text text alignment width given fill table edition h);
-          long-fill = λ s g h. says-refused _ (fill-long text alignment width given fill table edition s g h);
-          bad-edition = λ s one two. says-refused _ (no-edition text alignment width given fill table edition s one two);
-          bad-table = λ b i e. says-refused _ (unfit text alignment width given fill table edition b i e);
-          bad-text = λ b f i e. says-refused _ (bad-text text alignment width given fill table edition b f i e);
-          cut-text = λ b f i e. says-refused _ (cut-text text alignment width given fill table edition b f i e);
-          bad-fill = λ b f w g i e. says-refused _ (bad-fill text alignment width given fill table edition b f w g i e);
-          cut-fill = λ b f w g i e. says-refused _ (cut-fill text alignment width given fill table edition b f w g i e);
+          long-text = λ h. says-checked (long-text text alignment width given fill table edition h);
+          long-fill = λ s g h. says-checked (fill-long text alignment width given fill table edition g h);
+          bad-edition = λ s one two. says-checked (no-edition text alignment width given fill table edition s one two);
+          bad-table = λ b i e. says-checked (unfit text alignment width given fill table edition b i e);
+          bad-text = λ b f i e. says-checked (bad-text text alignment width given fill table edition b f i e);
+          cut-text = λ b f i e. says-checked (cut-text text alignment width given fill table edition b f i e);
+          bad-fill = λ b f w g i e. says-checked (bad-fill text alignment width given fill table edition b f w g i e);
+          cut-fill = λ b f w g i e. says-checked (cut-fill text alignment width given fill table edition b f w g i e);
           not-one-cluster =
               λ a g n.
-              says-refused _ (not-one text alignment width given fill table edition (a .begun) (a .fit) (a .well) g (a .fill-well g) n);
-          no-alignment = λ a h. says-refused _ (none-such a (no-alignment-is alignment width h));
-          no-width = λ a h n. says-refused _ (none-such a (no-width-is alignment width h n));
+              says-checked (not-one text alignment width given fill table edition (a .begun) (a .fit) (a .well) g (a .fill-well g) n);
+          no-alignment = λ a h. says-checked (none-such a (no-alignment-is alignment width h));
+          no-width = λ a h n. says-checked (none-such a (no-width-is alignment width h n));
           no-room = λ t n l h. ap padSays (short t n l h);
           padded = λ t n l h. enough t (between text alignment width given fill table edition n) (text-is n l) h;
           copied = λ t l h. enough t text (text-is 0 l ∙ no-fills alignment _ text) h;
@@ -135,7 +135,7 @@ module _ (text : List ℕ) (alignment width : ℕ) (given : Bool) (fill table : 
         }
       where
         none-such : Asked text alignment width given fill table edition → isFormat alignment width ≡ false
-            → padCheck text alignment width given fill table edition ≡ check.Refused NoSuchFormat
+            → padCheck text alignment width given fill table edition ≡ check.NoSuchFormat
         none-such a e = no-format text alignment width given fill table edition (a .begun) (a .fit) (a .well) (a .fill-well) e
 
         short : Taken text alignment width given fill table edition → (n : ℕ)

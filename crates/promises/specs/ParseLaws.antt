@@ -12,9 +12,6 @@ use Rattle.base.specs.Refusal.{badUtf8, cutUtf8, formatMost}
 use Rattle.utf8.specs.Meaning.{Arriving, Damaged}
 use Rattle.input.specs.Input.{inputCheck}
 use Rattle.input.specs.InputLaws.{is-long, is-none, is-table, is-bad, is-cut, is-fine, fine-of, only-bad, only-cut}
-use Rattle.input.specs.Input as input
-use Rattle.input.specs.declared.Refusal.{Refusal}
-use Rattle.input.specs.declared.Refusal.the-variants as early
 use Rattle.input.specs.declared.Input.{Input}
 use Rattle.input.specs.declared.Input.the-variants.{Fine, Refused}
 use Rattle.pool_rows.specs.Rows.{fitPool}
@@ -23,28 +20,13 @@ use Rattle.format_options.specs.declared.OptionalNumber.{OptionalNumber}
 use Rattle.format_options.specs.declared.Options.{Options}
 use Rattle.format_options.specs.declared.Outcome.{Outcome}
 use Rattle.format_options.specs.declared.Outcome.the-variants as outcome
-use Rattle.parse.specs.Call.{lent, onOutcome, answerOf, answer, parsed, Comes, comes, refusedAs, call, Parses, numberOf, valueOf}
+use Rattle.parse.specs.Call.{lent, onOutcome, answerOf, answer, parsed, Comes, comes, call, Parses, numberOf, valueOf}
 use Rattle.parse.specs.CallLaws.{called, one-answer, parses-refused, parses-unfit}
 use Rattle.parse.specs.declared.After.{After}
 use Rattle.parse.specs.declared.Parsed.{Parsed}
 use Rattle.parse.specs.declared.Parsed.the-variants.{BadState}
 use Rattle.promises.specs.Said.{Said, says}
 use Rattle.promises.specs.Parse.{parseSays, Parsable, ParsePromise}
-
--- a refusal keeps its number and place
-refused-number : (x : Refusal) → numberOf (refusedAs x) ≡ input.numberOf x
-refused-number early.TooLong = refl
-refused-number early.BadEdition = refl
-refused-number (early.BadTable i) = refl
-refused-number (early.BadUtf8 i) = refl
-refused-number (early.CutUtf8 i) = refl
-
-refused-value : (x : Refusal) → valueOf (refusedAs x) ≡ input.placeOf x
-refused-value early.TooLong = refl
-refused-value early.BadEdition = refl
-refused-value (early.BadTable i) = refl
-refused-value (early.BadUtf8 i) = refl
-refused-value (early.CutUtf8 i) = refl
 
 -- a reading's answer is neither 3 nor 15
 abbrev Works : Parsed → Type 0
@@ -82,12 +64,12 @@ module _ (format table : List ℕ) (edition : ℕ) (bytes entries : List ℕ) (c
   bad-only : told-number (call format table edition (lent bytes entries counts)) ≡ badUtf8
       → Damaged format (told-value (call format table edition (lent bytes entries counts)))
   unfolding call
-  bad-only = only-bad formatMost format table edition _ told-number told-value worked refused-number refused-value (fine-worked .0)
+  bad-only = only-bad formatMost format table edition _ told-number told-value worked (λ x. refl) (λ x. refl) (fine-worked .0)
 
   cut-only : told-number (call format table edition (lent bytes entries counts)) ≡ cutUtf8
       → Arriving format (told-value (call format table edition (lent bytes entries counts)))
   unfolding call
-  cut-only = only-cut formatMost format table edition _ told-number told-value worked refused-number refused-value (fine-worked .1)
+  cut-only = only-cut formatMost format table edition _ told-number told-value worked (λ x. refl) (λ x. refl) (fine-worked .1)
 
   -- the pool stays
   abbrev Kept : List ℕ → List ℕ → After → Type 0

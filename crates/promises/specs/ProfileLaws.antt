@@ -1,18 +1,16 @@
 -- The promise of `Profile`, proved, and that no second answer and no second list fits.
 --     scan-profile-promise, scan-profile-has-one-answer
 -- Assumes nothing.
-use Prim.Native.Nat.{ℕ, _<_, _≤_}
+use Prim.Native.Nat.{ℕ, _<_}
 use native.Mathlib.Omega.{arith}
-use mathlib.Core.Path.{_≡_, refl, sym, ap, subst, _∙_}
+use mathlib.Core.Path.{_≡_, refl, sym, ap, subst}
 use mathlib.Core.Bool.{not}
 use mathlib.Core.List.{List}
-use lib.Dec.{ltb}
 use lib.ListN.{length}
 use borrow.Author.Tests.{lt-ltb, le-ltb, not-true, not-false}
-use Rattle.base.specs.PickLaws.{by-lt, split-lt}
+use Rattle.base.specs.PickLaws.{by-lt}
 use Rattle.base.specs.Refusal.{none, notInProfile}
-use Rattle.fitness.specs.First.{firstBad}
-use Rattle.fitness.specs.FirstLaws.{good-before, bad-there, at-most, is-first, none-bad}
+use Rattle.fitness.specs.FirstLaws.{good-before, bad-there, is-first, none-bad}
 use Rattle.input.specs.Input as input
 use Rattle.input.specs.declared.Refusal.{Refusal}
 use Rattle.input.specs.declared.Refusal.the-variants.{TooLong, BadEdition, BadTable, BadUtf8, CutUtf8}
@@ -27,7 +25,7 @@ use Rattle.profile.specs.Profile.{judged, profiledBy, Profiles, numberOf, place
 use Rattle.profile.specs.ProfileLaws.{one-answer}
 use Rattle.profile.specs.declared.Profiled.{Profiled}
 use Rattle.profile.specs.declared.Profiled.the-variants.{Base, NotInProfile}
-use Rattle.promises.specs.Profile.{Forbidden, Allowed, First, ProfilePromise}
+use Rattle.promises.specs.Profile.{Allowed, First, ProfilePromise}
 
 -- a refusal before any work is neither none nor 21
 no : (x : Refusal) → input.numberOf x ≡ none → ⊥

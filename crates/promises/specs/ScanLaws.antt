@@ -6,7 +6,7 @@
 use Prim.Native.Nat.{ℕ, _+_, _-_, _<_, _≤_}
 use native.Mathlib.Omega.{arith}
 use mathlib.Core.Path.{_≡_, refl, sym, ap, subst, _∙_}
-use mathlib.Core.List.{List, []}
+use mathlib.Core.List.{List}
 use lib.Dec.{ltb}
 use lib.ListN.{length, take}
 use lib.Seq.{take-all, length-take-le}
@@ -18,7 +18,6 @@ use Rattle.input.specs.Input.{inputCheck}
 use Rattle.input.specs.InputLaws.{is-long, is-none, is-table, is-bad, is-cut, is-fine, by-input, only-bad, only-cut}
 use Rattle.rows.specs.Row.{room, putRows, putRowsAt}
 use Rattle.rows.specs.RowLaws.{rows-one-by-one}
-use Rattle.rows.specs.declared.Row.{Row}
 use Rattle.half_rows.specs.Half.{putHalvesAt}
 use Rattle.half_rows.specs.HalfLaws.{halves-one-by-one}
 use Rattle.layout.specs.Layout.{roomIn}

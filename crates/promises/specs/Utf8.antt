@@ -7,7 +7,7 @@ use Rattle.base.specs.Refusal.{none, badUtf8, cutUtf8}
 use Rattle.utf8.specs.Encode.{WellFormed}
 use Rattle.utf8.specs.Read.{readAt}
 use Rattle.utf8.specs.Chars.{checkFrom}
-use Rattle.utf8.specs.Meaning.{ReadIs, Arriving, Damaged, CheckIs}
+use Rattle.utf8.specs.Meaning.{Arriving, Damaged, CheckIs}
 use Rattle.utf8.specs.Answer.{numberOf, placeOf}
 use Rattle.utf8.specs.declared.Read.{Read}
 use Rattle.utf8.specs.declared.Utf8Check.{Utf8Check}

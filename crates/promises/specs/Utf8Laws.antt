@@ -4,7 +4,7 @@
 -- Assumes nothing.
 use Prim.Native.Nat.{ℕ}
 use native.Mathlib.Omega.{arith}
-use mathlib.Core.Path.{_≡_, refl, sym, ap}
+use mathlib.Core.Path.{_≡_, sym, ap}
 use mathlib.Core.List.{List}
 use Rattle.base.specs.Refusal.{none, badUtf8, cutUtf8}
 use Rattle.utf8.specs.Encode.{WellFormed}
@@ -14,7 +14,6 @@ use Rattle.utf8.specs.Answer.{numberOf, placeOf}
 use Rattle.utf8.specs.declared.Read.{Read}
 use Rattle.utf8.specs.declared.Utf8Check.{Utf8Check}
 use Rattle.utf8.specs.declared.Utf8Check.the-variants.{Fine, BadAt, CutAt}
-use Rattle.promises.specs.Said.{Said, says}
 use Rattle.promises.specs.Utf8.{ReadCharEnsures, CheckUtf8Ensures, checkSays, CheckUtf8Promise}
 
 -- the answer means what `encode` alone says, and nothing else could be answered

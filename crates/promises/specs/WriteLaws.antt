@@ -20,7 +20,7 @@ use Rattle.utf8.specs.Encode.{encodeAll}
 use Rattle.utf8.specs.Chars.{chars}
 use Rattle.property.specs.Table.{propertiesAt}
 use Rattle.fitness.specs.Fit.{tableCheck}
-use Rattle.fitness.specs.declared.TableCheck.the-variants.{Fit, BadTable}
+use Rattle.fitness.specs.declared.TableCheck.the-variants.{Fit}
 use Rattle.input.specs.Input as input
 use Rattle.input.specs.Input.{isEdition, inputCheck, onInput}
 use Rattle.input.specs.InputLaws.{is-none, is-table, is-fine, fine-of}
@@ -35,7 +35,7 @@ use Rattle.format.specs.ParseLaws.{parse-adds}
 use Rattle.format_options.specs.declared.Outcome.{Outcome}
 use Rattle.format_options.specs.declared.Outcome.the-variants.{Fine, ExpectedNumber, TooLarge, UnexpectedToken}
 use Rattle.format_options.specs.declared.Part.{Part}
-use Rattle.parse.specs.Call.{Pool, addTo, lent, onOutcome, refusedAs, parsed, call}
+use Rattle.parse.specs.Call.{Pool, addTo, lent, onOutcome, parsed, call}
 use Rattle.parse.specs.declared.Parsed.the-variants.{Read, BadState, PoolFull}
 use Rattle.parse.specs.declared.Parsed.the-variants as wrong
 use Rattle.wanted.specs.Wanted.{Asked, askedOf, ReadsBack, First, NoSuch}
@@ -101,16 +101,11 @@ module _ (table : List ℕ) (edition : ℕ) (p : Pool) (s : List ℕ) where
       go (inputCheck formatMost s table edition) refl (fitPool (p .bytes) (p .entries) (p .counts)) refl (parsed s table edition p .pool .full) refl
       (parsed s table edition p .outcome) refl
     where
-      never : (x : Refusal) → refusedAs x ≡ Read (v .options) (v .index) → ⊥
-      never refusal.TooLong e = let z : _≡_ {A = ℕ} 0 1 = cc in omega arith
-      never refusal.BadEdition e = let z : _≡_ {A = ℕ} 0 1 = cc in omega arith
-      never (refusal.BadTable i) e = let z : _≡_ {A = ℕ} 0 1 = cc in omega arith
-      never (refusal.BadUtf8 i) e = let z : _≡_ {A = ℕ} 0 1 = cc in omega arith
-      never (refusal.CutUtf8 i) e = let z : _≡_ {A = ℕ} 0 1 = cc in omega arith
-
       go : (c : Input) → inputCheck formatMost s table edition ≡ c → (t : Bool) → fitPool (p .bytes) (p .entries) (p .counts) ≡ t
           → (u : Bool) → parsed s table edition p .pool .full ≡ u → (x : Outcome) → parsed s table edition p .outcome ≡ x → ReadsBack look edition a s
-      go (check.Refused y) e t f u g x h = absurd (never y (rw e at (v .answer)))
+      go (check.Refused y) e t f u g x h =
+          let w : wrong.Refused y ≡ Read (v .options) (v .index) = rw e at (v .answer) in
+          absurd (let z : _≡_ {A = ℕ} 0 1 = cc in omega arith)
       go check.Fine e false f u g x h =
           let w : BadState ≡ Read (v .options) (v .index) = rw (e, f) at (v .answer) in
           absurd (let z : _≡_ {A = ℕ} 0 1 = cc in omega arith)

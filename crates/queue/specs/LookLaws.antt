@@ -5,18 +5,15 @@
 --     look-token       it shows what the (n+1)th following `next` hands out, and nothing where that hands out nothing
 -- Assumes nothing.
 use Prim.Native.Nat.{ℕ, zero, suc, _+_, _-_, _≤_, _<_}
-use native.Mathlib.Nat.{add-zero}
 use native.Mathlib.Omega.{arith}
 use mathlib.Core.Path.{_≡_, refl, sym, ap, subst, _∙_}
 use mathlib.Core.Bool.{Bool, true, false}
-use mathlib.Core.List.{List, [], _∷_}
-use mathlib.Core.Option.{Option}
+use mathlib.Core.List.{List}
 use lib.Dec.{ltb}
 use lib.ListN.{replicate}
-use borrow.Author.Tests.{ltb-false, lt-ltb, le-ltb}
+use borrow.Author.Tests.{ltb-false, lt-ltb}
 use Rattle.base.specs.PickLaws.{split-lt}
 use Rattle.base.specs.Refusal.{none}
-use Rattle.rows.specs.declared.Row.{Row}
 use Rattle.rows.specs.declared.RowAt.{RowAt}
 use Rattle.rows.specs.declared.RowAt.the-variants.{Fit, Unfit}
 use Rattle.cursor.specs.Cursor.{queueMost, isFit, recordAt, ahead, movedOn, queuedFor, queueing}
@@ -26,14 +23,11 @@ use Rattle.lookahead.specs.Next.{givenBy, nextOf}
 use Rattle.lookahead.specs.Peek as ofPeek
 use Rattle.lookahead.specs.Peek.{shownBy}
 use Rattle.lookahead.specs.LookAhead.{lookAheadOf}
-use Rattle.lookahead.specs.AnswerLaws.{look-is}
-use Rattle.cursor.specs.declared.Status.{Status}
 use Rattle.cursor.specs.declared.Cursor.{Cursor}
 use Rattle.lookahead.specs.declared.Seen.{Seen}
 use Rattle.lookahead.specs.declared.Seen.the-variants as seen
 use Rattle.lookahead.specs.declared.Given.{Given}
 use Rattle.lookahead.specs.declared.Given.the-variants as given
-use Rattle.lookahead.specs.declared.Peeked.{Peeked}
 use Rattle.queue.specs.Calls.{Call, next, Outcome, givenToken, peekedToken, peekedCursor, ofGiven, call, afterCalls, Unrefused}
 
 module _ (room : ℕ) (shown : ℕ → RowAt) where

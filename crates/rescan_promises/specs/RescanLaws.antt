@@ -4,7 +4,6 @@ use Prim.Native.Nat.{ℕ, zero, suc, _+_, _-_, _≤_, _<_}
 use native.Mathlib.Omega.{arith}
 use mathlib.Core.Path.{_≡_, refl, sym, ap, subst, _∙_}
 use mathlib.Core.List.{List, _++_}
-use lib.Dec.{ltb}
 use lib.ListN.{length, getD, take, drop}
 use lib.Seq.{length-take-le, take-take, getD-take}
 use borrow.Author.Tests.{lt-ltb, le-ltb}
@@ -17,7 +16,7 @@ use Rattle.input.specs.declared.Input.{Input}
 use Rattle.input.specs.declared.Input.the-variants as input
 use Rattle.token.specs.Kind.{newLine}
 use Rattle.rows.specs.First.{kindIn, depthIn}
-use Rattle.rows.specs.Row.{room, rowAt, firstAt, copyRows, putRows, putRowsAt, rowsOf}
+use Rattle.rows.specs.Row.{room, rowAt, firstAt, copyRows, putRowsAt, rowsOf}
 use Rattle.rows.specs.RowLaws.{rows-of-length, rows-of-at, rows-room, puts-none, copy-none, copy-room}
 use Rattle.rows.specs.declared.Row.{Row}
 use Rattle.text.specs.Tests.{lf}

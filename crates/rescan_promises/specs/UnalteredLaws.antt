@@ -10,7 +10,7 @@ use Rattle.base.specs.Refusal.{sourceMost}
 use Rattle.fitness.specs.FitLaws.{fit-of}
 use Rattle.input.specs.Input.{Readable}
 use Rattle.rows.specs.declared.Row.{Row}
-use Rattle.reading.specs.Reading.{Reading, onto}
+use Rattle.reading.specs.Reading.{Reading}
 use Rattle.reading.specs.Scan.{readingOf}
 use Rattle.line.specs.Line.{line}
 use Rattle.kept.specs.Kept.{ontoAll, UpTo, Edited}

@@ -3,10 +3,7 @@
 // It reads a token with the crate `lexer`, which knows no list, and stores its record with the crate `layout`, which knows no source: one loop for
 // both layouts. What it must answer and write stands in the crate `reading`.
 ghost use mathlib.Core.Path.{_≡_};
-ghost use mathlib.Core.List.{[]};
 ghost use Prim.Native.Nat.{_≤_};
-ghost use lib.Dec.{ltb};
-ghost use Rattle.base.specs.Pick.{pick};
 ghost use Rattle.base.specs.Refusal.{sourceMost};
 ghost use Rattle.property.specs.Table.{propertiesAt};
 ghost use Rattle.fitness.specs.Fit.{FitTable};
@@ -31,7 +28,7 @@ use token::kinds;
 use token::token_of;
 
 // A token is left that would push a 65th mode. Where its record has no room either, that is said.
-fn full(room: usize, count: usize, byte: usize) -> Scanned
+pub fn full(room: usize, count: usize, byte: usize) -> Scanned
     ensures { λ r. ⌜ r ≡ whole room count byte deep ⌝ }
 {
     if count < room {
@@ -41,7 +38,7 @@ fn full(room: usize, count: usize, byte: usize) -> Scanned
 }
 
 // An Error stands still: its record is the last, if it has room.
-fn stuck(layout: Layout, list: &mut [u32], count: usize, before: Lexer, after: Lexer) -> Scanned
+pub fn stuck(layout: Layout, list: &mut [u32], count: usize, before: Lexer, after: Lexer) -> Scanned
     requires { ⌜ (after .place .«previous_byte» .0 ≤ sourceMost) × (after .place .«current_byte» .0 ≤ sourceMost) ⌝ }
     requires { ⌜ (before .depth ≤ depthMost) × (count ≤ roomIn layout (now list)) ⌝ }
     ensures { λ r. ⌜ FillsIn layout (now (list .entry)) count (reachOf after .byte .0) (stuckReading before after) r (now (list .exit)) ⌝ }

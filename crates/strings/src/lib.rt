@@ -55,7 +55,7 @@ fn escape_turn(source: &[u8], at: usize, quote: u32) -> Turn
 }
 
 // One turn in a string literal, which ends before its quote and before "{".
-fn literal_turn(source: &[u8], table: &[u32], at: usize, quote: u32) -> Turn
+pub fn literal_turn(source: &[u8], table: &[u32], at: usize, quote: u32) -> Turn
     requires { ⌜ WellFormed (drop at (now source)) × (at < length (now source)) ⌝ }
     requires { ⌜ FitTable (now table) × (quote < 128) ⌝ }
     ensures { λ r. ⌜ r ≡ turnAt (literalTurn (propertiesAt (now (table .entry))) quote) (chars (drop at (now (source .entry)))) ⌝ }
@@ -105,7 +105,7 @@ pub fn consume_string_literal(source: &[u8], table: &[u32], lexer: Lexer, quote:
 }
 
 // The contents of a raw string end: the mode RawStart gives way to RawEnd.
-fn raw_closed(lexer: Lexer, end: Reach, delimiter: u16) -> Taken
+pub fn raw_closed(lexer: Lexer, end: Reach, delimiter: u16) -> Taken
     requires { ⌜ delimiter < 512 ⌝ }
     ensures { λ r. ⌜ r ≡ rawClosed delimiter lexer end ⌝ }
 {

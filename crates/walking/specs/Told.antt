@@ -15,7 +15,6 @@ use Rattle.lookahead.specs.declared.Peeked.{Peeked}
 use Rattle.lookahead.specs.declared.Peeked.the-variants as peeked
 use Rattle.walking.specs.declared.calls.Call.{Call}
 use Rattle.walking.specs.declared.calls.Call.the-variants.{Next, Peek, LookAhead}
-use Rattle.walking.specs.declared.What.{What}
 use Rattle.walking.specs.declared.What.the-variants.{Token, Nothing, Refused}
 use Rattle.walking.specs.declared.Told.{Told}
 

@@ -5,7 +5,7 @@ use mathlib.Core.List.{List, [], _∷_, _++_}
 use lib.ListN.{length, take, drop, replicate}
 use Rattle.fitness.specs.Small.{smallTable}
 use Rattle.table_file.specs.File.{fileOf}
-use Rattle.input.specs.Input.{withoutGB9c, withGB9c}
+use Rattle.input.specs.Input.{withGB9c}
 use Rattle.token.specs.Kind as kind
 use Rattle.words.specs.Words.{bytes}
 use Rattle.reading.specs.Status.{endNumber, stuckNumber, refusedNumber, endHalfNumber, stuckHalfNumber}
@@ -13,7 +13,7 @@ use Rattle.pool_rows.specs.declared.Counts.{Counts}
 use Rattle.pool_lent.specs.Entries.{entryOf}
 use Rattle.pool_lent.specs.declared.Entry.{Entry}
 use Rattle.parse.specs.Numbers.{noNumber}
-use Rattle.compact.specs.Compact.{gone}
+use Rattle.slide.specs.Slide.{gone}
 use Rattle.wrong_answers.specs.Wrong.{Wrong, readChar, checkUtf8, checkTable, readTable, firstCluster, scan, scanHalf, next, peek, lookAhead, checkList, rescan, addString, parse, compact}
 
 -- ---- what goes in
@@ -65,6 +65,11 @@ zeros n = replicate (8 * n) 0
 abbrev row : ℕ → ℕ → ℕ → ℕ → ℕ → List ℕ
 row kind detail depth start end = (kind + 128 * detail + 1048576 * depth) ∷ start ∷ end ∷ 0 ∷ start ∷ 0 ∷ end ∷ 0 ∷ []
 
+-- of a token without a detail, wherever it stands: kind and depth, bytes, its first line and column, its last, and the indent
+abbrev placed : ℕ → ℕ → ℕ → ℕ → ℕ → ℕ → ℕ → ℕ → ℕ → List ℕ
+placed kind depth start end startLine startColumn endLine endColumn indent =
+    (kind + 1048576 * depth) ∷ start ∷ end ∷ startLine ∷ startColumn ∷ endLine ∷ endColumn ∷ indent ∷ []
+
 -- a list with room for so many records at half the size, and such a record's five numbers: the first, and where it ends
 abbrev halfZeros : ℕ → List ℕ
 halfZeros n = replicate (5 * n) 0
@@ -79,11 +84,6 @@ stillError = kind.error + 268435456
 -- two names of one byte
 abbrev twoNames : List ℕ
 twoNames = halfRow kind.id 1 ++ halfRow kind.id 2
-
--- of a token without a detail, wherever it stands: kind and depth, bytes, its first line and column, its last, and the indent
-abbrev placed : ℕ → ℕ → ℕ → ℕ → ℕ → ℕ → ℕ → ℕ → ℕ → List ℕ
-placed kind depth start end startLine startColumn endLine endColumn indent =
-    (kind + 1048576 * depth) ∷ start ∷ end ∷ startLine ∷ startColumn ∷ endLine ∷ endColumn ∷ indent ∷ []
 
 -- those of a token of one byte, with this first number
 abbrev begun : ℕ → List ℕ

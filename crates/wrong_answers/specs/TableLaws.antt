@@ -42,12 +42,13 @@ use Rattle.pool.specs.declared.Added.{Added}
 use Rattle.pool_rows.specs.Rows.{same}
 use Rattle.pool_rows.specs.declared.Counts.{Counts}
 use Rattle.pool_lent.specs.Entries.{numbersOf}
-use Rattle.pool_lent.specs.declared.Entry.{Entry}
 use Rattle.parse.specs.Call as parse
 use Rattle.parse.specs.Numbers as numbers
 use Rattle.koto_lexer.specs.Cursors.{nextBy, peekBy, lookBy}
 use Rattle.koto_pool.specs.Formats.{parsed}
 use Rattle.desks.specs.Desks.{heldBy, sharedOut, fitDesks}
+use Rattle.slide.specs.Slide as slide
+use Rattle.marks.specs.Marks as marks
 use Rattle.compact.specs.Compact as compact
 use Rattle.koto_desks.specs.Words.{countWords, deskWords, lentBy}
 use Rattle.promises.specs.CasesLaws.{formats-computed}
@@ -221,13 +222,13 @@ pub scans-shut-out : AllShutOut ofScans
 unfolding formats-computed same rows.wordsOfAll rows.putRows
 scans-shut-out = others-shut-out ofScans refl
 
-pub half-scans-shut-out : AllShutOut ofHalfScans
-unfolding formats-computed same half.putHalves reading.markAll reading.writtenMarked
-half-scans-shut-out = others-shut-out ofHalfScans refl
-
 pub tokens-shut-out : AllShutOut ofTokens
 unfolding formats-computed same rows.wordsOfAll rows.putRows
 tokens-shut-out = others-shut-out ofTokens refl
+
+pub half-scans-shut-out : AllShutOut ofHalfScans
+unfolding formats-computed same half.putHalves reading.markAll reading.writtenMarked
+half-scans-shut-out = others-shut-out ofHalfScans refl
 
 pub cursors-shut-out : AllShutOut ofCursors
 unfolding formats-computed same first.rowFits first.fitsBelow rows.rowAt rows.fitsAt rows.shownAt half.rowAt half.fitsAt half.shownAt isFit recordAt movedOn mustQueue queuedOne queuedFor seenAt next.nextOf
@@ -247,6 +248,6 @@ unfolding formats-computed numbersOf
 pools-shut-out = others-shut-out ofPools refl
 
 pub desks-shut-out : AllShutOut ofDesks
-unfolding formats-computed heldBy sharedOut fitDesks compact.kept compact.newIndex compact.translated compact.joined compact.laidOut compact.isIn
-    compact.allGiven compact.goodMarks compact.call
+unfolding formats-computed heldBy sharedOut fitDesks slide.kept slide.newIndex slide.translated slide.joined slide.laidOut marks.isIn
+    marks.allGiven marks.goodMarks compact.call
 desks-shut-out = others-shut-out ofDesks refl

@@ -7,18 +7,12 @@ use borrow.Author.Tests.{not-true, not-false}
 use Rattle.desks.specs.Desks.{Shared, shared, fitDesks}
 use Rattle.desks.specs.FitLaws.{fit-of}
 use Rattle.pool_rows.specs.FitLaws as pool
-use Rattle.compact.specs.Compact.{isMarked, goodMarks}
-use Rattle.compact.specs.CallLaws.{unfit, bad-mark, good-of, Left, left-of, settled, settled-kept}
+use Rattle.marks.specs.Marks.{isMarked, goodMarks}
+use Rattle.marks.specs.MarksLaws.{good-of}
+use Rattle.compact.specs.CallLaws.{unfit, bad-mark, Left, left-of, settled, settled-kept}
 use borrow.Author.Needs.{needs}
 use Rattle.compact.proofs.compact.Statement.{statement}
 use Rattle.compact.proofs.compact.Tie as tie
-use Rattle.compact.proofs.compact.Reads as reads
-use Rattle.compact.proofs.compact.Lts as lts
-use Rattle.compact.proofs.are_good.Reads as are-good-reads
-use Rattle.compact.proofs.compact_rows.Reads as compact-rows-reads
-use Rattle.compact.proofs.recharge.Reads as recharge-reads
-use Rattle.desks.proofs.held_by.Reads as held-by-reads
-use Rattle.desks.proofs.is_fit.Reads as is-fit-reads
 
 -- past both tests
 abbrev start : tie.Else2 → tie.Start

@@ -1,13 +1,8 @@
 -- `compact::compact_rows` meets its contract. Assumes nothing.
-use Rattle.compact.specs.MarkLaws.{rows-kept}
+use Rattle.compact.specs.CallLaws.{rows-kept}
 use borrow.Author.Needs.{needs}
 use Rattle.compact.proofs.compact_rows.Statement.{statement}
 use Rattle.compact.proofs.compact_rows.Tie as tie
-use Rattle.compact.proofs.compact_rows.Reads as reads
-use Rattle.compact.proofs.compact_rows.Lts as lts
-use Rattle.compact.proofs.clear.Reads as clear-reads
-use Rattle.compact.proofs.mark.Reads as mark-reads
-use Rattle.compact.proofs.slide.Reads as slide-reads
 
 cast-n : tie.Need-cast-n
 cast-n c = search needs

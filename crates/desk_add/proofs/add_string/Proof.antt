@@ -1,7 +1,7 @@
 -- `desk_add::add_string` meets its contract: where the desks are fit, the addition is that of the pool to the part of the rows that the desk may
 -- fill; a new string is then given its owner, and charged. Assumes nothing.
 use Prim.Native.Nat.{ℕ, _*_, _≤_}
-use mathlib.Core.Path.{_≡_, refl, sym, ap, _∙_}
+use mathlib.Core.Path.{_≡_, sym, ap, _∙_}
 use mathlib.Core.Bool.{true}
 use native.Mathlib.Omega.{arith}
 use denote.Ref.{now}
@@ -20,17 +20,6 @@ use Rattle.desk_add.specs.AddLaws.{unfit, unwritten, uncounted, on-parts
 use borrow.Author.Needs.{needs}
 use Rattle.desk_add.proofs.add_string.Statement.{statement}
 use Rattle.desk_add.proofs.add_string.Tie as tie
-use Rattle.desk_add.proofs.add_string.Reads as reads
-use Rattle.desk_add.proofs.add_string.Lts as lts
-use Rattle.desk_add.proofs.charge_to.Reads as charge-to-reads
-use Rattle.desks.proofs.is_fit.Reads as is-fit-reads
-use Rattle.desks.proofs.one_more.Reads as one-more-reads
-use Rattle.desks.proofs.owner_of.Reads as owner-of-reads
-use Rattle.desk_add.proofs.refuse.Reads as refuse-reads
-use Rattle.desks.proofs.room_for.Reads as room-for-reads
-use Rattle.pool.proofs.add_string.Reads as add-string-reads
-use Rattle.pool.proofs.is_new.Reads as is-new-reads
-use Rattle.pool_rows.proofs.room_of.Reads as room-of-reads
 
 -- where the desk's room is known
 abbrev Roomy : Type 0
@@ -79,8 +68,8 @@ said s =
 is-fit-requires : tie.Need-is-fit-requires
 is-fit-requires c κs = search needs
 
-refuse-requires : tie.Need-refuse-requires
-refuse-requires c κs = search needs
+refusal-of-requires : tie.Need-refusal-of-requires
+refusal-of-requires c κs = search needs
 
 same-length : tie.Need-same-length
 same-length c = search needs
@@ -95,7 +84,7 @@ returns : tie.Need-returns
 returns c =
     let a = c .before .before .before .before .before .before .before .before .before .before .args in
     let no = sym (c .before .before .is-fit .ensures) ∙ not-true _ (c .before .if1 .taken) in
-    let r = c .refuse .ensures in
+    let r = c .refusal-of .ensures in
     let old = ap (isNew (a .counts)) r ∙ unwritten (a .counts) (checkFrom 0 (now (a .string))) in
     let kept = sym (ap (countsAfter (a .counts)) r ∙ uncounted (a .counts) (checkFrom 0 (now (a .string)))) in
     settled _ _ _ _ _ _ _ (r ∙ sym (unfit _ _ _ no)) kept (rw old) (sym (old-bytes _ _ _ old _)) (sym (old-entries _ _ _ old _)) (rw old)
@@ -205,7 +194,7 @@ add-string-spec =
     tie.close
     (tie.spec
     is-fit-requires
-    refuse-requires
+    refusal-of-requires
     same-length
     same-length-2
     same-length-3

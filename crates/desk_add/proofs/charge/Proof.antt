@@ -2,9 +2,6 @@
 use borrow.Author.Needs.{needs}
 use Rattle.desk_add.proofs.charge.Statement.{statement}
 use Rattle.desk_add.proofs.charge.Tie as tie
-use Rattle.desk_add.proofs.charge.Reads as reads
-use Rattle.desk_add.proofs.charge.Lts as lts
-use Rattle.desks.proofs.one_more.Reads as one-more-reads
 
 one-more-requires : tie.Need-one-more-requires
 one-more-requires c κs = search needs

@@ -2,9 +2,6 @@
 use borrow.Author.Needs.{needs}
 use Rattle.desk_add.proofs.charge_to.Statement.{statement}
 use Rattle.desk_add.proofs.charge_to.Tie as tie
-use Rattle.desk_add.proofs.charge_to.Reads as reads
-use Rattle.desk_add.proofs.charge_to.Lts as lts
-use Rattle.desk_add.proofs.charge.Reads as charge-reads
 
 enum-told : tie.Need-enum-told
 enum-told c = search needs

@@ -2,9 +2,6 @@
 use borrow.Author.Needs.{needs}
 use Rattle.desk_parse.proofs.charge_up.Statement.{statement}
 use Rattle.desk_parse.proofs.charge_up.Tie as tie
-use Rattle.desk_parse.proofs.charge_up.Reads as reads
-use Rattle.desk_parse.proofs.charge_up.Lts as lts
-use Rattle.desk_parse.proofs.charge_desk.Reads as charge-desk-reads
 
 enum-told : tie.Need-enum-told
 enum-told c = search needs

@@ -5,8 +5,6 @@ use borrow.Author.Needs.{needs}
 use Rattle.desk_parse.specs.OwnLaws.{Owning, own-none, own-one, own-all}
 use Rattle.desk_parse.proofs.own_up.Statement.{statement}
 use Rattle.desk_parse.proofs.own_up.Tie as tie
-use Rattle.desk_parse.proofs.own_up.Reads as reads
-use Rattle.desk_parse.proofs.own_up.Lts as lts
 
 abbrev Inv-loop : tie.InvT-loop
 Inv-loop owners₀ n m owner i₀ owners i = Owning owner owners₀ n m owners i

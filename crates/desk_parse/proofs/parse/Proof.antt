@@ -16,16 +16,6 @@ use Rattle.desk_parse.specs.CallLaws.{settled-unfit, InPart, in-part, se
 use borrow.Author.Needs.{needs}
 use Rattle.desk_parse.proofs.parse.Statement.{statement}
 use Rattle.desk_parse.proofs.parse.Tie as tie
-use Rattle.desk_parse.proofs.parse.Reads as reads
-use Rattle.desk_parse.proofs.parse.Lts as lts
-use Rattle.desk_parse.proofs.charge_up.Reads as charge-up-reads
-use Rattle.desk_parse.proofs.own_up.Reads as own-up-reads
-use Rattle.desk_parse.proofs.refuse.Reads as refuse-reads
-use Rattle.desks.proofs.is_fit.Reads as is-fit-reads
-use Rattle.desks.proofs.owner_of.Reads as owner-of-reads
-use Rattle.desks.proofs.room_for.Reads as room-for-reads
-use Rattle.parse.proofs.parse.Reads as parse-reads
-use Rattle.pool_rows.proofs.room_of.Reads as room-of-reads
 
 -- where the desk's room is known
 abbrev Roomy : Type 0

@@ -3,9 +3,6 @@ use mathlib.Core.Path.{sym, _∙_}
 use borrow.Author.Needs.{needs}
 use Rattle.desk_parse.proofs.refuse.Statement.{statement}
 use Rattle.desk_parse.proofs.refuse.Tie as tie
-use Rattle.desk_parse.proofs.refuse.Reads as reads
-use Rattle.desk_parse.proofs.refuse.Lts as lts
-use Rattle.parse.proofs.read.Reads as read-reads
 
 read-requires : tie.Need-read-requires
 read-requires c κs = search needs

@@ -8,9 +8,6 @@ use Rattle.desks.specs.Desks.{heldBy}
 use Rattle.desks.specs.HeldLaws.{held-on, held-most, spent-within}
 use Rattle.desks.proofs.held_by.Statement.{statement}
 use Rattle.desks.proofs.held_by.Tie as tie
-use Rattle.desks.proofs.held_by.Reads as reads
-use Rattle.desks.proofs.held_by.Lts as lts
-use Rattle.desks.proofs.one_held.Reads as one-held-reads
 
 abbrev Inv-loop : tie.InvT-loop
 Inv-loop entries owners owner n held₀ i₀ held i = (i ≤ n) × (held ≡ heldBy entries owners owner i)

@@ -11,14 +11,6 @@ use Rattle.pool_rows.specs.Rows.{entryRoom, fitPool}
 use Rattle.desks.specs.FitLaws.{countable, no-pool, no-owners, no-charge, no-charge-2, no-entries, rest-is, charge-is, entries-are, bytes-are}
 use Rattle.desks.proofs.is_fit.Statement.{statement}
 use Rattle.desks.proofs.is_fit.Tie as tie
-use Rattle.desks.proofs.is_fit.Reads as reads
-use Rattle.desks.proofs.is_fit.Lts as lts
-use Rattle.desks.proofs.are_bytes_shared.Reads as are-bytes-shared-reads
-use Rattle.desks.proofs.are_entries_shared.Reads as are-entries-shared-reads
-use Rattle.desks.proofs.held_by.Reads as held-by-reads
-use Rattle.desks.proofs.is_same.Reads as is-same-reads
-use Rattle.pool_rows.proofs.is_pool_fit.Reads as is-pool-fit-reads
-use Rattle.pool_rows.proofs.room_of.Reads as room-of-reads
 
 abbrev start : tie.Else2 → tie.Start
 start q = q .before .before .before .before .before .before .before

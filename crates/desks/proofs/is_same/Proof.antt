@@ -3,8 +3,6 @@ use mathlib.Core.Path.{sym}
 use Rattle.base.specs.CasesLaws.{cases}
 use Rattle.desks.proofs.is_same.Statement.{statement}
 use Rattle.desks.proofs.is_same.Tie as tie
-use Rattle.desks.proofs.is_same.Reads as reads
-use Rattle.desks.proofs.is_same.Lts as lts
 
 returns : tie.Need-returns
 returns c = sym (search cases)

@@ -7,9 +7,6 @@ use Rattle.desks.specs.Desks.{sharedOut}
 use borrow.Author.Needs.{needs}
 use Rattle.desks.proofs.is_shared_out.Statement.{statement}
 use Rattle.desks.proofs.is_shared_out.Tie as tie
-use Rattle.desks.proofs.is_shared_out.Reads as reads
-use Rattle.desks.proofs.is_shared_out.Lts as lts
-use Rattle.desks.proofs.over.Reads as over-reads
 
 add-owed : tie.Need-add-owed
 add-owed c = search needs

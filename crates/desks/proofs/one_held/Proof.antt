@@ -4,9 +4,6 @@ use Rattle.base.specs.CasesLaws.{cases}
 use borrow.Author.Needs.{needs}
 use Rattle.desks.proofs.one_held.Statement.{statement}
 use Rattle.desks.proofs.one_held.Tie as tie
-use Rattle.desks.proofs.one_held.Reads as reads
-use Rattle.desks.proofs.one_held.Lts as lts
-use Rattle.desks.proofs.one_more.Reads as one-more-reads
 
 one-more-requires : tie.Need-one-more-requires
 one-more-requires c κs = search needs

@@ -2,10 +2,6 @@
 use borrow.Author.Needs.{needs}
 use Rattle.desks.proofs.room_for.Statement.{statement}
 use Rattle.desks.proofs.room_for.Tie as tie
-use Rattle.desks.proofs.room_for.Reads as reads
-use Rattle.desks.proofs.room_for.Lts as lts
-use Rattle.desks.proofs.other_of.Reads as other-of-reads
-use Rattle.desks.proofs.over.Reads as over-reads
 
 other-of-requires : tie.Need-other-of-requires
 other-of-requires c κs = search needs

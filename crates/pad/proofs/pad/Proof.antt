@@ -1,6 +1,6 @@
 -- `pad::pad` meets its contract: a refusal of the checks is the answer, and else what `pad_text` makes of the fill. Assumes nothing.
 use native.Mathlib.Omega.{arith}
-use mathlib.Core.Path.{_≡_, sym, ap, _∙_}
+use mathlib.Core.Path.{_≡_, refl, sym, ap, _∙_}
 use mathlib.Core.Bool.{Bool}
 use denote.Ref.{now}
 use Rattle.base.specs.Pick.{pick}
@@ -72,8 +72,8 @@ returns-2 : tie.Need-returns-2
 returns-2 c =
     let m = c .before .before .before in
     let a = m .before .before .before .before .before .args in
-    refused (now (a .text)) (a .alignment) (a .width) (a .filled) (now (a .fill)) (now (a .table)) (a .edition) (now (a .buffer)) _
-    (sym (m .check-pad .ensures) ∙ c .before .refusal .given .1)
+    refused (now (a .text)) (a .alignment) (a .width) (a .filled) (now (a .fill)) (now (a .table)) (a .edition) (now (a .buffer))
+    (sym (m .check-pad .ensures) ∙ c .before .refusal .given .1) refl (λ text buffer. refl)
 
 same-length-2 : tie.Need-same-length-2
 same-length-2 c = search needs
@@ -85,6 +85,26 @@ returns-3 c =
     let a = start (t .before) .args in
     told (now (a .text)) (a .alignment) (a .width) (a .filled) (now (a .fill)) (now (a .table)) (a .edition) (now (a .buffer)) (checked (t .before))
     space (ap (λ (x : Bool). pick x (now (a .fill)) space) (sym (t .if1 .left))) (w .pad-text2 .ensures)
+
+enum-known-refusal-2 : tie.Need-enum-known-refusal-2
+enum-known-refusal-2 c = search needs
+
+returns-4 : tie.Need-returns-4
+returns-4 c =
+    let m = c .before .before .before in
+    let a = m .before .before .before .before .before .args in
+    refused (now (a .text)) (a .alignment) (a .width) (a .filled) (now (a .fill)) (now (a .table)) (a .edition) (now (a .buffer))
+    (sym (m .check-pad .ensures) ∙ c .before .refusal2 .given .1) refl (λ text buffer. refl)
+
+enum-told-2 : tie.Need-enum-told-2
+enum-told-2 c = search needs
+
+returns-5 : tie.Need-returns-5
+returns-5 c =
+    let m = c .before .before in
+    let a = m .before .before .before .before .before .args in
+    refused (now (a .text)) (a .alignment) (a .width) (a .filled) (now (a .fill)) (now (a .table)) (a .edition) (now (a .buffer))
+    (sym (m .check-pad .ensures) ∙ c .enum-told2 .given .1) refl (λ text buffer. refl)
 
 pub pad-spec : {M : Type 1} → statement M
 pad-spec =
@@ -98,6 +118,10 @@ pad-spec =
     returns
     slice-aggregate-pad-text
     pad-text-requires-2
+    enum-known-refusal-2
+    enum-told-2
     returns-2
     same-length-2
-    returns-3)
+    returns-3
+    returns-4
+    returns-5)

@@ -1,5 +1,5 @@
 -- `parse::add_both` meets its contract: one fill after the other. Assumes nothing.
-use mathlib.Core.Path.{_≡_, sym, ap, subst, _∙_}
+use mathlib.Core.Path.{sym, ap, subst, _∙_}
 use denote.Ref.{now}
 use Rattle.format.specs.Parse.{addFill}
 use Rattle.format.specs.Parse.{addPart}

@@ -1,5 +1,5 @@
 -- `parse::add_fill` meets its contract: nothing is added after an addition without room, and else what `add_to_fit` answered. Assumes nothing.
-use mathlib.Core.Path.{_≡_, sym, _∙_}
+use mathlib.Core.Path.{sym, _∙_}
 use denote.Ref.{now}
 use Rattle.parse.specs.Call.{pooled}
 use Rattle.parse.specs.PlanLaws.{can-in, can-fit, adds-nothing, adds-string}

@@ -1,8 +1,7 @@
 -- `parse::read` meets its contract: the code takes the tests of `inputOf` in its order. Assumes nothing.
-use mathlib.Core.Path.{sym, ap, _∙_}
+use mathlib.Core.Path.{sym, _∙_}
 use Rattle.fitness.specs.FitLaws.{fit-of}
 use Rattle.input.specs.InputLaws.{fine-of}
-use Rattle.parse.specs.declared.FormatInput.the-variants as FormatInput
 use Rattle.parse.specs.PlanLaws.{is-refused, is-unfit, is-read}
 use borrow.Author.Needs.{needs}
 use Rattle.parse.proofs.read.Statement.{statement}
@@ -13,9 +12,6 @@ check-input-requires c κs = search needs
 
 enum-known-refusal : tie.Need-enum-known-refusal
 enum-known-refusal c = search needs
-
-refused-requires : tie.Need-refused-requires
-refused-requires c κs = search needs
 
 enum-told : tie.Need-enum-told
 enum-told c = search needs
@@ -33,9 +29,8 @@ returns c =
 
 returns-2 : tie.Need-returns-2
 returns-2 c =
-    let told = c .before .before in
-    ap FormatInput.Refused (c .refused .ensures)
-    ∙ sym (is-refused _ _ _ _ (sym (told .before .before .check-input .ensures) ∙ told .refusal .given .1))
+    let told = c .before in
+    sym (is-refused _ _ _ _ (sym (told .before .before .check-input .ensures) ∙ told .refusal .given .1))
 
 returns-3 : tie.Need-returns-3
 returns-3 c =
@@ -48,7 +43,6 @@ read-spec =
     (tie.spec
     check-input-requires
     enum-known-refusal
-    refused-requires
     enum-told
     read-format-requires
     returns

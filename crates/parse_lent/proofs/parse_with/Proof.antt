@@ -14,6 +14,7 @@ use Rattle.pool_lent.proofs.Walk.{Bool, fullShare, Ty, tyInt, tyRef, w8, fat, f
 use mir.Syntax.{erased, mut}
 use Rattle.pool_lent.proofs.Places.{local, member, sets}
 use denote.Plain.{bool-vals, bool-tells}
+use denote.Laws.{Typed}
 use Rattle.pool_rows.specs.Rows.{fitPool}
 use Rattle.pool_lent.specs.Entries.{numbersOf}
 use Rattle.pool_lent.specs.declared.Entry.{Entry}
@@ -273,24 +274,69 @@ module _ {M : Type 1} (𝓤 : URA M) (H : Heap 𝓤) (A : Atoms 𝓤) (W : Given
       (ReadOf 𝓤 H A at-mem run))
       (known-plan : Triple 𝓤 (C #parse·plan-of) (PlanOf 𝓤 H A at-mem run)) (known-add : Triple 𝓤 (C #parse-lent·add-both)
       (AddBoth 𝓤 H A at-mem run)) (known-end : Triple 𝓤 (C #parse·end-by) (EndBy 𝓤 H A at-mem run)) where
-    -- once there is a plan, both rows are given to the additions for good, and the answer is made. A local that is only passed on may be of
-    -- any type: spelt out, the types would cost more steps than one declaration may take
+    -- a local that is only passed on may be of any type: spelt out, the types would cost more steps than one declaration may take
+    module _ (τ₀ τ₁ τ₂ τ₃ τ₄ τ₅ τ₆ τ₇ τ₈ τ₉ τ₁₀ τ₁₁ τ₁₂ τ₁₃ : Ty) (l₀ l₁ l₂ l₃ l₄ l₅ l₆ l₇ l₈ l₉ l₁₀ l₁₁ l₁₂ l₁₃ : ℕ) where
+      abbrev En : Env 𝓤 H
+      En = (τ₀, l₀) ∷ (τ₁, l₁) ∷ (τ₂, l₂) ∷ (τ₃, l₃) ∷ (τ₄, l₄) ∷ (τ₅, l₅) ∷ (τ₆, l₆) ∷ (τ₇, l₇) ∷ (τ₈, l₈)
+          ∷ (τ₉, l₉) ∷ (τ₁₀, l₁₀) ∷ (τ₁₁, l₁₁) ∷ (τ₁₂, l₁₂) ∷ (τ₁₃, l₁₃) ∷ []
+
+      -- the locals of the additions and of the answer are not set yet, and the plan's and the reading's are these
+      abbrev Locals : Item 𝓤 → Item 𝓤 → List (Item 𝓤)
+      Locals at₈ at₇ =
+          ‵ (froom τ₁₃ l₁₃ 0) ∷ ‵ (fdies τ₁₃ l₁₃) ∷ ‵ (froom τ₁₂ l₁₂ 0) ∷ ‵ (fdies τ₁₂ l₁₂) ∷ ‵ (froom τ₁₁ l₁₁ 0) ∷ ‵ (fdies τ₁₁ l₁₁)
+          ∷ ‵ (froom τ₁₀ l₁₀ 0) ∷ ‵ (fdies τ₁₀ l₁₀) ∷ ‵ (froom τ₉ l₉ 0) ∷ ‵ (fdies τ₉ l₉) ∷ at₈ ∷ ‵ (fdies τ₈ l₈) ∷ at₇ ∷ ‵ (fdies τ₇ l₇)
+          ∷ ‵ (fat fullShare τ₆ l₆ 0 vc) ∷ ‵ (fdies τ₆ l₆) ∷ ‵ (fat fullShare τ₅ l₅ 0 v₃) ∷ ‵ (fdies τ₅ l₅)
+          ∷ ‵ (fat fullShare τ₄ l₄ 0 v₂) ∷ ‵ (fdies τ₄ l₄) ∷ ‵ (fat fullShare τ₃ l₃ 0 (vbool t)) ∷ ‵ (fdies τ₃ l₃)
+          ∷ ‵ (fat fullShare τ₂ l₂ 0 v₁) ∷ ‵ (fdies τ₂ l₂) ∷ ‵ (fat fullShare τ₁ l₁ 0 v₀) ∷ ‵ (fdies τ₁ l₁) ∷ ‵ (froom τ₀ l₀ 0) ∷ ‵ (fdies τ₀ l₀) ∷ []
+
+      -- what is left to do, with the reading: to plan, and then to add
+      abbrev ToPlan : Val → Type 1
+      ToPlan w₂ = Sq W (‵ (flft κ₁ q₁) ∷ ‵ (flft κ₀ q₀) ∷ ‵ Own₀ ∷ ‵ Own₁ ∷ ‵ (flft κ₃ q₃) ∷ ‵ (flft κ₂ q₂) ∷ ‵ Own₃ ∷ ‵ Own₂
+          ∷ Locals (‵ (froom τ₈ l₈ 0)) (‵ (fat fullShare τ₇ l₇ 0 w₂))) (runs C Λ En part.t-2 (atRet En Post))
+
+      abbrev ToAdd : Val → Val → Type 1
+      ToAdd w₂ w₃ = Sq W (‵ (flft κ₁ q₁) ∷ ‵ (flft κ₀ q₀) ∷ ‵ Own₀ ∷ ‵ Own₁ ∷ ‵ (flft κ₃ q₃) ∷ ‵ (flft κ₂ q₂) ∷ ‵ Own₃ ∷ ‵ Own₂
+          ∷ Locals (‵ (fat fullShare τ₈ l₈ 0 w₃)) (‵ (fat fullShare τ₇ l₇ 0 w₂))) (runs C Λ En part.t-3 (atRet En Post))
+
+      -- the reading
+      reads : ((q : FormatInput) (w : Val) → Is FormatInput.the-row q (w ∷ []) → Typed (τ₇ ∷ []) (w ∷ []))
+          → ((q : FormatInput) (w : Val) → Is FormatInput.the-row q (w ∷ []) → q ≡ inputOf (x₀ .now) (x₁ .now) (c .edition) t → ToPlan w)
+          → Sq W (‵ (flft κ₃ q₃) ∷ ‵ (flft κ₂ q₂) ∷ ‵ (flft κ₁ q₁) ∷ ‵ (flft κ₀ q₀) ∷ ‵ Own₃ ∷ ‵ Own₂ ∷ ‵ Own₁ ∷ ‵ Own₀
+          ∷ Locals (‵ (froom τ₈ l₈ 0)) (‵ (froom τ₇ l₇ 0))) (runs C Λ En part.t-1 (atRet En Post))
+      reads typed rest =
+          move ! (3 ∷ 2 ∷ 7 ∷ 6 ∷ []) $ cut Reads-from (raw (ReadOf 𝓤 H A at-mem run .pre to-read) ∷ ‵ Own₀ ∷ ‵ Own₁ ∷ []) _ asked-read $
+          calls-at ! fm (ReadOf 𝓤 H A at-mem run) known-read to-read (and-then ! (local ! 31 refl) (and-then ! (local ! 29 refl) (and-then ! (local ! 21 refl) (and-then ! (local ! 27 refl) (no-more !))))) (λ w₂.
+          use1 W (later (some (λ (q : FormatInput). ((‵ (flft κ₀ q₀) ⊛ ‵ (flft κ₁ q₁) ⊛ ‵ ftrue) ⊛ ‵ (FormatInput.the-row .own q (w₂ ∷ []))) ⊛ raw
+          (ensured 𝓤 H A read-of.ended (read-of.clauses 𝓤 H A at-mem run) (κ₀, (κ₁, tt)) read-args tt q)))) (id⊢ 𝓤 _) $ await ! tt $
+          pick ! (λ q. split ! $ move ! (1 ∷ []) $
+          use1 W (raw (fact 𝓤 (q ≡ inputOf (x₀ .now) (x₁ .now) (c .edition) t))) (exE 𝓤 _ (λ ks. snd∗ 𝓤 (sem 𝓤 H A (lasts read-of.ended
+          (κ₀, (κ₁, tt)) read-args ks)) (fact 𝓤 (q ≡ inputOf (x₀ .now) (x₁ .now) (c .edition) t)))) $
+          heard ! (q ≡ inputOf (x₀ .now) (x₁ .now) (c .edition) t) (λ e₂. split ! $ move ! (1 ∷ []) $
+          peeks ! FormatInput.the-row (Is FormatInput.the-row) (shows 𝓤 H A FormatInput.the-row) q (w₂ ∷ []) (λ is₂.
+          land ! (from ! (stop !)) (init ! 20 refl (typed q w₂ is₂ .0)) $ drop ! $ split ! $ move ! (1 ∷ []) $ split ! $
+          move ! (1 ∷ []) $ drop ! $ rest q w₂ is₂ e₂))))
+
+      module _ (q : FormatInput) (w₂ : Val) (is₂ : Is FormatInput.the-row q (w₂ ∷ [])) (e₂ : q ≡ inputOf (x₀ .now) (x₁ .now) (c .edition) t) where
+        -- its plan
+        plans : ((p : Plan) (w : Val) → Is Plan.the-row p (w ∷ []) → Typed (τ₈ ∷ []) (w ∷ []))
+            → ((p : Plan) (w : Val) → Is Plan.the-row p (w ∷ []) → p ≡ planOf q (c .counts) → ToAdd w₂ w) → ToPlan w₂
+        plans typed rest =
+            use0 W (raw (PlanOf 𝓤 H A at-mem run .pre (to-plan q w₂))) (asked-plan q w₂ is₂) $
+            calls-at ! fm (PlanOf 𝓤 H A at-mem run) known-plan (to-plan q w₂) (and-then ! (local ! 21 refl) (and-then ! (local ! 23 refl) (no-more !))) (λ w₃.
+            use1 W (later (some (λ (p : Plan). (‵ ftrue ⊛ ‵ (Plan.the-row .own p (w₃ ∷ []))) ⊛ raw (ensured 𝓤 H A plan-of.ended
+            (plan-of.clauses 𝓤 H A at-mem run) tt (plan-args q) tt p)))) (id⊢ 𝓤 _) $ await ! tt $
+            pick ! (λ p. split ! $ move ! (1 ∷ []) $
+            use1 W (raw (fact 𝓤 (p ≡ planOf q (c .counts)))) (exE 𝓤 _ (λ ks. snd∗ 𝓤 (sem 𝓤 H A (lasts plan-of.ended tt
+            (plan-args q) ks)) (fact 𝓤 (p ≡ planOf q (c .counts))))) $
+            heard ! (p ≡ planOf q (c .counts)) (λ e₃. split ! $ move ! (1 ∷ []) $
+            peeks ! Plan.the-row (Is Plan.the-row) (shows 𝓤 H A Plan.the-row) p (w₃ ∷ []) (λ is₃.
+            land ! (from ! (stop !)) (init ! 20 refl (typed p w₃ is₃ .0)) $ drop ! $ drop ! $ rest p w₃ is₃ e₃))))
+
+    -- both rows are given to the additions for good, and the answer is made
     module _ (τ₁ τ₂ τ₃ τ₆ τ₇ τ₈ : Ty) (l₀ l₁ l₂ l₃ l₄ l₅ l₆ l₇ l₈ l₉ l₁₀ l₁₁ l₁₂ l₁₃ : ℕ) (q : FormatInput) (p : Plan) (w₂ w₃ : Val)
         (is₂ : Is FormatInput.the-row q (w₂ ∷ [])) (is₃ : Is Plan.the-row p (w₃ ∷ []))
         (e₂ : q ≡ inputOf (x₀ .now) (x₁ .now) (c .edition) t) (e₃ : p ≡ planOf q (c .counts)) where
-      abbrev En : Env 𝓤 H
-      En = (After′.mir, l₀) ∷ (τ₁, l₁) ∷ (τ₂, l₂) ∷ (τ₃, l₃) ∷ (s₂, l₄) ∷ (s₃, l₅) ∷ (τ₆, l₆) ∷ (τ₇, l₇) ∷ (τ₈, l₈) ∷ (Adding′.mir, l₉) ∷ (r₂, l₁₀)
-          ∷ (sliceTy r₂, l₁₁) ∷ (r₃, l₁₂) ∷ (sliceTy r₃, l₁₃) ∷ []
-
-      adds : Sq W (‵ (flft κ₁ q₁) ∷ ‵ (flft κ₀ q₀) ∷ ‵ Own₀ ∷ ‵ Own₁ ∷ ‵ (flft κ₃ q₃) ∷ ‵ (flft κ₂ q₂) ∷ ‵ Own₃ ∷ ‵ Own₂
-          ∷ ‵ (froom (sliceTy r₃) l₁₃ 0) ∷ ‵ (fdies (sliceTy r₃) l₁₃) ∷ ‵ (froom r₃ l₁₂ 0) ∷ ‵ (fdies r₃ l₁₂)
-          ∷ ‵ (froom (sliceTy r₂) l₁₁ 0) ∷ ‵ (fdies (sliceTy r₂) l₁₁) ∷ ‵ (froom r₂ l₁₀ 0) ∷ ‵ (fdies r₂ l₁₀)
-          ∷ ‵ (froom Adding′.mir l₉ 0) ∷ ‵ (fdies Adding′.mir l₉) ∷ ‵ (fat fullShare τ₈ l₈ 0 w₃) ∷ ‵ (fdies τ₈ l₈)
-          ∷ ‵ (fat fullShare τ₇ l₇ 0 w₂) ∷ ‵ (fdies τ₇ l₇) ∷ ‵ (fat fullShare τ₆ l₆ 0 vc) ∷ ‵ (fdies τ₆ l₆)
-          ∷ ‵ (fat fullShare s₃ l₅ 0 v₃) ∷ ‵ (fdies s₃ l₅) ∷ ‵ (fat fullShare s₂ l₄ 0 v₂) ∷ ‵ (fdies s₂ l₄)
-          ∷ ‵ (fat fullShare τ₃ l₃ 0 (vbool t)) ∷ ‵ (fdies τ₃ l₃) ∷ ‵ (fat fullShare τ₂ l₂ 0 v₁) ∷ ‵ (fdies τ₂ l₂)
-          ∷ ‵ (fat fullShare τ₁ l₁ 0 v₀) ∷ ‵ (fdies τ₁ l₁) ∷ ‵ (froom After′.mir l₀ 0) ∷ ‵ (fdies After′.mir l₀) ∷ [])
-          (runs C Λ En part.t-3 (atRet En Post))
+      adds : ToAdd After′.mir τ₁ τ₂ τ₃ s₂ s₃ τ₆ τ₇ τ₈ Adding′.mir r₂ (sliceTy r₂) r₃ (sliceTy r₃) l₀ l₁ l₂ l₃ l₄ l₅ l₆ l₇ l₈ l₉ l₁₀ l₁₁ l₁₂ l₁₃ w₂ w₃
       adds =
           sets ! (addr ! (from ! (fld ! refl (hop ! (look-in ! 26 (sub ! 0 refl (whole !))) (stop !))))) 14 refl (tt, tt) $
           sets ! (agg ! (and-then ! (local ! 14 refl) (and-then ! (member ! 26 refl (sub ! 1 refl (whole !))) (no-more !)))) 12 refl (tt, (tt, (record { fits = g₂ .0 }, tt))) $
@@ -351,28 +397,9 @@ module _ {M : Type 1} (𝓤 : URA M) (H : Heap 𝓤) (A : Atoms 𝓤) (W : Given
         fsplit ! $ move ! (1 ∷ []) $ fsplit ! $ drop ! $ fsplit ! $ move ! (1 ∷ []) $ fsplit ! $ move ! (1 ∷ []) $ fsplit ! $ drop ! $
         drop ! $ move ! (32 ∷ []) $ split ! $ move ! (1 ∷ []) $ split ! $ move ! (1 ∷ []) $ split ! $ move ! (1 ∷ []) $ split ! $
         move ! (1 ∷ []) $ drop ! $
-        -- the reading, and its plan
-        move ! (3 ∷ 2 ∷ 7 ∷ 6 ∷ []) $ cut Reads-from (raw (ReadOf 𝓤 H A at-mem run .pre to-read) ∷ ‵ Own₀ ∷ ‵ Own₁ ∷ []) _ asked-read $
-        calls-at ! fm (ReadOf 𝓤 H A at-mem run) known-read to-read (and-then ! (local ! 31 refl) (and-then ! (local ! 29 refl) (and-then ! (local ! 21 refl) (and-then ! (local ! 27 refl) (no-more !))))) (λ w₂.
-        use1 W (later (some (λ (q : FormatInput). ((‵ (flft κ₀ q₀) ⊛ ‵ (flft κ₁ q₁) ⊛ ‵ ftrue) ⊛ ‵ (FormatInput.the-row .own q (w₂ ∷ []))) ⊛ raw
-        (ensured 𝓤 H A read-of.ended (read-of.clauses 𝓤 H A at-mem run) (κ₀, (κ₁, tt)) read-args tt q)))) (id⊢ 𝓤 _) $ await ! tt $
-        pick ! (λ q. split ! $ move ! (1 ∷ []) $
-        use1 W (raw (fact 𝓤 (q ≡ inputOf (x₀ .now) (x₁ .now) (c .edition) t))) (exE 𝓤 _ (λ ks. snd∗ 𝓤 (sem 𝓤 H A (lasts read-of.ended
-        (κ₀, (κ₁, tt)) read-args ks)) (fact 𝓤 (q ≡ inputOf (x₀ .now) (x₁ .now) (c .edition) t)))) $
-        heard ! (q ≡ inputOf (x₀ .now) (x₁ .now) (c .edition) t) (λ e₂. split ! $ move ! (1 ∷ []) $
-        peeks ! FormatInput.the-row (Is FormatInput.the-row) (shows 𝓤 H A FormatInput.the-row) q (w₂ ∷ []) (λ is₂.
-        land ! (from ! (stop !)) (init ! 20 refl (input .lawful 𝓤 H A W .typed q _ is₂ .0)) $ drop ! $ split ! $ move ! (1 ∷ []) $ split ! $
-        move ! (1 ∷ []) $ drop ! $ use0 W (raw (PlanOf 𝓤 H A at-mem run .pre (to-plan q w₂))) (asked-plan q w₂ is₂) $
-        calls-at ! fm (PlanOf 𝓤 H A at-mem run) known-plan (to-plan q w₂) (and-then ! (local ! 21 refl) (and-then ! (local ! 23 refl) (no-more !))) (λ w₃.
-        use1 W (later (some (λ (p : Plan). (‵ ftrue ⊛ ‵ (Plan.the-row .own p (w₃ ∷ []))) ⊛ raw (ensured 𝓤 H A plan-of.ended
-        (plan-of.clauses 𝓤 H A at-mem run) tt (plan-args q) tt p)))) (id⊢ 𝓤 _) $ await ! tt $
-        pick ! (λ p. split ! $ move ! (1 ∷ []) $
-        use1 W (raw (fact 𝓤 (p ≡ planOf q (c .counts)))) (exE 𝓤 _ (λ ks. snd∗ 𝓤 (sem 𝓤 H A (lasts plan-of.ended tt
-        (plan-args q) ks)) (fact 𝓤 (p ≡ planOf q (c .counts))))) $
-        heard ! (p ≡ planOf q (c .counts)) (λ e₃. split ! $ move ! (1 ∷ []) $
-        peeks ! Plan.the-row (Is Plan.the-row) (shows 𝓤 H A Plan.the-row) p (w₃ ∷ []) (λ is₃.
-        land ! (from ! (stop !)) (init ! 20 refl (plan .lawful 𝓤 H A W .typed p _ is₃ .0)) $ drop ! $ drop ! $
-        adds _ _ _ _ _ _ l₀ l₁ l₂ l₃ l₄ l₅ l₆ l₇ l₈ l₉ l₁₀ l₁₁ l₁₂ l₁₃ q p w₂ w₃ is₂ is₃ e₂ e₃))))))))))))))))))))))
+        reads _ _ _ _ _ _ _ _ _ _ _ _ _ _ l₀ l₁ l₂ l₃ l₄ l₅ l₆ l₇ l₈ l₉ l₁₀ l₁₁ l₁₂ l₁₃ (λ q w is. input .lawful 𝓤 H A W .typed q _ is) (λ q w₂ is₂ e₂.
+        plans _ _ _ _ _ _ _ _ _ _ _ _ _ _ l₀ l₁ l₂ l₃ l₄ l₅ l₆ l₇ l₈ l₉ l₁₀ l₁₁ l₁₂ l₁₃ q w₂ is₂ e₂ (λ p w is. plan .lawful 𝓤 H A W .typed p _ is) (λ p w₃ is₃ e₃.
+        adds _ _ _ _ _ _ l₀ l₁ l₂ l₃ l₄ l₅ l₆ l₇ l₈ l₉ l₁₀ l₁₁ l₁₂ l₁₃ q p w₂ w₃ is₂ is₃ e₂ e₃))))))))))))))))
 
 module _ {M : Type 1} (𝓤 : URA M) (H : Heap 𝓤) (A : Atoms 𝓤) (W : Given 𝓤 H A) (mem : Memory → SProp 𝓤) (run : Routine
     → Fun 𝓤) (𝓣 : Tables 𝓤 H)

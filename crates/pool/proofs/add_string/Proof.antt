@@ -1,5 +1,5 @@
 -- `pool::add_string` meets its contract: the code takes the tests of `added` in its order, and a refusal leaves the rows. Assumes nothing.
-use mathlib.Core.Path.{_≡_, refl, sym, _∙_}
+use mathlib.Core.Path.{refl, sym, _∙_}
 use borrow.Author.Needs.{needs}
 use borrow.Author.Tests.{not-true, not-false}
 use Rattle.pool.specs.PoolLaws.{wrong, cut, unfit, settled, adds-fine, old-bytes, old-entries}

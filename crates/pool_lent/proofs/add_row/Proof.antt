@@ -21,7 +21,7 @@ use Rattle.pool_lent.proofs.Places.{local, member, sets}
 use denote.Struct.Laws as LL
 use denote.Enum.Laws as EL
 use Rattle.pool_rows.specs.Rows.{fitPool}
-use Rattle.pool.specs.Pool.{AddsToFit, AddsString}
+use Rattle.pool.specs.Pool.{AddsToFit, AddsString, refusalAt}
 use Rattle.pool_rows.specs.declared.Counts.{Counts}
 use Rattle.pool.specs.declared.Added.{Added}
 use Rattle.pool_rows.proofs.Counts as C
@@ -29,7 +29,7 @@ use Rattle.pool_rows.proofs.Counts.Laws as C′
 use Rattle.pool.proofs.Added as Ad
 use Rattle.pool.proofs.Added.Laws as Ad′
 use Rattle.pool_lent.specs.Entries.{numbersOf}
-use Rattle.pool_lent.specs.Decided.{fineAt, refusalAt}
+use Rattle.pool_lent.specs.Decided.{fineAt}
 use Rattle.pool_lent.specs.declared.Entry.{Entry}
 use Rattle.pool_lent.proofs.Adds.{fine-fit, settled-fine, settled-refused}
 use Rattle.pool_lent.proofs.Turns.{is-true, is-false}
@@ -47,10 +47,10 @@ use Rattle.pool_lent.proofs.add_to_fit_row as add-to-fit-row
 use Rattle.pool_lent.proofs.add_to_fit_row.Symbol as add-to-fit-row-def
 use Rattle.pool_lent.proofs.add_to_fit_row.Symbol.{name as #add-to-fit-row}
 use Rattle.pool_lent.proofs.add_to_fit_row.Met as add-to-fit-row-thm
-use Rattle.pool_lent.proofs.refusal_of as refusal-of
-use Rattle.pool_lent.proofs.refusal_of.Symbol as refusal-of-def
-use Rattle.pool_lent.proofs.refusal_of.Symbol.{name as #refusal-of}
-use Rattle.pool_lent.proofs.refusal_of.Met as refusal-of-thm
+use Rattle.pool.proofs.refusal_of as refusal-of
+use Rattle.pool.proofs.refusal_of.Symbol as refusal-of-def
+use Rattle.pool.proofs.refusal_of.Symbol.{name as #refusal-of}
+use Rattle.pool.proofs.refusal_of.Met as refusal-of-thm
 use Rattle.pool_lent.proofs.add_row.Key.{name as #add-row}
 use Rattle.pool_lent.proofs.add_row as add-row
 use Rattle.pool_lent.proofs.add_row.Statement as stated
@@ -404,4 +404,4 @@ add-row-spec 𝓤 H 𝓜 𝓖 𝓡 =
     (cited 𝓤 H (AddToFit 𝓤 H (𝓖 .A) (𝓜 .mem) (𝓡 .run)) 𝓜 𝓡 code.env #add-to-fit-row add-to-fit-row-def.routine
     code.calls-pool-lent·add-to-fit-row (add-to-fit-row-thm.met 𝓤 H 𝓜 𝓖 𝓡))
     (cited 𝓤 H (RefusalOf 𝓤 H (𝓖 .A) (𝓜 .mem) (𝓡 .run)) 𝓜 𝓡 code.env #refusal-of refusal-of-def.routine
-    code.calls-pool-lent·refusal-of (refusal-of-thm.met 𝓤 H 𝓜 𝓖 𝓡)))
+    code.calls-pool·refusal-of (refusal-of-thm.met 𝓤 H 𝓜 𝓖 𝓡)))

@@ -3,8 +3,7 @@
 use borrow.Author.Needs.{needs}
 use native.Mathlib.Omega.{arith}
 use Prim.Native.Nat.{_-_}
-use mathlib.Core.Path.{sym, subst, _∙_}
-use denote.Ref.{now}
+use mathlib.Core.Path.{sym, _∙_}
 use Rattle.rows.specs.Row.{shownAt}
 use Rattle.profile.specs.LoopLaws.{Going, start, onward, here, done}
 use Rattle.profile.proofs.first_forbidden.Statement.{statement}

@@ -1,6 +1,5 @@
 -- `walking::ask` meets its contract: it makes the call that it is given, and tells its answer. Assumes nothing.
 use borrow.Author.Needs.{needs}
-use mathlib.Core.Path.{_∙_}
 use Rattle.walking.proofs.ask.Statement.{statement}
 use Rattle.walking.proofs.ask.Tie as tie
 

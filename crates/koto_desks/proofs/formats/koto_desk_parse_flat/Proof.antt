@@ -4,16 +4,6 @@ use denote.Ref.{now}
 use borrow.Author.Needs.{needs}
 use Rattle.koto_desks.proofs.formats.koto_desk_parse_flat.Statement.{statement}
 use Rattle.koto_desks.proofs.formats.koto_desk_parse_flat.Tie as tie
-use Rattle.koto_desks.proofs.formats.koto_desk_parse_flat.Reads as reads
-use Rattle.koto_desks.proofs.formats.koto_desk_parse_flat.Lts as lts
-use Rattle.koto_desks.proofs.formats.parse_from.Reads as parse-from-reads
-use Rattle.koto_desks.proofs.words.count_words.Reads as count-words-reads
-use Rattle.koto_desks.proofs.words.counts_in.Reads as counts-in-reads
-use Rattle.koto_desks.proofs.words.desk_words.Reads as desk-words-reads
-use Rattle.koto_desks.proofs.words.desks_in.Reads as desks-in-reads
-use Rattle.parse.proofs.answer.number_of.Reads as number-of-reads
-use Rattle.parse.proofs.answer.value_of.Reads as value-of-reads
-use Rattle.parse.proofs.numbers.numbers_of.Reads as numbers-of-reads
 
 desks-in-requires : tie.Need-desks-in-requires
 desks-in-requires c κs = search needs

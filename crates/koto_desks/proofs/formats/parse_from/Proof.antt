@@ -4,11 +4,6 @@ use Rattle.koto_desks.specs.FormatsLaws.{no-desk, a-desk}
 use borrow.Author.Needs.{needs}
 use Rattle.koto_desks.proofs.formats.parse_from.Statement.{statement}
 use Rattle.koto_desks.proofs.formats.parse_from.Tie as tie
-use Rattle.koto_desks.proofs.formats.parse_from.Reads as reads
-use Rattle.koto_desks.proofs.formats.parse_from.Lts as lts
-use Rattle.desk_parse.proofs.parse.Reads as parse-reads
-use Rattle.desk_parse.proofs.refuse.Reads as refuse-reads
-use Rattle.koto_desks.proofs.words.which_of.Reads as which-of-reads
 
 refuse-requires : tie.Need-refuse-requires
 refuse-requires c κs = search needs

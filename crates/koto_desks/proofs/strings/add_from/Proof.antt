@@ -4,17 +4,12 @@ use Rattle.koto_desks.specs.StringsLaws.{no-desk, a-desk}
 use borrow.Author.Needs.{needs}
 use Rattle.koto_desks.proofs.strings.add_from.Statement.{statement}
 use Rattle.koto_desks.proofs.strings.add_from.Tie as tie
-use Rattle.koto_desks.proofs.strings.add_from.Reads as reads
-use Rattle.koto_desks.proofs.strings.add_from.Lts as lts
-use Rattle.desk_add.proofs.add_string.Reads as add-string-reads
-use Rattle.desk_add.proofs.refuse.Reads as refuse-reads
-use Rattle.koto_desks.proofs.words.which_of.Reads as which-of-reads
 
-refuse-requires : tie.Need-refuse-requires
-refuse-requires c κs = search needs
+refusal-of-requires : tie.Need-refusal-of-requires
+refusal-of-requires c κs = search needs
 
 returns : tie.Need-returns
-returns c = no-desk (c .before .if1 .taken) (c .refuse .ensures) refl refl
+returns c = no-desk (c .before .if1 .taken) (c .refusal-of .ensures) refl refl
 
 which-of-requires : tie.Need-which-of-requires
 which-of-requires c κs = search needs
@@ -38,7 +33,7 @@ pub add-from-spec : {M : Type 1} → statement M
 add-from-spec =
     tie.close
     (tie.spec
-    refuse-requires
+    refusal-of-requires
     returns
     which-of-requires
     add-string-requires

@@ -4,16 +4,6 @@ use denote.Ref.{now}
 use borrow.Author.Needs.{needs}
 use Rattle.koto_desks.proofs.strings.koto_desk_add_string_flat.Statement.{statement}
 use Rattle.koto_desks.proofs.strings.koto_desk_add_string_flat.Tie as tie
-use Rattle.koto_desks.proofs.strings.koto_desk_add_string_flat.Reads as reads
-use Rattle.koto_desks.proofs.strings.koto_desk_add_string_flat.Lts as lts
-use Rattle.koto_desks.proofs.strings.add_from.Reads as add-from-reads
-use Rattle.koto_desks.proofs.words.count_words.Reads as count-words-reads
-use Rattle.koto_desks.proofs.words.counts_in.Reads as counts-in-reads
-use Rattle.koto_desks.proofs.words.desk_words.Reads as desk-words-reads
-use Rattle.koto_desks.proofs.words.desks_in.Reads as desks-in-reads
-use Rattle.pool.proofs.answer.index_of.Reads as index-of-reads
-use Rattle.pool.proofs.answer.number_of.Reads as number-of-reads
-use Rattle.pool.proofs.answer.place_of.Reads as place-of-reads
 
 counts-in-requires : tie.Need-counts-in-requires
 counts-in-requires c κs = search needs

@@ -3,8 +3,6 @@ use mathlib.Core.Path.{sym}
 use Rattle.base.specs.CasesLaws.{cases}
 use Rattle.koto_desks.proofs.words.which_of.Statement.{statement}
 use Rattle.koto_desks.proofs.words.which_of.Tie as tie
-use Rattle.koto_desks.proofs.words.which_of.Reads as reads
-use Rattle.koto_desks.proofs.words.which_of.Lts as lts
 
 returns : tie.Need-returns
 returns c = sym (search cases)

@@ -47,30 +47,6 @@ enum-told-6 c = search needs
 no-numbers-requires-6 : tie.Need-no-numbers-requires-6
 no-numbers-requires-6 c κs = search needs
 
-enum-told-7 : tie.Need-enum-told-7
-enum-told-7 c = search needs
-
-no-numbers-requires-7 : tie.Need-no-numbers-requires-7
-no-numbers-requires-7 c κs = search needs
-
-enum-told-8 : tie.Need-enum-told-8
-enum-told-8 c = search needs
-
-no-numbers-requires-8 : tie.Need-no-numbers-requires-8
-no-numbers-requires-8 c κs = search needs
-
-enum-told-9 : tie.Need-enum-told-9
-enum-told-9 c = search needs
-
-no-numbers-requires-9 : tie.Need-no-numbers-requires-9
-no-numbers-requires-9 c κs = search needs
-
-enum-told-10 : tie.Need-enum-told-10
-enum-told-10 c = search needs
-
-no-numbers-requires-10 : tie.Need-no-numbers-requires-10
-no-numbers-requires-10 c κs = search needs
-
 returns : tie.Need-returns
 returns c = c .options-numbers .ensures ∙ ap numbersOf (sym (c .before .before .parsed .given .1))
 
@@ -92,18 +68,6 @@ returns-6 c = search needs
 returns-7 : tie.Need-returns-7
 returns-7 c = search needs
 
-returns-8 : tie.Need-returns-8
-returns-8 c = search needs
-
-returns-9 : tie.Need-returns-9
-returns-9 c = search needs
-
-returns-10 : tie.Need-returns-10
-returns-10 c = search needs
-
-returns-11 : tie.Need-returns-11
-returns-11 c = search needs
-
 pub numbers-of-spec : {M : Type 1} → statement M
 numbers-of-spec =
     tie.close
@@ -122,22 +86,10 @@ numbers-of-spec =
     no-numbers-requires-5
     enum-told-6
     no-numbers-requires-6
-    enum-told-7
-    no-numbers-requires-7
-    enum-told-8
-    no-numbers-requires-8
-    enum-told-9
-    no-numbers-requires-9
-    enum-told-10
-    no-numbers-requires-10
     returns
     returns-2
     returns-3
     returns-4
     returns-5
     returns-6
-    returns-7
-    returns-8
-    returns-9
-    returns-10
-    returns-11)
+    returns-7)

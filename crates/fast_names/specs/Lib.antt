@@ -1,0 +1,2 @@
+pub mod NameRun
+pub mod NameRunLaws

@@ -1,0 +1,1 @@
+// No code: the two engines of the scan answer alike (see specs/).

@@ -1,0 +1,2 @@
+pub mod FastStep
+pub mod FastStepLaws

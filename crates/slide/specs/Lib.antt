@@ -1,0 +1,3 @@
+pub mod Slide
+pub mod HeadLaws
+pub mod SlideLaws
