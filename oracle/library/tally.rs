@@ -123,7 +123,12 @@ impl Tally {
         fine &= LISTS.iter().all(|kind| self.judged.contains_key(&("lists", *kind)));
         fine &= (0..=DEPTH_MOST).all(|depth| self.depths.contains_key(&depth));
         let calls: u64 = self.answers.values().sum();
-        println!("{calls} calls, {}", if fine { "no difference" } else { "DIFFERENT" });
+        let verdict = match (self.differences, fine) {
+            (0, true) => "no difference",
+            (0, false) => "no difference, but NOT ALL TRIED: an answer, a kind of list or a depth above has no call",
+            _ => "DIFFERENT",
+        };
+        println!("{calls} calls, {verdict}");
         fine
     }
 }
