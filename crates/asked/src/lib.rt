@@ -10,7 +10,7 @@ use fills::{NONE, RIGHT, is_width};
 use format_options::{Alignment, OptionalNumber, Representation, Shown};
 
 // `StringFormatOptions` without its fill.
-#[derive(Drop)]
+#[derive(Clone, Copy)]
 pub struct Fields {
     pub alignment: Alignment,
     pub width: OptionalNumber,

@@ -1,6 +1,6 @@
 // What the other crates share: `pick` and the ways to reason by it, the rules that close a return, a number in a range, a test at each of
 // some numbers, laws of lists, document 01's refusal numbers, and characters by their names. What is not code stands in specs/.
-#![tactic(auto)]
+#![tactic(auto, unfolding(crate::specs::Range::inside))]
 
 pub mod chars;
 pub mod refusals;

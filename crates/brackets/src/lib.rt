@@ -12,7 +12,7 @@ use state::{LITERAL, Lexer, TEMPLATE_EXPR, TEMPLATE_EXPR_FORMAT, TEMPLATE_EXPR_I
 use token::{Token, kinds};
 
 // A token that pushes a mode, and the mode's code. The kind Error says that there is none.
-#[derive(Drop)]
+#[derive(Clone, Copy)]
 pub struct Opening {
     pub token: Token,
     pub code: u16,

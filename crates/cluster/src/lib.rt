@@ -14,7 +14,7 @@ use input::{Input, Refusal, SOURCE_MOST};
 use uax29::Left;
 
 // The answer of `first_cluster`: the cluster's length in bytes, or a refusal that came before any work.
-#[derive(Drop)]
+#[derive(Clone, Copy)]
 pub enum Cluster {
     Length(usize),
     Refused(Refusal),

@@ -16,7 +16,7 @@ use desks::{Desk, Desks};
 use pool_rows::Counts;
 
 // What a compaction answers.
-#[derive(Drop)]
+#[derive(Clone, Copy)]
 pub enum Compaction {
     // The counts and both desks after it.
     Kept { counts: Counts, desks: Desks },

@@ -10,7 +10,7 @@ ghost use Rattle.cursor.specs.Cursor.{queue_most, is_fit, last_place, ahead, mov
 pub const QUEUE_MOST: usize = 65_535;
 
 // How the scan ended that wrote the list.
-#[derive(Drop)]
+#[derive(Clone, Copy)]
 pub enum Status {
     // After the last record nothing comes.
     End,
@@ -19,7 +19,7 @@ pub enum Status {
 }
 
 // Where a user of the list stands. After a scan it is 0, 0, the count and the status.
-#[derive(Drop)]
+#[derive(Clone, Copy)]
 pub struct Cursor {
     // How many tokens `next` has handed out; at Stuck the last is never counted.
     pub taken: usize,

@@ -21,7 +21,7 @@ use rows::Row;
 // ---- the numbers of a cursor
 
 // What a status number names.
-#[derive(Drop)]
+#[derive(Clone, Copy)]
 pub enum Named {
     As { layout: Layout, status: Status },
     // It is none that a list is walked with.

@@ -13,7 +13,7 @@ use pool::Added;
 use pool_rows::Counts;
 
 // What adding a string for a desk answers, with the counts and both desks after it.
-#[derive(Drop)]
+#[derive(Clone, Copy)]
 pub struct AddedFor {
     pub added: Added,
     pub counts: Counts,

@@ -13,7 +13,7 @@ use parse::{FormatInput, Parsed, Terms};
 use pool_rows::Counts;
 
 // The answer, with the counts and both desks after it.
-#[derive(Drop)]
+#[derive(Clone, Copy)]
 pub struct ParsedFor {
     pub answer: Parsed,
     pub counts: Counts,

@@ -13,21 +13,21 @@ ghost use Rattle.desks.specs.SpentLaws.{spent};
 use pool_rows::Counts;
 
 // What a desk is guaranteed, and what it is charged.
-#[derive(Drop)]
+#[derive(Clone, Copy)]
 pub struct Desk {
     pub guaranteed: Counts,
     pub charged: Counts,
 }
 
 // Both desks.
-#[derive(Drop)]
+#[derive(Clone, Copy)]
 pub struct Desks {
     pub first: Desk,
     pub second: Desk,
 }
 
 // One of the two.
-#[derive(Drop)]
+#[derive(Clone, Copy)]
 pub enum Which {
     First,
     Second,

@@ -11,7 +11,7 @@ ghost use Rattle.edit.specs.Edit.{same_run, lengths_fit, edit_fits, start_of_lin
 const LF: u8 = 10;
 
 // An edit.
-#[derive(Drop)]
+#[derive(Clone, Copy)]
 pub struct Edit {
     // The byte at which it stands.
     pub place: usize,

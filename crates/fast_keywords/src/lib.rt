@@ -18,7 +18,7 @@ use token::kinds::{
 };
 
 // What stands at a place: the number, the length and the kind of the keyword that has it.
-#[derive(Drop)]
+#[derive(Clone, Copy)]
 pub struct Slot {
     pub number: u64,
     pub len: usize,

@@ -22,7 +22,7 @@ pub const MOST: usize = 8000;
 const LAST: u32 = 1114111;
 
 // Whether a table is fit.
-#[derive(Drop)]
+#[derive(Clone, Copy)]
 pub enum TableCheck {
     Fit,
     // Refusal 2, with its place: 0 for a bad count; else the first bad run, from 0; else, if only 0 to 127 differ, the count.

@@ -31,7 +31,7 @@ use state::{Change, State};
 use token::{kinds, token_of};
 
 // What the check answers.
-#[derive(Drop)]
+#[derive(Clone, Copy)]
 pub enum Checked {
     // Yes: the records, the count and the status are those of the reading.
     Same,

@@ -23,7 +23,7 @@ use format_options::{Options, Outcome};
 use format_state::{Parsing, Strings};
 
 // A reading: the options so far, how it ends, and the strings to add. An error takes no string back.
-#[derive(Drop)]
+#[derive(Clone, Copy)]
 pub struct FormatRead {
     pub options: Options,
     pub outcome: Outcome,

@@ -24,7 +24,7 @@ pub const TYPE: u32 = 4;
 pub const END: u32 = 5;
 
 // The arms of `parse`, in its order; the seven of the representations are one.
-#[derive(Drop)]
+#[derive(Clone, Copy)]
 pub enum Arm {
     FillSign,
     Align,

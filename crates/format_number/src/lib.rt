@@ -15,7 +15,7 @@ use format_options::letters::{NO_CHAR, is_digit};
 const INDEX_MAX: u64 = 4294967295;
 
 // What `consume_u32` answers: the number, and how many digits it took after the first one.
-#[derive(Drop)]
+#[derive(Clone, Copy)]
 pub enum Consumed {
     Value { n: u32, digits: usize },
     Wrong(Outcome),

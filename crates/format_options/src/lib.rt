@@ -10,7 +10,7 @@ ghost use Rattle.format_options.specs.Options.{alignment_number, representation_
 ghost use Rattle.format_options.specs.Options.{no_options, with_alignment, with_width, with_precision, with_representation, with_fill};
 
 // `StringAlignment`
-#[derive(Drop)]
+#[derive(Clone, Copy)]
 pub enum Alignment {
     Default,
     Left,
@@ -19,7 +19,7 @@ pub enum Alignment {
 }
 
 // `StringFormatRepresentation`
-#[derive(Drop)]
+#[derive(Clone, Copy)]
 pub enum Representation {
     Debug,
     HexLower,
@@ -58,35 +58,35 @@ pub fn representation_number(representation: Representation) -> u32
 }
 
 // A representation, or none.
-#[derive(Drop)]
+#[derive(Clone, Copy)]
 pub enum Shown {
     As(Representation),
     Plain,
 }
 
 // A width or a precision, or none.
-#[derive(Drop)]
+#[derive(Clone, Copy)]
 pub enum OptionalNumber {
     Number(u32),
     Nothing,
 }
 
 // A part of the format string, in bytes.
-#[derive(Drop)]
+#[derive(Clone, Copy)]
 pub struct Part {
     pub place: usize,
     pub len: usize,
 }
 
 // A fill, or none.
-#[derive(Drop)]
+#[derive(Clone, Copy)]
 pub enum Fill {
     Is(Part),
     NoFill,
 }
 
 // `StringFormatOptions`. The fill "0" is the part that is its zero.
-#[derive(Drop)]
+#[derive(Clone, Copy)]
 pub struct Options {
     pub alignment: Alignment,
     pub width: OptionalNumber,
@@ -158,7 +158,7 @@ impl Options {
 }
 
 // How a reading ends: fine, or with an error of `StringFormatError`, with its code point, or with the first value that is too large.
-#[derive(Drop)]
+#[derive(Clone, Copy)]
 pub enum Outcome {
     Fine,
     ExpectedNumber(u32),

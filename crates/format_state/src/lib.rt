@@ -16,7 +16,7 @@ use format_options::letters::char_to_alignment;
 use format_options::{Fill, Options, Outcome, Part, Representation};
 
 // The strings to add, one after the other. What is added after the first is "0", so the last zero stands for all of them.
-#[derive(Drop)]
+#[derive(Clone, Copy)]
 pub struct Strings {
     pub first: Fill,
     pub second: Fill,
@@ -26,7 +26,7 @@ pub struct Strings {
 //
 // Q. Why is this no enum, of a state to go on with or an error? A. LLVM lays the variants over each other, and the state would go through
 // memory at every turn.
-#[derive(Drop)]
+#[derive(Clone, Copy)]
 pub struct Parsing {
     pub position: u32,
     pub result: Options,

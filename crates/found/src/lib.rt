@@ -15,7 +15,7 @@ use token::kinds;
 
 // The token that follows: its kind and detail, where it ends, the indent of its line, and what becomes of the modes. The kind Error says that none was found, and that
 // the whole read step is to be taken.
-#[derive(Drop)]
+#[derive(Clone, Copy)]
 pub struct Found {
     pub kind: u8,
     pub detail: u16,

@@ -20,7 +20,7 @@ pub const HALF_WORDS: usize = 5;
 const ERROR: u32 = kinds::ERROR as u32;
 
 // Where a record starts or ends.
-#[derive(Drop)]
+#[derive(Clone, Copy)]
 pub struct Edge {
     pub byte: u32,
     pub line: u32,

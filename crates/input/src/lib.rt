@@ -22,7 +22,7 @@ pub const WITHOUT_GB9C: u32 = 1;
 pub const WITH_GB9C: u32 = 2;
 
 // A refusal that comes before any work, under its document's name. An answer that may be one of these carries it as one case.
-#[derive(Drop)]
+#[derive(Clone, Copy)]
 pub enum Refusal {
     // 1: more bytes than the call takes. Its place is 0.
     TooLong,
@@ -37,7 +37,7 @@ pub enum Refusal {
 }
 
 // What the checks answer.
-#[derive(Drop)]
+#[derive(Clone, Copy)]
 pub enum Input {
     Fine,
     Refused(Refusal),

@@ -9,7 +9,7 @@ ghost use Rattle.layout.specs.Layout.{room_in, put_in, shown_in};
 
 use rows::{Row, RowAt};
 
-#[derive(Drop)]
+#[derive(Clone, Copy)]
 pub enum Layout {
     // Document 01: every number of a record.
     Whole,

@@ -30,7 +30,7 @@ use text::byte_at;
 use token::{Token, kinds, token_of};
 
 // What a read step finds.
-#[derive(Drop)]
+#[derive(Clone, Copy)]
 pub enum What {
     // A token.
     Token(Token),
@@ -43,7 +43,7 @@ pub enum What {
 }
 
 // The answer of the lexer's half: its next, and what becomes of the modes.
-#[derive(Drop)]
+#[derive(Clone, Copy)]
 pub struct Half {
     pub what: What,
     pub lexer: Lexer,
@@ -86,7 +86,7 @@ fn start_string(lexer: Lexer, delimiter: u16) -> Taken
 }
 
 // What a character outside a string begins.
-#[derive(Drop)]
+#[derive(Clone, Copy)]
 enum Begins {
     Number,
     Name,

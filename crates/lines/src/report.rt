@@ -5,7 +5,7 @@ use crate::fields::past;
 use libc::STDOUT_FILENO;
 
 // The cases of a file so far, one a line, and where the line of the next case begins. The counts have 64 bits.
-#[derive(Drop)]
+#[derive(Clone, Copy)]
 pub struct Tally {
     pub at: usize,
     pub agreed: u64,

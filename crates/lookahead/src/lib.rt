@@ -20,7 +20,7 @@ use layout::Layout;
 use rows::{Row, RowAt};
 
 // A token that is looked at.
-#[derive(Drop)]
+#[derive(Clone, Copy)]
 pub enum Seen {
     Token(Row),
     Nothing,
@@ -28,7 +28,7 @@ pub enum Seen {
 }
 
 // What `next` answers. A refusal leaves the cursor, so it has none.
-#[derive(Drop)]
+#[derive(Clone, Copy)]
 pub enum Given {
     Token { row: Row, cursor: Cursor },
     // All tokens are taken; the cursor stays.
@@ -40,7 +40,7 @@ pub enum Given {
 }
 
 // What `peek` and `look_ahead` answer. A refusal leaves the cursor, so it has none.
-#[derive(Drop)]
+#[derive(Clone, Copy)]
 pub enum Peeked {
     Token { row: Row, cursor: Cursor },
     // There is no token n, or `peek` has not queued it. Some may have been queued all the same.

@@ -23,7 +23,7 @@ pub fn is_part(x: u8) -> bool
 }
 
 // A run of the table: its number, its first code point, the first one behind it, and the properties of those that it has.
-#[derive(Drop)]
+#[derive(Clone, Copy)]
 pub struct Run {
     pub number: usize,
     pub low: u32,
@@ -79,7 +79,7 @@ pub fn run_with(table: &[u32], code: u32, run: Run) -> Run
 }
 
 // A character above 127 without its properties: its code point and its bytes.
-#[derive(Drop)]
+#[derive(Clone, Copy)]
 pub struct Point {
     pub code: u32,
     pub len: usize,
@@ -110,7 +110,7 @@ pub fn decode(source: &[u8], at: usize) -> Point
 }
 
 // How far a run of characters reaches, and the number of the table's run that had the last one above 127, to try first for the next.
-#[derive(Drop)]
+#[derive(Clone, Copy)]
 pub struct Ended {
     pub reach: Reach,
     pub run: usize,

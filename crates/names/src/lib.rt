@@ -23,7 +23,7 @@ use text::{byte_at, run_end};
 use token::kinds;
 
 // The start of a raw string, after its `r`.
-#[derive(Drop)]
+#[derive(Clone, Copy)]
 pub enum RawStart {
     // The delimiter: twice the hash count, and 1 more for a single quote.
     Opens(u16),

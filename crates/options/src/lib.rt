@@ -19,7 +19,7 @@ use text::byte_at;
 use token::kinds;
 
 // Where the closing brace stands.
-#[derive(Drop)]
+#[derive(Clone, Copy)]
 pub enum Brace {
     At(usize),
     Nowhere,

@@ -19,7 +19,7 @@ use input::Refusal;
 use pad_input::{Check, check_pad};
 
 // What `pad` answers: how many bytes the padded text has, or a refusal.
-#[derive(Drop)]
+#[derive(Clone, Copy)]
 pub enum Padded {
     Length(usize),
     // 1 of the text or of a fill that is given, 17, 2, 3 and 15 of the text: they come before any work, as do the next two.

@@ -15,7 +15,7 @@ use input::{Input, Refusal, check_input};
 const TEXT_MOST: usize = 65535;
 
 // What the checks answer.
-#[derive(Drop)]
+#[derive(Clone, Copy)]
 pub enum Check {
     Fine,
     // 1 of the text or of a fill that is given, 17, 2, 3 and 15 of the text.

@@ -20,7 +20,7 @@ use pool::Added;
 use pool_rows::Counts;
 
 // What a parse answers (document 01, "Refusal numbers"; document 02, C-3 and C-8).
-#[derive(Drop)]
+#[derive(Clone, Copy)]
 pub enum Parsed {
     // The options, and the fill's index in the pool, if there is a fill.
     Read {
@@ -42,21 +42,21 @@ pub enum Parsed {
 }
 
 // The numbers that a parse goes by: the edition of the cluster rules, and what is in use of the pool.
-#[derive(Drop)]
+#[derive(Clone, Copy)]
 pub struct Terms {
     pub edition: u32,
     pub counts: Counts,
 }
 
 // The answer, and the pool's counts after it.
-#[derive(Drop)]
+#[derive(Clone, Copy)]
 pub struct After {
     pub answer: Parsed,
     pub counts: Counts,
 }
 
 // What has been added so far: the pool's counts, the index that the last addition answered, and whether one found no room.
-#[derive(Drop)]
+#[derive(Clone, Copy)]
 pub struct Adding {
     pub counts: Counts,
     pub index: OptionalNumber,
@@ -64,14 +64,14 @@ pub struct Adding {
 }
 
 // What is known before the pool is written to: one of refusals 1, 17, 2, 3, 15, 8, or the reading of the format string.
-#[derive(Drop)]
+#[derive(Clone, Copy)]
 pub enum FormatInput {
     Refused(Parsed),
     Read(FormatRead),
 }
 
 // What is to be added: at most two strings, one after the other, to a pool to which none is added yet.
-#[derive(Drop)]
+#[derive(Clone, Copy)]
 pub struct Plan {
     pub first: Fill,
     pub second: Fill,

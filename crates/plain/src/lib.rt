@@ -8,7 +8,7 @@ ghost use Rattle.token.specs.Kind.{error};
 use token::kinds;
 
 // The kind Error says that none was found.
-#[derive(Drop)]
+#[derive(Clone, Copy)]
 pub struct Plain {
     pub kind: u8,
     pub len: usize,

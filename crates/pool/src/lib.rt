@@ -12,7 +12,7 @@ ghost use Rattle.pool.specs.Pool.{placed, refusal_at, is_new, written, entered, 
 use pool_rows::{Counts, find_string, is_pool_fit, room_of};
 
 // What adding a string answers.
-#[derive(Drop)]
+#[derive(Clone, Copy)]
 pub enum Added {
     // The string's index, and the counts after the addition; those are as before where the string was there.
     Index { index: u32, counts: Counts },

@@ -14,7 +14,7 @@ use pool_rows::Counts;
 
 // An entry: where its string starts in the row of bytes, and how long it is. C may hold a row of them.
 #[repr(C)]
-#[derive(Drop)]
+#[derive(Clone, Copy)]
 pub struct Entry {
     pub start: u32,
     pub len: u32,

@@ -8,7 +8,7 @@ ghost use Rattle.pool_rows.specs.Rows.{same, index_of, strings_of, room_of, runs
 
 // How many entries and how many bytes of a pool are in use. C may hold it.
 #[repr(C)]
-#[derive(Drop)]
+#[derive(Clone, Copy)]
 pub struct Counts {
     pub entries: u32,
     pub bytes: u32,

@@ -12,15 +12,15 @@ ghost use Rattle.position.specs.Position.{column_most, line_start};
 ghost use Rattle.position.specs.Place.{along_by, line_by, reach_of, start_place, advanced_line, advanced_line_utf8, advanced_to_position};
 
 // A byte's place in the source, counting from 0.
-#[derive(Drop)]
+#[derive(Clone, Copy)]
 pub struct ByteOffset(pub usize);
 
 // A column of a line, counting from 0.
-#[derive(Drop)]
+#[derive(Clone, Copy)]
 pub struct Column(pub u32);
 
 // A line/column position in a script.
-#[derive(Drop)]
+#[derive(Clone, Copy)]
 pub struct Position {
     // The position's line, counting from 0.
     pub line: u32,
@@ -29,7 +29,7 @@ pub struct Position {
 }
 
 // A range in the source code, by its start and its end.
-#[derive(Drop)]
+#[derive(Clone, Copy)]
 pub struct Span {
     pub start: Position,
     pub end: Position,
@@ -52,7 +52,7 @@ impl Span {
 }
 
 // How far reading has come: the byte before which it stands, and the position there.
-#[derive(Drop)]
+#[derive(Clone, Copy)]
 pub struct Reach {
     pub byte: ByteOffset,
     pub position: Position,
@@ -100,7 +100,7 @@ impl Reach {
 }
 
 // Where the lexer stands: the bytes of the token read last, from `previous_byte` to `current_byte`, and its span.
-#[derive(Drop)]
+#[derive(Clone, Copy)]
 pub struct Place {
     pub previous_byte: ByteOffset,
     pub current_byte: ByteOffset,

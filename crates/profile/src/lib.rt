@@ -16,7 +16,7 @@ use rows::{Row, RowAt};
 use token::kinds::{CURLY_OPEN, STRING_START};
 
 // What a scan by the profile answers.
-#[derive(Drop)]
+#[derive(Clone, Copy)]
 pub enum Profiled {
     // What the scan answers: there is no forbidden token, or the scan was refused.
     Base(Scanned),

@@ -16,7 +16,7 @@ use state::Lexer;
 use token::Token;
 
 // What a scan answers (document 01, "Records" and "Refusal numbers"). `count` is how many records were written, and `byte` is the current byte.
-#[derive(Drop)]
+#[derive(Clone, Copy)]
 pub enum Scanned {
     // Nothing is left to read: the Rust would answer None.
     End { count: usize, byte: usize },

@@ -11,7 +11,7 @@ const BYTE_MARK: u8 = 0xff;
 const NUMBER_MARK: u32 = 0xa5a5_a5a5;
 
 // How much is put into the rows, and where the next field stands.
-#[derive(Drop)]
+#[derive(Clone, Copy)]
 pub struct Loaded {
     pub at: usize,
     pub counts: Counts,

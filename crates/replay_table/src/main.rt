@@ -14,7 +14,7 @@ const ROOM: usize = 8192;
 const PATTERN: u32 = 0xa5a5_a5f0;
 
 // What a line `HEX ROOM NUMBER PLACE COUNT` says, but for the file.
-#[derive(Drop)]
+#[derive(Clone, Copy)]
 struct Case {
     room: usize,
     number: usize,

@@ -8,7 +8,7 @@ use reading::Scanned;
 use walking::What;
 
 // The place of a line's next field, or 0 where one before it differed; and the cursor after the calls before it.
-#[derive(Drop)]
+#[derive(Clone, Copy)]
 struct Walked {
     at: usize,
     cursor: Cursor,

@@ -5,7 +5,7 @@
 use writer::{Written, answer};
 
 // The fields of a line that go in, but for the fill and the room.
-#[derive(Drop)]
+#[derive(Clone, Copy)]
 struct Line {
     alignment: u64,
     width: u64,

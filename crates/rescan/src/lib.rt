@@ -29,7 +29,7 @@ use rows::Row;
 use state::{Lexer, State};
 
 // What a rescan answers.
-#[derive(Drop)]
+#[derive(Clone, Copy)]
 pub enum Rescanned {
     // What a scan of the new source may answer: the end, an Error that stands still, one of refusals 1, 17, 2, 3 and 15, 4 or 5.
     AsScan(Scanned),

@@ -17,7 +17,7 @@ pub mod first;
 pub const ROW_WORDS: usize = 8;
 
 // What a record tells of its token.
-#[derive(Drop)]
+#[derive(Clone, Copy)]
 pub struct Row {
     pub kind: u32,
     pub detail: u32,
@@ -36,7 +36,7 @@ pub struct Row {
 }
 
 // What stands at an index of a list.
-#[derive(Drop)]
+#[derive(Clone, Copy)]
 pub enum RowAt {
     Fit(Row),
     // The kind is over 80, the detail is none that this kind may have, the depth is over 64, or a bit above the depth is set. Nothing else of

@@ -51,7 +51,7 @@ pub struct Modes {
 }
 
 // What the read step takes and hands back: all of the state but the stack, with copies of its depth and of the code on top.
-#[derive(Drop)]
+#[derive(Clone, Copy)]
 pub struct Lexer {
     pub place: Place,
     pub depth: usize,
@@ -68,7 +68,7 @@ pub struct State {
 }
 
 // What becomes of the modes.
-#[derive(Drop)]
+#[derive(Clone, Copy)]
 pub enum Change {
     Keep,
     Push(u16),
@@ -78,7 +78,7 @@ pub enum Change {
 }
 
 // What a `consume_*` makes: the token, the lexer after it, and what becomes of the modes.
-#[derive(Drop)]
+#[derive(Clone, Copy)]
 pub struct Taken {
     pub token: Token,
     pub lexer: Lexer,

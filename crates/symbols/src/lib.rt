@@ -17,7 +17,7 @@ use token::kinds::{
 use words::starts_with;
 
 // The symbol at a place: its kind, and how many bytes it has.
-#[derive(Drop)]
+#[derive(Clone, Copy)]
 pub enum SymbolAt {
     Is { kind: u8, len: usize },
     Nothing,

@@ -12,7 +12,7 @@ ghost use Rattle.table_file.specs.File.{mark_ok, number16, number32, numbers_in,
 use fitness::{MOST, TableCheck, check_table};
 
 // What reading a table file answers.
-#[derive(Drop)]
+#[derive(Clone, Copy)]
 pub enum TableFile {
     // The count of numbers that now stand at the row's start.
     Read(usize),

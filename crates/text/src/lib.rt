@@ -20,7 +20,7 @@ use base::between;
 use position::Reach;
 
 // What a loop does at a character.
-#[derive(Drop)]
+#[derive(Clone, Copy)]
 pub enum Turn {
     // So many bytes are passed, which take so many columns.
     Pass(usize, u32),
@@ -33,7 +33,7 @@ pub enum Turn {
 }
 
 // A character: its code point, its bytes, and its properties.
-#[derive(Drop)]
+#[derive(Clone, Copy)]
 pub struct Char {
     pub code: u32,
     pub len: usize,
@@ -167,7 +167,7 @@ fn ascii_properties(b: u8) -> u32
 }
 
 // A character without its properties: its code point and its bytes.
-#[derive(Drop)]
+#[derive(Clone, Copy)]
 struct Decoded {
     code: u32,
     len: usize,
@@ -214,7 +214,7 @@ pub fn char_len(source: &[u8], at: usize) -> usize
 }
 
 // A character, and the run to try first for the next one.
-#[derive(Drop)]
+#[derive(Clone, Copy)]
 pub struct Near {
     pub char: Char,
     pub run: usize,

@@ -18,7 +18,7 @@ pub const DOUBLE_QUOTE: u8 = 34;
 
 pub const SINGLE_QUOTE: u8 = 39;
 
-#[derive(Drop)]
+#[derive(Clone, Copy)]
 pub struct Token {
     pub kind: u8,
     pub detail: u16,

@@ -16,7 +16,7 @@ use state::Lexer;
 use token::{Token, kinds, token_of};
 
 // What a step of the loop answers: whether it may go on so, the lexer after the turns that it made, and how many records there are.
-#[derive(Drop)]
+#[derive(Clone, Copy)]
 pub struct Turns {
     pub on: bool,
     pub lexer: Lexer,
@@ -35,7 +35,7 @@ pub fn stays(lexer: Lexer, count: usize) -> Turns
 }
 
 // The loop's lexer and how many records there are, after some turns.
-#[derive(Drop)]
+#[derive(Clone, Copy)]
 pub struct Run {
     pub lexer: Lexer,
     pub count: usize,

@@ -42,7 +42,7 @@ const INCB_EXTEND: u32 = 2;
 const LINKER: u32 = 3;
 
 // What the classes of the two characters at a place say.
-#[derive(Drop)]
+#[derive(Clone, Copy)]
 pub enum Pair {
     Joined,
     Broken,
@@ -51,7 +51,7 @@ pub enum Pair {
 }
 
 // What is kept of the characters to the left of a place.
-#[derive(Drop)]
+#[derive(Clone, Copy)]
 pub struct Left {
     // The class of the last one.
     pub class: u32,

@@ -16,7 +16,7 @@ use base::between;
 const BLOCK: usize = 128;
 
 // What stands at a place.
-#[derive(Drop)]
+#[derive(Clone, Copy)]
 pub enum Read {
     // A character: its code point, and how many bytes it has.
     Char { code: u32, len: usize },
@@ -27,7 +27,7 @@ pub enum Read {
 }
 
 // Whether a whole slice is well formed.
-#[derive(Drop)]
+#[derive(Clone, Copy)]
 pub enum Utf8Check {
     Fine,
     // All before the place is well formed, and no character begins with the bytes from it on.

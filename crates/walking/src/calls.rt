@@ -19,7 +19,7 @@ const LOOK: u8 = 3;
 const LONGEST: u8 = 22;
 
 // One of the calls.
-#[derive(Drop)]
+#[derive(Clone, Copy)]
 pub enum Call {
     Next,
     Peek(usize),

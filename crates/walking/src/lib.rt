@@ -18,7 +18,7 @@ use reading::Scanned;
 use rows::Row;
 
 // What is said of a call.
-#[derive(Drop)]
+#[derive(Clone, Copy)]
 pub enum What {
     // The token that it hands out or shows.
     Token(Row),
@@ -27,7 +27,7 @@ pub enum What {
 }
 
 // The same, and the cursor after the call: the one before it, where none is handed back.
-#[derive(Drop)]
+#[derive(Clone, Copy)]
 pub struct Told {
     pub what: What,
     pub cursor: Cursor,

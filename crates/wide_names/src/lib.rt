@@ -14,7 +14,7 @@ use state::Lexer;
 use token::kinds;
 
 // What is found, and the number of the table's run that had the last character above 127, to try first for the next name.
-#[derive(Drop)]
+#[derive(Clone, Copy)]
 pub struct Wide {
     pub found: Found,
     pub run: usize,

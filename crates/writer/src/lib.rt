@@ -21,7 +21,7 @@ use input::{FORMAT_MOST, Input, Refusal, check_input};
 use pool::copy_in;
 
 // What `write_format` answers: how many bytes the format string has, or a refusal, under document 02's name.
-#[derive(Drop)]
+#[derive(Clone, Copy)]
 pub enum Written {
     Length(usize),
     // 17 and 2, which come before any work.
