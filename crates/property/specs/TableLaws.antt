@@ -11,6 +11,7 @@ use Rattle.std.specs.Prelude.{ℕ, zero, suc, ◌+◌, ◌<◌, ◌≤◌, ◌�
 use Rattle.std.proofs.Common.{arith}
 use mathlib.Core.List.{List, [], ◌∷◌}
 use borrow.Author.Tests.{ltb-true, leb-true, lt-ltb, le-ltb, ne_eqb}
+use Rattle.base.specs.Pick.{pick}
 use Rattle.base.specs.PickLaws.{by_test, split_lt, split_eq}
 use Rattle.base.specs.AllLaws.{and_left, and_right}
 use Rattle.property.specs.Parts.{start_of, properties_of, width_of}
@@ -38,7 +39,8 @@ unfolding last_from
 last_run p [] c k h low above = absurd (omega arith)
 last_run p (r ∷ rs) c zero h low above =
     rw (le-ltb c (start_of r) low) (none_more (properties_of r) rs c (λ j i. above (suc j) (omega arith) (omega arith)))
-last_run p (r ∷ rs) c (suc k) h low above = last_run _ rs c k (omega arith) low (λ j i m. above (suc j) (omega arith) (omega arith))
+last_run p (r ∷ rs) c (suc k) h low above =
+    last_run (pick (ltb c (start_of r)) p (properties_of r)) rs c k (omega arith) low (λ j i m. above (suc j) (omega arith) (omega arith))
 
 module _ (table : List ℕ) (c : ℕ) where
   pub run_properties : (k : ℕ) → HasRun table c k → properties_at table c ≡ properties_of (get_or table k 0)
@@ -74,7 +76,7 @@ module _ (P : ℕ → Type 0) where
   unfolding last_from
   of_runs_from p [] c h runs = h
   of_runs_from p (r ∷ rs) c h runs =
-      of_runs_from _ rs c (by_test P (ltb c (start_of r)) (λ e. h) (λ e. runs 0 (omega arith))) (λ i l. runs (suc i) (omega arith))
+      of_runs_from (pick (ltb c (start_of r)) p (properties_of r)) rs c (by_test P (ltb c (start_of r)) (λ e. h) (λ e. runs 0 (omega arith))) (λ i l. runs (suc i) (omega arith))
 
   pub of_runs : (table : List ℕ) (c : ℕ) → P 0 → ((i : ℕ) → i < length table → P (properties_of (get_or table i 0))) → P (properties_at table c)
   of_runs table c = of_runs_from 0 table c
