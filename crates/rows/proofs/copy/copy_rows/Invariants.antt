@@ -1,0 +1,25 @@
+-- `rows::copy::copy_rows` meets its contract: the numbers up to i are those of the first list, and how many are left is the measure.
+-- Assumes nothing.
+use Prim.Native.Nat.{ℕ, ◌+◌, ◌*◌, ◌-◌, ◌≤◌, ◌<◌}
+use native.Mathlib.Omega.{arith}
+use native.Mathlib.Nat.{zero-add}
+use native.Mathlib.Numerals.{add-one}
+use mathlib.Core.Path.{◌≡◌, refl, sym, ap, ◌∙◌}
+use mathlib.Core.List.{List, ◌++◌}
+use lib.ListN.{length, get_or, set, take, drop, length-set}
+use lib.Seq.{paste, paste-zero, paste-suc}
+use borrow.Author.Rules.{rules}
+use Rattle.rows.specs.Row.{row_words, room, copy_rows}
+use Rattle.rows.proofs.copy.copy_rows.Given as goal
+
+-- the first i numbers are copied
+pub record Copied (from old : List ℕ) (n : ℕ) (row : List ℕ) (i : ℕ) : Type 0 where
+  pub within : i ≤ row_words * n
+  pub long : length row ≡ length old
+  pub holds : row ≡ paste old 0 from i
+
+abbrev pub invariant-loop-i : goal.invariant-loop-i
+invariant-loop-i l = Copied l.from l.initial.to l.n l.to l.i
+
+abbrev pub decreases-loop-i : goal.decreases-loop-i
+decreases-loop-i l = row_words * l.n - l.i

@@ -1,0 +1,12 @@
+-- `state::Lexer::replace` meets its contract: each return is a case of `replaced`. Assumes nothing.
+use mathlib.Core.Path.{refl, sym, ◌∙◌}
+use borrow.Author.Tests.{eq-eqb}
+use Rattle.base.specs.CasesLaws.{cases, pick_yes}
+use borrow.Author.Rules.{rules}
+use Rattle.state.proofs.Lexer.replace.Goals as goal
+
+pub returns-then-depth-eq0 : goal.returns-then-depth-eq0
+returns-then-depth-eq0 c = c.push.ensures ∙ sym (pick_yes _ _ _ _ (eq-eqb _ _ c.if-depth-eq0.true) refl)
+
+pub returns : goal.returns
+returns c = sym (search cases)

@@ -1,0 +1,10 @@
+-- `symbols::check_two` meets its contract: the first test that holds is answered. Assumes nothing.
+use borrow.Author.Rules.{rules}
+use Rattle.symbols.proofs.Chain.{here, past}
+use Rattle.symbols.proofs.check_two.Goals as goal
+
+pub returns-then-starts_with : goal.returns-then-starts_with
+returns-then-starts_with c = here _ _ _ c.starts_with.ensures c.if-starts_with.true (search rules)
+
+pub returns : goal.returns
+returns c = past _ _ _ c.starts_with.ensures c.if-starts_with.false c.check_symbol.ensures
