@@ -3,7 +3,7 @@
 --     chain, cases, denied    the rules for `search`, from few to many: take the first that serves
 -- With n tests before it a return wants `depth` n + 3, and past six calls `fits 4000`.
 -- Assumes nothing.
-use Rattle.std.specs.Prelude.{ℕ, ◌<◌, ◌≤◌, ◌≡◌, refl, Bool, true, false, not, ◌&&◌, ◌||◌, eqb, ltb, leb}
+use Rattle.std.specs.Prelude.{ℕ, ◌≡◌, Bool, true, false, not, ◌&&◌, ◌||◌, eqb}
 use Rattle.std.proofs.Common.{sym, ◌∙◌, eq-eqb, ne_eqb, lt-ltb, le-ltb, le-leb}
 use Rattle.std.proofs.lemmas.Bool.{not-true, not-false, lt-leb}
 use Rattle.base.specs.Pick.{pick}

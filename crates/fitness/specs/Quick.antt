@@ -1,6 +1,6 @@
 -- What the quick tests of a table ask (`QuickLaws` has what they settle). No public contract cites them.
 -- Assumes nothing.
-use Rattle.std.specs.Prelude.{ℕ, ◌+◌, List, Bool, ◌&&◌, ◌||◌, ltb, leb, eqb, length, get_or}
+use Rattle.std.specs.Prelude.{ℕ, List, Bool, ◌&&◌, ltb, leb, eqb, length, get_or}
 use Rattle.base.specs.All.{all_good}
 use Rattle.property.specs.Parts.{properties_of}
 use Rattle.property.specs.Table.{start_at}

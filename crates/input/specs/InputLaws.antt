@@ -15,7 +15,6 @@ use Rattle.std.proofs.Math.Dec.{ltb}
 use borrow.Author.Tests.{lt-ltb, le-ltb, ltb-true, ltb-false}
 use Rattle.base.specs.Pick.{pick}
 use Rattle.base.specs.Refusal.{none, bad_utf8, cut_utf8}
-use Rattle.utf8.specs.Encode.{WellFormed}
 use Rattle.utf8.specs.Chars.{check_from}
 use Rattle.utf8.specs.CharsLaws.{fine_of_well, well_of_fine}
 use Rattle.utf8.specs.Meaning.{Arriving, Damaged}

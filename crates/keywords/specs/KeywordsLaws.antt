@@ -2,7 +2,7 @@
 --     never_keyword                          a kind that no entry has is never answered
 --     keyword_kind, never_else, never_else_if    a keyword's kind; "else" and "else if" are not among them
 -- Assumes nothing.
-use Rattle.std.specs.Prelude.{◌≡◌, refl, true, not, ◌&&◌, List, ◌⊎◌, ℕ, ◌≤◌, eqb, leb}
+use Rattle.std.specs.Prelude.{◌≡◌, refl, true, ◌&&◌, List, ◌⊎◌, ℕ, ◌≤◌, eqb, leb}
 use Rattle.std.proofs.Math.Bool.{and-eq-true_iff}
 use Rattle.std.proofs.Common.{inl, inr, arith, leb-true}
 use Rattle.std.proofs.lemmas.Bool.{eqb-false, not-true}

@@ -1,14 +1,13 @@
 -- lexer.rs `TokenLexer`: what its methods do to the state, less the stack of modes, which `Stack` has. What a `consume_*` makes is the
 -- token, the lexer after it, and what becomes of the stack.
 -- Assumes nothing.
-use Rattle.std.specs.Prelude.{ℕ, Bool, ◌||◌, eqb}
+use Rattle.std.specs.Prelude.{ℕ, ◌||◌, eqb}
 use Rattle.base.specs.Pick.{pick}
 use Rattle.position.specs.Place as place
 use Rattle.position.specs.declared.Place.{Place}
 use Rattle.position.specs.declared.Reach.{Reach}
 use Rattle.token.specs.Kind.{error, new_line, no_token}
 use Rattle.token.specs.Token.{token_of}
-use Rattle.state.specs.declared.Change.{Change}
 use Rattle.state.specs.declared.Change.TheVariants.{Keep}
 use Rattle.state.specs.declared.Lexer.{Lexer}
 use Rattle.state.specs.declared.Taken.{Taken}

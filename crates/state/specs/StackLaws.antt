@@ -7,8 +7,7 @@
 --     deep              a mode on top means a depth above 0
 -- Assumes nothing.
 use Rattle.std.specs.Prelude.{ℕ, zero, suc, ◌+◌, ◌-◌, ◌≤◌, ◌<◌, ◌≡◌, refl, List, [], ◌∷◌, length, get_or, set}
-use Rattle.std.proofs.Common.{arith, add-one, sym, ap, ◌∙◌, length-set, get_or-set_same, get_or-set_other, lt-ltb, le-ltb, eq-eqb, ne_eqb}
-use Rattle.std.proofs.lemmas.List.{length-replicate}
+use Rattle.std.proofs.Common.{arith, add-one, sym, ap, ◌∙◌, length-set, get_or-set_same, get_or-set_other}
 use Rattle.base.specs.PickLaws.{by_lt, by_eq, split_lt}
 use Rattle.state.specs.State.{start_state, state_of, pushed, popped, replaced, changed_by, Fits}
 use Rattle.state.specs.Stack.{top, rest, changed, codes_of, stack_of, Agrees}

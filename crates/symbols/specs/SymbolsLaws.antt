@@ -4,7 +4,7 @@
 --     never_symbol                                     a kind that no entry has is never answered
 -- Assumes nothing.
 use Rattle.std.specs.Prelude.{◌≡◌, refl, Bool, true, not, ◌&&◌, ◌||◌, ℕ, ◌≤◌, ◌<◌, eqb, leb, length, get_or}
-use Rattle.std.proofs.Common.{subst, arith, eqb-true, eq-eqb, leb-true}
+use Rattle.std.proofs.Common.{subst, eqb-true, eq-eqb, leb-true}
 use Rattle.std.proofs.lemmas.Bool.{false≢true, eqb-false, not-true}
 use Rattle.std.proofs.Math.Bool.{and-eq-true_iff}
 use mathlib.Core.List.{List, [], ◌∷◌}

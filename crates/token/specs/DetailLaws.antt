@@ -3,10 +3,10 @@
 --     plain_fits, raw_fits                         so may every token of these kinds
 --     allowed_most                                 a detail that may be shown is at most `detail_most`
 -- Assumes nothing.
-use Rattle.std.specs.Prelude.{◌≡◌, refl, Bool, true, ℕ, ◌+◌, ◌*◌, ◌≤◌, ◌<◌, eqb, leb}
+use Rattle.std.specs.Prelude.{◌≡◌, refl, Bool, true, ℕ, ◌+◌, ◌*◌, ◌≤◌, ◌<◌, leb}
 use Rattle.std.proofs.Math.Bool.{and-eq-true_iff}
 use Rattle.std.proofs.Common.{arith, leb-true, eqb-true, le-leb}
-use Rattle.base.specs.PickLaws.{by_test, by_eq}
+use Rattle.base.specs.PickLaws.{by_eq}
 use Rattle.token.specs.Kind.{string_start, kind_most}
 use Rattle.token.specs.Detail.{double_quote, hashes_most, normal_detail, raw_detail, detail_most, detail_allowed, fits}
 

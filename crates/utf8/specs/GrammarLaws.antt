@@ -7,7 +7,7 @@
 --     back2 .. back4     the bytes of an encoding stand for the code point that was encoded
 -- Assumes nothing.
 use Rattle.std.specs.Prelude.{ℕ, suc, ◌+◌, ◌*◌, ◌/◌, ◌%◌, ◌<◌, ◌≤◌, ◌≡◌, List, [], ◌∷◌, ◌++◌, Bool, true, length, drop}
-use Rattle.std.proofs.Common.{arith, eq-or-lt_of_le, sym, ◌∙◌, ⊎_elim, lt-ltb, le-ltb, le-leb, leb-true}
+use Rattle.std.proofs.Common.{arith, eq-or-lt_of_le, sym, ◌∙◌, ⊎_elim, lt-ltb, le-ltb}
 use Rattle.base.specs.PickLaws.{by_lt, by_eq}
 use Rattle.base.specs.RangeLaws.{inside_is, is_inside}
 use Rattle.utf8.specs.Encode.{Scalar, encode}

@@ -7,7 +7,7 @@
 -- Assumes nothing.
 use Rattle.std.specs.Prelude.{ℕ, ◌+◌, ◌<◌, ◌≤◌, ◌≡◌, refl, List, [], ◌∷◌, ◌++◌, length, take, drop}
 use Rattle.std.proofs.Common.{arith, sym, ap, subst, ◌∙◌, append-nil, append_assoc, length-append, take-append-drop, length-take-le, take-take, take-add, take_at}
-use Rattle.std.proofs.Math.Seq.{take-length, drop-append_seam, take-append_seam}
+use Rattle.std.proofs.Math.Seq.{drop-append_seam, take-append_seam}
 use Rattle.std.proofs.lemmas.List.{drop-append-le}
 use Rattle.base.specs.PickLaws.{split_lt}
 use Rattle.utf8.specs.Encode.{Scalars, encode, encode_all, WellFormed}
@@ -16,7 +16,7 @@ use Rattle.utf8.specs.Read.{decode_head, read_at}
 use Rattle.utf8.specs.ReadLaws.{complete, cut_begins, begins_cut}
 use Rattle.utf8.specs.Chars.{check_from}
 use Rattle.utf8.specs.CharsLaws.{at_char, bad_at, cut_at, check_past, Stops, stopped, fine_of_well, well_of_fine, never_stops}
-use Rattle.utf8.specs.Meaning.{CharAt, ReadIs, Longest, Arriving, Damaged, CheckIs}
+use Rattle.utf8.specs.Meaning.{CharAt, ReadIs, Longest, CheckIs}
 use Rattle.utf8.specs.declared.Read.{Read}
 use Rattle.utf8.specs.declared.Read.TheVariants.{Char, Bad, Cut}
 use Rattle.utf8.specs.declared.Utf8Check.{Utf8Check}

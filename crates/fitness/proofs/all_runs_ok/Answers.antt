@@ -1,10 +1,7 @@
 -- `property::all_runs_ok` meets its contract. The loop's invariant is `Quick`: what was found of the runs below i; the measure is what is
 -- left of the length. Assumes nothing.
-use borrow.Author.Rules.{rules}
-use Prim.Native.Nat.{◌-◌}
 use native.Mathlib.Omega.{arith}
-use lib.ListN.{length}
-use Rattle.fitness.specs.QuickLaws.{Quick, quick_first, quick_next, quick_done}
+use Rattle.fitness.specs.QuickLaws.{quick_first, quick_next, quick_done}
 use Rattle.fitness.proofs.all_runs_ok.Goals as goal
 
 pub loop-i-init : goal.loop-i-init

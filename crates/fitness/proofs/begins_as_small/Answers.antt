@@ -1,7 +1,5 @@
 -- `property::begins_as_small` meets its contract. The loop's invariant: what was found of the numbers below k; the measure is what is left
 -- of the 15. Assumes nothing.
-use borrow.Author.Rules.{rules}
-use Prim.Native.Nat.{◌-◌, ◌≤◌}
 use native.Mathlib.Omega.{arith}
 use mathlib.Core.Path.{◌≡◌, refl, ap}
 use lib.ListN.{length}

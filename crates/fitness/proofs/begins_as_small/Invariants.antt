@@ -1,15 +1,9 @@
 -- `property::begins_as_small` meets its contract. The loop's invariant: what was found of the numbers below k; the measure is what is left
 -- of the 15. Assumes nothing.
-use borrow.Author.Rules.{rules}
 use Prim.Native.Nat.{◌-◌, ◌≤◌}
-use native.Mathlib.Omega.{arith}
-use mathlib.Core.Path.{◌≡◌, refl, ap}
-use lib.ListN.{length}
-use borrow.Author.Tests.{lt-ltb, le-ltb}
+use mathlib.Core.Path.{◌≡◌}
 use Rattle.base.specs.All.{all_good}
-use Rattle.base.specs.AllLaws.{one_more_lem}
-use Rattle.fitness.specs.Quick.{small_at, begins_as_small}
-use Rattle.fitness.specs.QuickLaws.{small_next}
+use Rattle.fitness.specs.Quick.{small_at}
 use Rattle.fitness.proofs.begins_as_small.Given as goal
 
 abbrev pub invariant-loop-k : goal.invariant-loop-k

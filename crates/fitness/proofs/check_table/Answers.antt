@@ -1,5 +1,4 @@
 -- `property::check_table` meets its contract: each return is a case of `table_check`. Assumes nothing.
-use borrow.Author.Rules.{rules}
 use mathlib.Core.Path.{sym}
 use Rattle.base.specs.CasesLaws.{cases}
 use Rattle.fitness.specs.Fit.{table_check}

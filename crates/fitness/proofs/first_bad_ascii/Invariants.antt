@@ -1,15 +1,9 @@
 -- `property::first_bad_ascii` meets its contract. Where the table begins as the small table none is bad. The loop's invariant: the first
 -- bad code point from c on is the first bad code point; the measure is what is left of 128. The small table rises too, since it is fit.
 -- Assumes nothing.
-use borrow.Author.Rules.{rules}
 use Prim.Native.Nat.{◌-◌}
-use native.Mathlib.Omega.{arith}
-use mathlib.Core.Path.{sym, ◌∙◌}
-use borrow.Author.Tests.{eq-eqb, ne_eqb}
 use Rattle.fitness.specs.Fit.{ascii_ok}
-use Rattle.fitness.specs.SmallLaws.{small_is_fit}
-use Rattle.fitness.specs.FirstLaws.{Going, start, next, here, done}
-use Rattle.fitness.specs.QuickLaws.{no_bad_ascii}
+use Rattle.fitness.specs.FirstLaws.{Going}
 use Rattle.fitness.proofs.first_bad_ascii.Given as goal
 
 abbrev pub invariant-loop-c : goal.invariant-loop-c

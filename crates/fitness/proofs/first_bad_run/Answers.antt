@@ -1,13 +1,7 @@
 -- `property::first_bad_run` meets its contract. Where the quick test finds no bad run there is none. The loop's invariant: the first bad
 -- run from i on is the first bad run; the measure is what is left of the length. Assumes nothing.
-use borrow.Author.Rules.{rules}
-use Prim.Native.Nat.{◌-◌}
-use native.Mathlib.Omega.{arith}
 use mathlib.Core.Path.{sym, ◌∙◌}
-use borrow.Author.Tests.{not-true, not-false}
-use lib.ListN.{length}
-use Rattle.fitness.specs.Fit.{run_ok}
-use Rattle.fitness.specs.FirstLaws.{all_good_lem, Going, start, next, here, done}
+use Rattle.fitness.specs.FirstLaws.{all_good_lem, start, next, here, done}
 use Rattle.fitness.proofs.first_bad_run.Goals as goal
 
 pub returns-then-all_runs_ok : goal.returns-then-all_runs_ok

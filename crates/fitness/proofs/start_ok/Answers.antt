@@ -1,5 +1,4 @@
 -- `property::start_ok` meets its contract: each return is a case of `start_ok`. Assumes nothing.
-use borrow.Author.Rules.{rules}
 use mathlib.Core.Path.{sym}
 use Rattle.base.specs.CasesLaws.{cases}
 use Rattle.fitness.specs.Fit.{start_ok}

@@ -1,6 +1,5 @@
 -- `keywords::place` meets its contract: the sum fits, and is the definition's. Assumes nothing.
 use mathlib.Core.Path.{refl}
-use borrow.Author.Rules.{rules}
 use Rattle.keywords.specs.Places.{place_by}
 use Rattle.keywords.proofs.place.Goals as goal
 

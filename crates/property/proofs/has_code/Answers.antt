@@ -1,5 +1,4 @@
 -- `property::has_code` meets its contract: each return is a case of `has_code`. Assumes nothing.
-use borrow.Author.Rules.{rules}
 use mathlib.Core.Path.{sym}
 use Rattle.base.specs.CasesLaws.{cases}
 use Rattle.property.specs.Near.{has_code}

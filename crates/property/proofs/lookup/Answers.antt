@@ -1,5 +1,4 @@
 -- `property::lookup` meets its contract: the properties are those of the run that has the code point. Assumes nothing.
-use borrow.Author.Rules.{rules}
 use mathlib.Core.Path.{sym, ◌∙◌}
 use Rattle.property.specs.TableLaws.{run_properties}
 use Rattle.property.proofs.lookup.Goals as goal

@@ -1,5 +1,4 @@
 -- `property::run_near` meets its contract: the run that is tried has the code point, or halving finds the run. Assumes nothing.
-use borrow.Author.Rules.{rules}
 use mathlib.Core.Path.{sym, ◌∙◌}
 use Rattle.property.specs.TableLaws.{has_code_lem}
 use Rattle.property.proofs.run_near.Goals as goal

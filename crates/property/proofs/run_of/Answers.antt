@@ -1,9 +1,7 @@
 -- `property::run_of` meets its contract. The loop's invariant: the run sought is from lo on and before hi; the measure is their distance.
 -- Assumes nothing.
-use borrow.Author.Rules.{rules}
 use native.Mathlib.Omega.{arith}
-use Prim.Native.Nat.{◌-◌}
-use Rattle.property.proofs.Halving.{Between, whole, lower, upper, met}
+use Rattle.property.proofs.Halving.{whole, lower, upper, met}
 use Rattle.property.proofs.run_of.Goals as goal
 
 pub loop-lo-init : goal.loop-lo-init

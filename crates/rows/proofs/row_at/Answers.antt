@@ -2,7 +2,6 @@
 use mathlib.Core.Path.{◌≡◌, ap, ◌∙◌}
 use mathlib.Core.List.{List}
 use Prim.Native.Nat.{ℕ, ◌*◌}
-use borrow.Author.Rules.{rules}
 use Rattle.rows.specs.First.{shown_below}
 use Rattle.rows.specs.Row.{row_words, row_from, row_at, above_at, shown_at}
 use Rattle.rows.specs.declared.Row.{Row}

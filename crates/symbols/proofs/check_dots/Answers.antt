@@ -1,6 +1,5 @@
 -- `symbols::check_dots` meets its contract: the first test that holds is answered. Assumes nothing.
 use mathlib.Core.Path.{refl}
-use borrow.Author.Rules.{rules}
 use Rattle.symbols.proofs.Chain.{here, past}
 use Rattle.symbols.proofs.check_dots.Goals as goal
 

@@ -1,6 +1,5 @@
 -- `symbols::check_not_equal` meets its contract: its one test is asked. Assumes nothing.
 use mathlib.Core.Path.{refl}
-use borrow.Author.Rules.{rules}
 use Rattle.symbols.proofs.Chain.{here, past, nothing}
 use Rattle.symbols.proofs.check_not_equal.Goals as goal
 

@@ -1,7 +1,6 @@
 -- `symbols::symbol` meets its contract: only the symbols that begin with the first byte can be there. Assumes nothing.
 use mathlib.Core.Path.{◌≡◌}
 use Prim.Native.Nat.{ℕ}
-use borrow.Author.Rules.{rules}
 use lib.ListN.{get_or, drop}
 use Rattle.symbols.specs.Symbols.{symbol_in, symbol_of}
 use Rattle.symbols.specs.Groups.{symbols_of}

@@ -1,6 +1,5 @@
 -- `token::detail_allowed` meets its contract: the kind decides which test is asked of the detail. Assumes nothing.
 use mathlib.Core.Path.{sym}
-use borrow.Author.Rules.{rules}
 use Rattle.base.specs.CasesLaws.{cases}
 use Rattle.token.proofs.detail_allowed.Goals as goal
 

@@ -1,12 +1,9 @@
 -- `utf8::all_single` meets its contract. The loop's invariant: what was found of the bytes before i, which are within s; the measure is what
 -- is left of the length. Assumes nothing.
-use borrow.Author.Rules.{rules}
-use native.Mathlib.Omega.{arith}
 use Prim.Native.Nat.{◌-◌, ◌≤◌}
-use mathlib.Core.Path.{◌≡◌, refl, ap, ◌∙◌}
+use mathlib.Core.Path.{◌≡◌}
 use lib.ListN.{length}
 use Rattle.base.specs.All.{all_good}
-use Rattle.base.specs.AllLaws.{one_more_lem}
 use Rattle.utf8.specs.Lengths.{is_single}
 use Rattle.utf8.proofs.all_single.Given as goal
 

@@ -1,12 +1,9 @@
 -- `utf8::check_utf8` meets its contract. The loop's invariant: what the definition answers from here on is what it answers from the start.
 -- A turn is one step of it: `passed` over a character, `bad_at` and `cut_at` where there is none.
 -- Assumes nothing.
-use borrow.Author.Rules.{rules}
 use native.Mathlib.Omega.{arith}
-use Prim.Native.Nat.{ℕ, ◌+◌, ◌-◌, ◌<◌}
+use Prim.Native.Nat.{◌+◌, ◌<◌}
 use mathlib.Core.Path.{◌≡◌, refl, sym, ap, ◌∙◌}
-use mathlib.Core.List.{List}
-use lib.ListN.{length}
 use Rattle.utf8.specs.Read.{read_at}
 use Rattle.utf8.specs.Lengths.{len_of}
 use Rattle.utf8.specs.CharsLaws.{at_char, bad_at, cut_at, check_end}

@@ -1,13 +1,8 @@
 -- `utf8::is_three` meets its contract: a character of three bytes is what `opens` tests, and a third byte. Assumes nothing.
-use Prim.Native.Nat.{ℕ}
-use native.Mathlib.Omega.{arith}
 use mathlib.Core.Path.{◌≡◌, sym, ap, ◌∙◌}
-use mathlib.Core.List.{List}
 use mathlib.Core.Bool.{Bool, true, false, ◌&&◌}
 use lib.ListN.{get_or}
 use lib.Dec.{eqb}
-use borrow.Author.Rules.{rules}
-use borrow.Author.Tests.{not-true, not-false}
 use Rattle.utf8.specs.Read.{is_tail, decode_head}
 use Rattle.utf8.specs.Lengths.{len_of}
 use Rattle.utf8.specs.LengthsLaws.{opens_room, three_len}

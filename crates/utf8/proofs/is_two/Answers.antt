@@ -1,7 +1,5 @@
 -- `utf8::is_two` meets its contract: what `opens` tests is all that a character of two bytes needs. Assumes nothing.
-use native.Mathlib.Omega.{arith}
 use mathlib.Core.Path.{◌∙◌}
-use borrow.Author.Rules.{rules}
 use Rattle.utf8.specs.LengthsLaws.{two_len}
 use Rattle.utf8.proofs.is_two.Goals as goal
 

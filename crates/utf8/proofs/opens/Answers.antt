@@ -1,8 +1,7 @@
 -- `utf8::opens` meets its contract: its tests are the definition's, in the same order. Assumes nothing.
-use borrow.Author.Rules.{rules}
 use borrow.Author.Tests.{eq-eqb, ne_eqb, le-leb, lt-leb}
 use mathlib.Core.Path.{sym, ◌∙◌}
-use lib.ListN.{length, get_or}
+use lib.ListN.{length}
 use Rattle.utf8.specs.Read.{seq_len}
 use Rattle.utf8.proofs.opens.Goals as goal
 

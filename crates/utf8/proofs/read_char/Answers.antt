@@ -4,7 +4,6 @@ use mathlib.Core.Path.{sym, ap, ◌∙◌}
 use Rattle.base.specs.ListLaws.{rest_all}
 use Rattle.utf8.specs.Read.{decode_head}
 use Rattle.utf8.specs.CharsLaws.{end_cut}
-use borrow.Author.Rules.{rules}
 use Rattle.utf8.proofs.read_char.Goals as goal
 
 pub returns-then-s-at : goal.returns-then-s-at

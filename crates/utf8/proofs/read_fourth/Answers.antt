@@ -2,7 +2,6 @@
 use mathlib.Core.Path.{sym}
 use Rattle.utf8.proofs.Answers.{answers}
 use Rattle.utf8.specs.Read.{fourth}
-use borrow.Author.Rules.{rules}
 use Rattle.utf8.proofs.read_fourth.Goals as goal
 
 pub returns-then-l-lt4 : goal.returns-then-l-lt4

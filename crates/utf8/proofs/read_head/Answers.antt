@@ -6,7 +6,6 @@ use native.Mathlib.Omega.{arith}
 use Rattle.utf8.proofs.Answers.{answers}
 use Rattle.utf8.specs.Read.{second, decode_head, head_of}
 use Rattle.utf8.specs.declared.Read.{Read}
-use borrow.Author.Rules.{rules}
 use Rattle.utf8.proofs.read_head.Goals as goal
 
 pub returns-then-l-lt1 : goal.returns-then-l-lt1

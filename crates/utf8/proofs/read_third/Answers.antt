@@ -2,7 +2,6 @@
 use mathlib.Core.Path.{sym}
 use Rattle.utf8.proofs.Answers.{answers}
 use Rattle.utf8.specs.Read.{third}
-use borrow.Author.Rules.{rules}
 use Rattle.utf8.proofs.read_third.Goals as goal
 
 pub returns-then-l-lt3 : goal.returns-then-l-lt3

@@ -2,7 +2,6 @@
 use mathlib.Core.Path.{sym}
 use Rattle.base.specs.CasesLaws.{cases}
 use Rattle.utf8.specs.Read.{second_ok}
-use borrow.Author.Rules.{rules}
 use Rattle.utf8.proofs.second_ok.Goals as goal
 
 pub returns-then-a-eq224 : goal.returns-then-a-eq224

@@ -1,6 +1,5 @@
 -- `words::is_word` meets its contract: the name is as long as the word and begins with it. Assumes nothing.
 use mathlib.Core.Path.{sym, ◌∙◌}
-use borrow.Author.Rules.{rules}
 use lib.ListN.{take, drop}
 use Rattle.words.proofs.Compare.{other_length, by_start}
 use Rattle.words.proofs.is_word.Goals as goal

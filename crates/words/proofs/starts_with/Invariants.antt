@@ -1,9 +1,7 @@
 -- `words::starts_with` meets its contract: `Going` holds at each turn, and each way out of the loop is one of its laws. Assumes nothing.
 use Prim.Native.Nat.{◌-◌}
-use native.Mathlib.Omega.{arith}
-use borrow.Author.Rules.{rules}
 use lib.ListN.{length}
-use Rattle.words.proofs.Compare.{Going, lacking, begins, goes_on, differs, ends}
+use Rattle.words.proofs.Compare.{Going}
 use Rattle.words.proofs.starts_with.Given as goal
 
 abbrev pub invariant-loop-i : goal.invariant-loop-i

@@ -1,6 +1,5 @@
 -- `words::within` meets its contract: the bytes that are left, or all that were asked for. Assumes nothing.
 use native.Mathlib.Omega.{arith}
-use borrow.Author.Rules.{rules}
 use lib.ListN.{length-take, length-drop}
 use Rattle.words.proofs.within.Goals as goal
 

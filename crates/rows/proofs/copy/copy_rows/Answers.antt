@@ -1,14 +1,13 @@
 -- `rows::copy::copy_rows` meets its contract: the numbers up to i are those of the first list, and how many are left is the measure.
 -- Assumes nothing.
-use Prim.Native.Nat.{ℕ, ◌+◌, ◌*◌, ◌-◌, ◌≤◌, ◌<◌}
+use Prim.Native.Nat.{ℕ, ◌+◌, ◌*◌, ◌≤◌, ◌<◌}
 use native.Mathlib.Omega.{arith}
 use native.Mathlib.Nat.{zero-add}
 use native.Mathlib.Numerals.{add-one}
 use mathlib.Core.Path.{◌≡◌, refl, sym, ap, ◌∙◌}
 use mathlib.Core.List.{List, ◌++◌}
-use lib.ListN.{length, get_or, set, take, drop, length-set}
+use lib.ListN.{get_or, set, take, drop, length-set}
 use lib.Seq.{paste, paste-zero, paste-suc}
-use borrow.Author.Rules.{rules}
 use Rattle.rows.specs.Row.{row_words, room, copy_rows}
 use Rattle.rows.proofs.copy.copy_rows.Goals as goal
 use Rattle.rows.proofs.copy.copy_rows.Invariants.{Copied}

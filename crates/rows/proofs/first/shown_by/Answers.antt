@@ -1,6 +1,5 @@
 -- `rows::first::shown_by` meets its contract: its tests are those of `fits_below`, of which the first two are one. Assumes nothing.
 use mathlib.Core.Path.{sym}
-use borrow.Author.Rules.{rules}
 use Rattle.base.specs.CasesLaws.{cases}
 use Rattle.rows.specs.FirstLaws.{below_unfit, upper_over, upper_low}
 use Rattle.rows.proofs.first.shown_by.Goals as goal

@@ -1,5 +1,4 @@
 -- `state::Lexer::apply` meets its contract: each arm is a case of `changed_by`, and its room is that of `Fits`. Assumes nothing.
-use borrow.Author.Rules.{rules}
 use Rattle.state.proofs.Lexer.apply.Goals as goal
 
 pub push-requires : goal.push-requires

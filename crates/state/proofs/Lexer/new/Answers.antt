@@ -1,5 +1,4 @@
 -- `state::Lexer::new` meets its contract: the place is the one that `Place::new` ensures. Assumes nothing.
-use borrow.Author.Rules.{rules}
 use Rattle.state.proofs.Lexer.new.Goals as goal
 
 pub returns : goal.returns

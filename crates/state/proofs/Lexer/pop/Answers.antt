@@ -1,7 +1,6 @@
 -- `state::Lexer::pop` meets its contract: each return is a case of `popped`. Assumes nothing.
 use mathlib.Core.Path.{sym}
 use Rattle.base.specs.CasesLaws.{cases}
-use borrow.Author.Rules.{rules}
 use Rattle.state.proofs.Lexer.pop.Goals as goal
 
 pub returns-then-depth-lt2 : goal.returns-then-depth-lt2

@@ -2,7 +2,6 @@
 use mathlib.Core.Path.{refl, sym, ◌∙◌}
 use borrow.Author.Tests.{eq-eqb}
 use Rattle.base.specs.CasesLaws.{cases, pick_yes}
-use borrow.Author.Rules.{rules}
 use Rattle.state.proofs.Lexer.replace.Goals as goal
 
 pub returns-then-depth-eq0 : goal.returns-then-depth-eq0

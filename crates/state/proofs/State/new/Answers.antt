@@ -1,5 +1,4 @@
 -- `state::State::new` meets its contract: the lexer is the one that `Lexer::new` ensures. Assumes nothing.
-use borrow.Author.Rules.{rules}
 use Rattle.state.proofs.State.new.Goals as goal
 
 pub returns : goal.returns

@@ -1,6 +1,5 @@
 -- `token::Token::is_whitespace_including_newline` meets its contract: `is_whitespace` answers the first question. Assumes nothing.
 use mathlib.Core.Path.{sym}
-use borrow.Author.Rules.{rules}
 use Rattle.base.specs.CasesLaws.{cases}
 use Rattle.token.proofs.Token.is_whitespace_including_newline.Goals as goal
 

@@ -1,5 +1,4 @@
 -- `token::Token::raw_string_start` meets its contract: the quote decides how the hashes are counted. Assumes nothing.
-use borrow.Author.Rules.{rules}
 use borrow.Author.Tests.{eq-eqb, ne_eqb}
 use Rattle.token.proofs.Token.raw_string_start.Goals as goal
 
