@@ -1,6 +1,5 @@
 -- `text::ascii_properties` meets its contract: each return is a case of `ascii_properties`.
 -- Assumes nothing.
-use borrow.Author.Rules.{rules}
 use mathlib.Core.Path.{sym}
 use Rattle.base.specs.CasesLaws.{cases}
 use Rattle.text.specs.Ascii.{ascii_properties}

@@ -1,5 +1,4 @@
 -- `text::byte_at` meets its contract: each return is a case of `byte_at`. Assumes nothing.
-use borrow.Author.Rules.{rules}
 use borrow.Author.Tests.{lt-ltb, le-ltb}
 use native.Mathlib.Omega.{arith}
 use Rattle.text.proofs.byte_at.Goals as goal

@@ -1,6 +1,5 @@
 -- `text::char_len` meets its contract: it is the length of what `decode` reads. Assumes nothing.
 use Rattle.utf8.specs.CharsLaws.{at_char, rest_at}
-use borrow.Author.Rules.{rules}
 use Rattle.text.proofs.char_len.Goals as goal
 
 pub returns : goal.returns

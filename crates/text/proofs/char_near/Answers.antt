@@ -1,7 +1,6 @@
 -- `text::char_near` meets its contract: a byte below 128 is the character, with the properties that a fit table fixes; any other is
 -- `wide_near`'s. Assumes nothing.
 use Rattle.text.proofs.Found.{ascii_is}
-use borrow.Author.Rules.{rules}
 use Rattle.text.proofs.char_near.Goals as goal
 
 pub returns-then-b-lt128 : goal.returns-then-b-lt128

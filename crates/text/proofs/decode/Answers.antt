@@ -2,14 +2,12 @@
 use Prim.Native.Nat.{ℕ, ◌+◌, ◌≤◌}
 use native.Mathlib.Omega.{arith}
 use mathlib.Core.Path.{◌≡◌, sym, ap, ◌∙◌}
-use mathlib.Core.List.{List}
 use lib.ListN.{length}
 use Rattle.utf8.specs.Read.{read_at}
 use Rattle.utf8.specs.Lengths.{char_of}
 use Rattle.utf8.specs.CharsLaws.{at_char}
 use Rattle.utf8.specs.declared.Read.TheVariants.{Char}
 use Rattle.text.proofs.Found.{short, long}
-use borrow.Author.Rules.{rules}
 use Rattle.text.proofs.decode.Goals as goal
 use Rattle.text.proofs.decode.Goals.{After-lead_len-n, Else-n-eq3, Then-n-eq3}
 
@@ -49,7 +47,7 @@ returns-then-n-eq3 c = three (goal.at.returns-then-n-eq3 c).Then-n-eq3 ∙ ap (�
 
 four : (t : Else-n-eq3) → read_at t.args.source.now t.args.at ≡ char_of 4 t.args.source.now t.args.at
 four t =
-    long t.args.source.now t.args.at t.pre.0 t.pre.1 _ t.lead_len-n.ensures t.if-n-eq1.false t.if-n-eq2.false t.if-n-eq3.false
+    long t.args.source.now t.args.at t.requires.0 t.requires.1 _ t.lead_len-n.ensures t.if-n-eq1.false t.if-n-eq2.false t.if-n-eq3.false
 
 pub bounds-source-at-2 : goal.bounds-source-at-2
 bounds-source-at-2 c = omega (arith, room (goal.at.bounds-source-at-2 c).After-lead_len-n (four (goal.at.bounds-source-at-2 c).Else-n-eq3))

@@ -1,6 +1,5 @@
 -- `text::is_binary_digit` meets its contract: each return is a case of `is_binary_digit`.
 -- Assumes nothing.
-use borrow.Author.Rules.{rules}
 use mathlib.Core.Path.{sym}
 use Rattle.base.specs.CasesLaws.{cases}
 use Rattle.text.specs.Tests.{is_binary_digit}

@@ -1,5 +1,4 @@
 -- `text::is_name_part` meets its contract: each return is a case of `is_name_part`. Assumes nothing.
-use borrow.Author.Rules.{rules}
 use mathlib.Core.Path.{sym}
 use Rattle.base.specs.CasesLaws.{cases}
 use Rattle.text.proofs.is_name_part.Goals as goal

@@ -1,6 +1,5 @@
 -- `text::passes` meets its contract: each return is a case of `test_of`.
 -- Assumes nothing.
-use borrow.Author.Rules.{rules}
 use mathlib.Core.Path.{sym}
 use Rattle.base.specs.CasesLaws.{cases}
 use Rattle.text.specs.Tests.{test_of}

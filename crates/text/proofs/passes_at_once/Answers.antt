@@ -1,5 +1,4 @@
 -- `text::passes_at_once` meets its contract: each return is a case of `at_once`. Assumes nothing.
-use borrow.Author.Rules.{rules}
 use mathlib.Core.Path.{sym}
 use Rattle.base.specs.CasesLaws.{cases}
 use Rattle.text.specs.Tests.{at_once}

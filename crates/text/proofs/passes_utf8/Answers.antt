@@ -1,5 +1,4 @@
 -- `text::passes_utf8` meets its contract: each return is a case of `test_utf8`. Assumes nothing.
-use borrow.Author.Rules.{rules}
 use borrow.Author.Tests.{ne_eqb}
 use mathlib.Core.Path.{sym, ap}
 use mathlib.Core.Bool.{not}

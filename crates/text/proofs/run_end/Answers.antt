@@ -1,12 +1,8 @@
 -- `text::run_end` meets its contract. The loop's invariant is `Counting`: the run from here on ends where the run from the start does.
 -- Assumes nothing.
-use borrow.Author.Rules.{rules}
-use borrow.Author.Tests.{not-true, not-false}
-use native.Mathlib.Omega.{arith}
 use Prim.Native.Nat.{◌-◌}
 use mathlib.Core.Path.{sym, ◌∙◌}
-use lib.ListN.{length}
-use Rattle.text.proofs.Runs.{Counting, counting, counts_on, counts_stop, counts_end}
+use Rattle.text.proofs.Runs.{counting, counts_on, counts_stop, counts_end}
 use Rattle.text.proofs.run_end.Goals as goal
 
 pub loop-i-init : goal.loop-i-init

@@ -1,16 +1,13 @@
 -- `text::run_utf8` meets its contract. The loop's invariant is `Running`: the run from here on reaches as far as the run from the start.
 -- Assumes nothing.
-use borrow.Author.Rules.{rules}
-use borrow.Author.Tests.{not-true, not-false}
 use native.Mathlib.Omega.{arith}
 use Prim.Native.Nat.{ℕ, ◌-◌}
 use mathlib.Core.Path.{◌≡◌, sym, ap, ◌∙◌}
-use lib.ListN.{length}
 use Rattle.position.specs.Place.{along_by}
 use Rattle.property.specs.Parts.{width_of}
 use Rattle.text.specs.Tests.{test_utf8}
 use Rattle.text.specs.CountLaws.{width_most_lem}
-use Rattle.text.proofs.Runs.{Running, running, runs_well, runs_fit, runs_on, runs_fall, runs_stop, runs_end, once_on, once_fall}
+use Rattle.text.proofs.Runs.{running, runs_well, runs_fit, runs_on, runs_fall, runs_stop, runs_end, once_on, once_fall}
 use Rattle.text.proofs.run_utf8.Goals as goal
 use Rattle.text.proofs.run_utf8.Goals.{After-along-reach}
 
@@ -41,7 +38,7 @@ returns-then-not-passes_utf8 c =
 
 pub along-reach-requires : goal.along-reach-requires
 along-reach-requires c =
-    runs_fit _ _ _ c.loop-i.invariant _ c.char_near-c.ensures _ (rw c.width_of.ensures (width_most_lem _))
+    record { byte_le_source_most = (runs_fit _ _ _ c.loop-i.invariant _ c.char_near-c.ensures c.width_of.result (rw c.width_of.ensures (width_most_lem _))).0; column_le_column_most = (runs_fit _ _ _ c.loop-i.invariant _ c.char_near-c.ensures _ (rw c.width_of.ensures (width_most_lem _))).1 }
 
 -- the reach after a turn
 after : (c : After-along-reach)

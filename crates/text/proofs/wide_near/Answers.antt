@@ -3,7 +3,6 @@
 use mathlib.Core.Path.{sym, ◌∙◌}
 use Rattle.property.specs.TableLaws.{run_properties}
 use Rattle.text.proofs.Found.{read_is}
-use borrow.Author.Rules.{rules}
 use Rattle.text.proofs.wide_near.Goals as goal
 
 pub returns : goal.returns
