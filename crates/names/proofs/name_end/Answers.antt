@@ -15,7 +15,7 @@ first r = len_there (sym r.reach-reach.ensures) r.requires.2
 pub along-requires : goal.along-requires
 along-requires c =
     let o = stands_there c.reach-reach.ensures c.requires.0 in
-    omega (arith, o.small, o.inside, o.columns, (first c).at.ranges)
+    record { byte_le_source_most = omega (arith, o.small, o.inside, o.columns, (first c).at.fits); column_le_column_most = omega (arith, o.small, o.inside, o.columns, (first c).at.fits) }
 
 pub run_utf8-requires : goal.run_utf8-requires
 run_utf8-requires c =

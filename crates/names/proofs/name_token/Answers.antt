@@ -33,7 +33,7 @@ pub raw_string_start-requires : goal.raw_string_start-requires
 raw_string_start-requires c =
     let o = c.requires.0 in
     let d = subst Small c.in-Opens.is c.raw_start.ensures.small in
-    omega (arith, o.small, o.inside, o.columns, d)
+    record { lexer_bound = omega (arith, o.small, o.inside, o.columns, d); lexer_bound_2 = omega (arith, o.small, o.inside, o.columns, d) }
 
 pub returns-in-Opens : goal.returns-in-Opens
 returns-in-Opens c =
