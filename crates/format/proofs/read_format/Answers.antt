@@ -34,7 +34,7 @@ loop-code-init c = rw c.new-p.ensures (begins (properties_at c.args.table.now) _
 pub returns-in_default : goal.returns-in_default
 returns-in_default c =
     c.end.ensures
-    ∙ ends _ _ _ _ c.loop-code.invariant (subst Stops c.read_char.ensures (stopped c.read_char.result c.in_default.keys2))
+    ∙ ends _ _ _ _ c.loop-code.invariant (subst Stops c.read_char.ensures (stopped c.read_char.result c.in_default.not-Char))
 
 pub take_turn-p-requires : goal.take_turn-p-requires
 take_turn-p-requires c =

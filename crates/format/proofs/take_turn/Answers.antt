@@ -55,32 +55,32 @@ take_precision-requires c =
 
 pub returns-in-FillSign : goal.returns-in-FillSign
 returns-in-FillSign c =
-    rw (c.fill_sign.ensures, seen (goal.at.returns-in-FillSign c).After-arm_of) (turn_fill_sign (look (goal.at.returns-in-FillSign c).After-arm_of) _ (src (goal.at.returns-in-FillSign c).After-arm_of) _ _ _ (here (goal.at.returns-in-FillSign c).After-arm_of) (chosen (goal.at.returns-in-FillSign c).After-arm_of arm.FillSign c.in-FillSign.is))
+    rw (c.fill_sign.ensures, seen (goal.at.returns-in-FillSign c).After-arm_of) (turn_fill_sign (look (goal.at.returns-in-FillSign c).After-arm_of) c.args.edition (src (goal.at.returns-in-FillSign c).After-arm_of) c.args.p c.args.c c.args.len (here (goal.at.returns-in-FillSign c).After-arm_of) (chosen (goal.at.returns-in-FillSign c).After-arm_of arm.FillSign c.in-FillSign.is))
 
 pub returns-in-Align : goal.returns-in-Align
 returns-in-Align c =
-    rw c.align.ensures (turn_align (look (goal.at.returns-in-Align c).After-arm_of) _ (src (goal.at.returns-in-Align c).After-arm_of) _ _ _ (here (goal.at.returns-in-Align c).After-arm_of) (chosen (goal.at.returns-in-Align c).After-arm_of arm.Align c.in-Align.is))
+    rw c.align.ensures (turn_align (look (goal.at.returns-in-Align c).After-arm_of) c.args.edition (src (goal.at.returns-in-Align c).After-arm_of) c.args.p c.args.c c.args.len (here (goal.at.returns-in-Align c).After-arm_of) (chosen (goal.at.returns-in-Align c).After-arm_of arm.Align c.in-Align.is))
 
 pub returns-in-ZeroFill : goal.returns-in-ZeroFill
 returns-in-ZeroFill c =
-    rw c.go_filled.ensures (turn_zero_fill (look (goal.at.returns-in-ZeroFill c).After-arm_of) _ (src (goal.at.returns-in-ZeroFill c).After-arm_of) _ _ _ (here (goal.at.returns-in-ZeroFill c).After-arm_of) (chosen (goal.at.returns-in-ZeroFill c).After-arm_of arm.ZeroFill c.in-ZeroFill.is))
+    rw c.go_filled.ensures (turn_zero_fill (look (goal.at.returns-in-ZeroFill c).After-arm_of) c.args.edition (src (goal.at.returns-in-ZeroFill c).After-arm_of) c.args.p c.args.c c.args.len (here (goal.at.returns-in-ZeroFill c).After-arm_of) (chosen (goal.at.returns-in-ZeroFill c).After-arm_of arm.ZeroFill c.in-ZeroFill.is))
 
 pub returns-in-MinWidth : goal.returns-in-MinWidth
 returns-in-MinWidth c =
-    c.take_width.ensures ∙ turn_width (look (goal.at.returns-in-MinWidth c).After-arm_of) _ (src (goal.at.returns-in-MinWidth c).After-arm_of) _ _ _ (here (goal.at.returns-in-MinWidth c).After-arm_of) (chosen (goal.at.returns-in-MinWidth c).After-arm_of arm.MinWidth c.in-MinWidth.is)
+    c.take_width.ensures ∙ turn_width (look (goal.at.returns-in-MinWidth c).After-arm_of) c.args.edition (src (goal.at.returns-in-MinWidth c).After-arm_of) c.args.p c.args.c c.args.len (here (goal.at.returns-in-MinWidth c).After-arm_of) (chosen (goal.at.returns-in-MinWidth c).After-arm_of arm.MinWidth c.in-MinWidth.is)
 
 pub returns-in-Precision : goal.returns-in-Precision
 returns-in-Precision c =
-    rw (c.take_precision.ensures, seen (goal.at.returns-in-Precision c).After-arm_of) (turn_precision (look (goal.at.returns-in-Precision c).After-arm_of) _ (src (goal.at.returns-in-Precision c).After-arm_of) _ _ _ (here (goal.at.returns-in-Precision c).After-arm_of) (chosen (goal.at.returns-in-Precision c).After-arm_of arm.Precision c.in-Precision.is))
+    rw (c.take_precision.ensures, seen (goal.at.returns-in-Precision c).After-arm_of) (turn_precision (look (goal.at.returns-in-Precision c).After-arm_of) c.args.edition (src (goal.at.returns-in-Precision c).After-arm_of) c.args.p c.args.c c.args.len (here (goal.at.returns-in-Precision c).After-arm_of) (chosen (goal.at.returns-in-Precision c).After-arm_of arm.Precision c.in-Precision.is))
 
 pub returns-in-Represent : goal.returns-in-Represent
 returns-in-Represent c =
-    rw c.represent.ensures (turn_represent (look (goal.at.returns-in-Represent c).After-arm_of) _ (src (goal.at.returns-in-Represent c).After-arm_of) _ _ _ (here (goal.at.returns-in-Represent c).After-arm_of) _ (chosen (goal.at.returns-in-Represent c).After-arm_of (arm.Represent _) c.in-Represent.is))
+    rw c.represent.ensures (turn_represent (look (goal.at.returns-in-Represent c).After-arm_of) c.args.edition (src (goal.at.returns-in-Represent c).After-arm_of) c.args.p c.args.c c.args.len (here (goal.at.returns-in-Represent c).After-arm_of) _ (chosen (goal.at.returns-in-Represent c).After-arm_of (arm.Represent _) c.in-Represent.is))
 
 pub returns-in-FillCluster : goal.returns-in-FillCluster
 returns-in-FillCluster c =
-    rw c.take_cluster.ensures (turn_cluster (look (goal.at.returns-in-FillCluster c).After-arm_of) _ (src (goal.at.returns-in-FillCluster c).After-arm_of) _ _ _ (here (goal.at.returns-in-FillCluster c).After-arm_of) (chosen (goal.at.returns-in-FillCluster c).After-arm_of arm.FillCluster c.in-FillCluster.is))
+    rw c.take_cluster.ensures (turn_cluster (look (goal.at.returns-in-FillCluster c).After-arm_of) c.args.edition (src (goal.at.returns-in-FillCluster c).After-arm_of) c.args.p c.args.c c.args.len (here (goal.at.returns-in-FillCluster c).After-arm_of) (chosen (goal.at.returns-in-FillCluster c).After-arm_of arm.FillCluster c.in-FillCluster.is))
 
 pub returns-in-Unexpected : goal.returns-in-Unexpected
 returns-in-Unexpected c =
-    c.fail.ensures ∙ turn_unexpected (look (goal.at.returns-in-Unexpected c).After-arm_of) _ (src (goal.at.returns-in-Unexpected c).After-arm_of) _ _ _ (here (goal.at.returns-in-Unexpected c).After-arm_of) (chosen (goal.at.returns-in-Unexpected c).After-arm_of arm.Unexpected c.in-Unexpected.is)
+    c.fail.ensures ∙ turn_unexpected (look (goal.at.returns-in-Unexpected c).After-arm_of) c.args.edition (src (goal.at.returns-in-Unexpected c).After-arm_of) c.args.p c.args.c c.args.len (here (goal.at.returns-in-Unexpected c).After-arm_of) (chosen (goal.at.returns-in-Unexpected c).After-arm_of arm.Unexpected c.in-Unexpected.is)
