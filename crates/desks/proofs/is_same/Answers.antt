@@ -1,0 +1,10 @@
+-- `desks::is_same` meets its contract. Assumes nothing.
+use mathlib.Core.Path.{sym}
+use Rattle.base.specs.CasesLaws.{cases}
+use Rattle.desks.proofs.is_same.Goals as goal
+
+pub returns-then-a-b : goal.returns-then-a-b
+returns-then-a-b c = sym (search cases)
+
+pub returns : goal.returns
+returns c = sym (search cases)

@@ -1,0 +1,51 @@
+-- `format::read_format` meets its contract. The loop's invariant is `Going`: nothing has failed, and the reading from here on is the whole
+-- reading. Assumes nothing.
+use native.Mathlib.Omega.{arith}
+use Prim.Native.Nat.{ℕ, ◌-◌}
+use mathlib.Core.Path.{◌≡◌, sym, subst, ◌∙◌}
+use mathlib.Core.Bool.{Bool, true, false}
+use mathlib.Core.List.{List}
+use Rattle.utf8.specs.Read.{read_at}
+use Rattle.utf8.specs.CharsLaws.{Stops}
+use Rattle.utf8.specs.declared.Read.TheVariants.{Char}
+use Rattle.utf8.proofs.Tags.{stopped}
+use Rattle.property.specs.Table.{properties_at}
+use Rattle.format.proofs.Going.{begins, ends, stands, Turned, turned}
+use Rattle.format.proofs.read_format.Goals as goal
+use Rattle.format.proofs.read_format.Goals.{After-is_fine}
+
+abbrev src : After-is_fine → List ℕ
+src t = t.args.format.now
+
+abbrev look : After-is_fine → ℕ → ℕ
+look t = properties_at t.args.table.now
+
+found : (t : After-is_fine) → read_at (src t) t.loop-code.p.at ≡ Char t.in-Char.code t.in-Char.len
+found t = sym t.read_char.ensures ∙ t.in-Char.is
+
+after : (t : After-is_fine) (y : Bool) → t.is_fine.result ≡ y
+    → Turned (look t) t.args.edition (src t) _ t.loop-code.invariant _ _ (found t) y t.take_turn-p.result
+after t y e = turned (look t) _ (src t) _ t.loop-code.invariant _ _ (found t) _ y t.take_turn-p.ensures (sym t.is_fine.ensures ∙ e)
+
+pub loop-code-init : goal.loop-code-init
+loop-code-init c = rw c.new-p.ensures (begins (properties_at c.args.table.now) _ _ c.requires.0 c.requires.1)
+
+-- no character is left
+pub returns-in_default : goal.returns-in_default
+returns-in_default c =
+    c.end.ensures
+    ∙ ends _ _ _ _ c.loop-code.invariant (subst Stops c.read_char.ensures (stopped c.read_char.result c.in_default.not-Char))
+
+pub take_turn-p-requires : goal.take_turn-p-requires
+take_turn-p-requires c =
+    (stands _ _ _ _ c.loop-code.invariant _ _ (sym c.read_char.ensures ∙ c.in-Char.is), c.requires.2)
+
+-- the arm has failed
+pub returns-then-not-is_fine : goal.returns-then-not-is_fine
+returns-then-not-is_fine c = c.end-then-not-is_fine.ensures ∙ after (goal.at.returns-then-not-is_fine c).After-is_fine false c.if-not-is_fine.true
+
+pub loop-code-smaller : goal.loop-code-smaller
+loop-code-smaller c = let o = after (goal.at.loop-code-smaller c).After-is_fine true c.if-not-is_fine.false in omega (arith, o.later, o.going.within)
+
+pub loop-code-preserved : goal.loop-code-preserved
+loop-code-preserved c = (after (goal.at.loop-code-preserved c).After-is_fine true c.if-not-is_fine.false).going

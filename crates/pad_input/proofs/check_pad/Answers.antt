@@ -1,0 +1,27 @@
+-- `pad_input::check_pad` meets its contract: the code takes the tests of `pad_check` in its order. Assumes nothing.
+use mathlib.Core.Path.{sym, ◌∙◌}
+use Rattle.fitness.specs.FitLaws.{fit_of}
+use Rattle.input.specs.InputLaws.{fine_of}
+use Rattle.pad_input.specs.Check.{pad_check}
+use Rattle.pad_input.proofs.Tests.{checks, hands}
+use Rattle.pad_input.proofs.check_pad.Goals as goal
+
+pub returns-then-is_long : goal.returns-then-is_long
+unfolding pad_check
+returns-then-is_long c = sym (search checks depth 14)
+
+pub check_fill-requires : goal.check_fill-requires
+check_fill-requires c =
+    fit_of _ (fine_of _ _ _ _ (sym c.check_input.ensures ∙ c.in-Fine.is)).fit
+
+pub returns-then-filled : goal.returns-then-filled
+unfolding pad_check
+returns-then-filled c = sym (search hands depth 14)
+
+pub returns-in-Refused : goal.returns-in-Refused
+unfolding pad_check
+returns-in-Refused c = sym (search checks depth 14)
+
+pub returns-else-filled : goal.returns-else-filled
+unfolding pad_check
+returns-else-filled c = sym (search hands depth 14)
