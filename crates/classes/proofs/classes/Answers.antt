@@ -4,12 +4,8 @@ use Rattle.base.specs.All.{all_good}
 use Rattle.base.specs.Range.{inside}
 use Rattle.classes.specs.Classes.{class_of}
 use Rattle.classes.specs.ClassesLaws.{class_table}
-use Rattle.classes.proofs.classes.Statement.{statement}
-use Rattle.classes.proofs.classes.Tie as tie
+use Rattle.classes.proofs.classes.Goals as goal
 
-returns : tie.Need-returns
+pub returns : goal.returns
 unfolding class_of inside all_good
 returns c = class_table _ refl
-
-pub classes_spec : {M : Type 1} → statement M
-classes_spec = tie.close (tie.spec returns)
