@@ -9,8 +9,7 @@ use Rattle.base.specs.All.{all_good}
 use Rattle.base.specs.AllLaws.{good_at}
 use Rattle.base.specs.PickLaws.{split_lt}
 use Rattle.words.specs.WordsLaws.{Outside, among, outside_other}
-use Rattle.fast_keywords.proofs.mask.Statement.{statement}
-use Rattle.fast_keywords.proofs.mask.Tie as tie
+use Rattle.fast_keywords.proofs.mask.Goals as goal
 
 -- the lengths that the code's `match` leaves behind, the greatest first
 abbrev shorter : List ℕ
@@ -26,16 +25,29 @@ eight n h o =
 whole : {n : ℕ} → n ≡ 8 → ◌≡◌ {A = ℕ} 18446744073709551615 (2 ^ (8 * n) - 1)
 whole e = rw e
 
-pub mask_spec : {M : Type 1} → statement M
-mask_spec =
-    tie.close
-    (tie.spec
-    (λ c. rw c.match.keys1)
-    (λ c. rw c.match.keys2)
-    (λ c. rw c.match.keys3)
-    (λ c. rw c.match.keys4)
-    (λ c. rw c.match.keys5)
-    (λ c. rw c.match.keys6)
-    (λ c. rw c.match.keys7)
-    (λ c. rw c.match.keys8)
-    (λ c. whole (eight _ c.before.requires c.match.rest)))
+pub returns-in-0 : goal.returns-in-0
+returns-in-0 c = rw c.in-0.is
+
+pub returns-in-1 : goal.returns-in-1
+returns-in-1 c = rw c.in-1.is
+
+pub returns-in-2 : goal.returns-in-2
+returns-in-2 c = rw c.in-2.is
+
+pub returns-in-3 : goal.returns-in-3
+returns-in-3 c = rw c.in-3.is
+
+pub returns-in-4 : goal.returns-in-4
+returns-in-4 c = rw c.in-4.is
+
+pub returns-in-5 : goal.returns-in-5
+returns-in-5 c = rw c.in-5.is
+
+pub returns-in-6 : goal.returns-in-6
+returns-in-6 c = rw c.in-6.is
+
+pub returns-in-7 : goal.returns-in-7
+returns-in-7 c = rw c.in-7.is
+
+pub returns-in_default : goal.returns-in_default
+returns-in_default c = whole (eight _ c.requires c.in_default.in_default-own.rest)

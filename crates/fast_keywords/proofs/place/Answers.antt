@@ -3,31 +3,14 @@ use Prim.Native.Nat.{ℕ, ◌+◌, ◌*◌, ◌/◌, ◌%◌}
 use native.Mathlib.Nat.{div-add-mod, add-mul-mod_self_left}
 use native.Mathlib.Omega.{arith}
 use mathlib.Core.Path.{◌≡◌, sym, ap, ◌∙◌}
-use borrow.Author.Rules.{rules}
 use Rattle.fast_keywords.specs.Slots.{place_by}
-use Rattle.fast_keywords.proofs.place.Statement.{statement}
-use Rattle.fast_keywords.proofs.place.Tie as tie
-
-mul-result : tie.Need-overflow-mul-result
-mul-result c = search rules
-
-add-result : tie.Need-overflow-add-result
-add-result c = search rules
-
-mul-result-2 : tie.Need-overflow-mul-result-2
-mul-result-2 c = search rules
-
-add-result-2 : tie.Need-overflow-add-result-2
-add-result-2 c = search rules
+use Rattle.fast_keywords.proofs.place.Goals as goal
 
 by_rest : (a b n : ℕ) → (a + 4 * (b + n % 16)) % 64 ≡ (a + 4 * (b + n)) % 64
 by_rest a b n =
     let whole : a + 4 * (b + n) ≡ a + 4 * (b + n % 16) + 64 * (n / 16) = omega (arith, div-add-mod n 16) in
     sym (ap (λ (x : ℕ). x % 64) whole ∙ add-mul-mod_self_left (a + 4 * (b + n % 16)) 64 (n / 16))
 
-returns : tie.Need-returns
+pub returns : goal.returns
 unfolding place_by
 returns c = by_rest _ _ _
-
-pub place_spec : {M : Type 1} → statement M
-place_spec = tie.close (tie.spec mul-result add-result mul-result-2 add-result-2 returns)
