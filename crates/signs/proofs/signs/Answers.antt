@@ -3,12 +3,8 @@ use mathlib.Core.Path.{refl}
 use Rattle.base.specs.All.{all_good}
 use Rattle.words.specs.Words.{first_in}
 use Rattle.signs.specs.TableLaws.{sign_table}
-use Rattle.signs.proofs.signs.Statement.{statement}
-use Rattle.signs.proofs.signs.Tie as tie
+use Rattle.signs.proofs.signs.Goals as goal
 
-returns : tie.Need-returns
+pub returns : goal.returns
 unfolding all_good first_in
 returns c = sign_table _ refl
-
-pub signs_spec : {M : Type 1} → statement M
-signs_spec = tie.close (tie.spec returns)
