@@ -1,0 +1,12 @@
+-- `skip::skip` meets its contract. The loop's invariant is the contract itself, at the place that was come to; a block is passed as far as it was
+-- counted. Assumes nothing.
+use Prim.Native.Nat.{◌-◌}
+use lib.ListN.{length}
+use Rattle.skip.specs.Skip.{stays_but, Passed}
+use Rattle.skip.proofs.skip.Given as goal
+
+abbrev pub invariant-loop-i : goal.invariant-loop-i
+invariant-loop-i l = Passed (stays_but l.a l.b l.c) l.source l.at l.i
+
+abbrev pub decreases-loop-i : goal.decreases-loop-i
+decreases-loop-i l = length l.source - l.i
