@@ -13,6 +13,20 @@ pub fn text_buffer() -> [u8; 524288]
     [0; 524288]
 }
 
+// 4,096 zeros. Their length is what lending them as a slice asks.
+pub fn buffer() -> [u8; 4096]
+    ensures { 4096 ≡ length result }
+{
+    [0; 4096]
+}
+
+// The same of 65,536.
+pub fn large_buffer() -> [u8; 65536]
+    ensures { 65536 ≡ length result }
+{
+    [0; 65536]
+}
+
 // Reads into the start of text until it is full or the input ends, and answers how many bytes it read.
 pub fn read_full(input: &mut impl Read, text: &mut [u8]) -> io::Result<usize>
     ensures { ReadsAtMost result text.new }

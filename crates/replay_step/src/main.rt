@@ -10,6 +10,8 @@ ghost use Rattle.stepping.specs.Invariant.{Ok};
 
 use lexer::What;
 use state::State;
+use std::io;
+use std::rt::Files;
 use utf8::Utf8Check;
 
 // The ten numbers of a record, of a token that was found at this depth; answers the place after them, or 0 where one differs.
@@ -112,41 +114,41 @@ fn source_agrees(text: &[u8], at: usize, source: &[u8], table: &[u32]) -> bool
 fn agrees(text: &[u8], at: usize, table: &[u32]) -> bool
     requires { FitTable table.now }
 {
-    let mut bytes = io::buffer();
+    let mut bytes = lines::buffer();
     let n = lines::hex(text, at, &mut bytes);
     source_agrees(text, lines::past(text, at, b' '), &bytes[..n], table)
 }
 
-fn replay_lines(name: &[u8], text: &[u8], table: &[u32])
+fn replay_lines(rt: &impl Print, name: &[u8], text: &[u8], table: &[u32]) -> io::Result<()>
     requires { FitTable table.now }
 {
     let mut tally = lines::Tally::new();
     while tally.at < text.len() {
-        tally = tally.count(name, text, agrees(text, tally.at, table));
+        tally = tally.count(rt, name, text, agrees(text, tally.at, table))?;
     }
-    tally.print(name);
+    tally.print(rt, name)
 }
 
-fn replay(name: &[u8], table: &[u32])
+fn replay(rt: &(impl Files + Print + Eprint), name: &[u8], table: &[u32]) -> io::Result<()>
     requires { FitTable table.now }
 {
     let mut text = lines::text_buffer();
-    let n = lines::read_file(name, &mut text);
-    replay_lines(name, &text[..n], table);
+    let n = lines::read_file(rt, name, &mut text)?;
+    replay_lines(rt, name, &text[..n], table)
 }
 
-fn replay_both(table: &[u32])
+fn replay_both(rt: &(impl Files + Print + Eprint), table: &[u32]) -> io::Result<()>
     requires { FitTable table.now }
 {
-    replay(b"steps.txt", table);
-    replay(b"wrong.txt", table);
+    replay(rt, b"steps.txt", table)?;
+    replay(rt, b"wrong.txt", table)
 }
 
-fn main() {
+fn main(rt: HostRuntime) -> io::Result<()> {
     let mut row = tables::row_buffer();
-    let n = tables::full_table(b"full.kpt", &mut row);
+    let n = tables::full_table(&rt, b"full.kpt", &mut row)?;
     if n == 0 {
-        return;
+        return Ok(());
     }
-    replay_both(&row[..n]);
+    replay_both(&rt, &row[..n])
 }
