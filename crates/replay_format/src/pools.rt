@@ -101,7 +101,7 @@ pub fn agrees(text: &[u8], at: usize, bytes: &[u8], entries: &[u32], counts: Cou
     if counts.bytes != want.bytes {
         return false;
     }
-    if *bytes != byte_row[..] {
+    if bytes != &byte_row[..] {
         return false;
     }
     lines::same_numbers(entries, &entry_row)

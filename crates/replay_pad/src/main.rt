@@ -26,7 +26,7 @@ fn edition_of(field: usize) -> u32 {
 fn bytes_agree(text: &[u8], at: usize, buffer: &[u8]) -> bool {
     let mut wanted = lines::buffer();
     let n = lines::hex(text, at, &mut wanted);
-    n < wanted.len() && *buffer == wanted[..]
+    n < wanted.len() && buffer == &wanted[..]
 }
 
 // Whether the fields `NUMBER LENGTH PLACE BYTES` at a place of the text are what was said and written.

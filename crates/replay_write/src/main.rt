@@ -61,7 +61,7 @@ fn past_six(text: &[u8], at: usize) -> usize {
 fn bytes_agree(text: &[u8], at: usize, buffer: &[u8]) -> bool {
     let mut wanted = lines::buffer();
     let n = lines::hex(text, at, &mut wanted);
-    n < wanted.len() && *buffer == wanted[..]
+    n < wanted.len() && buffer == &wanted[..]
 }
 
 // Whether the fields `NUMBER LENGTH PLACE BYTES` at a place of the text are what was said and written.
