@@ -9,14 +9,14 @@ ghost use Rattle.state.specs.State.{start_state};
 ghost use Rattle.stepping.specs.Invariant.{Ok};
 
 use lexer::What;
-use state::State;
+use state::{Lexer, State};
 use std::io;
 use std::rt::Files;
 use utf8::Utf8Check;
 
 // The ten numbers of a record, of a token that was found at this depth; answers the place after them, or 0 where one differs.
-fn same_record(text: &[u8], at: usize, token: token::Token, depth: usize, state: State) -> usize {
-    let place = state.lexer.place;
+fn same_record(text: &[u8], at: usize, token: token::Token, depth: usize, lexer: Lexer) -> usize {
+    let place = lexer.place;
     let start = place.span.start;
     let end = place.span.end;
     let at = lines::same(text, at, token.kind as usize);
@@ -28,7 +28,7 @@ fn same_record(text: &[u8], at: usize, token: token::Token, depth: usize, state:
         start.column.0,
         end.line,
         end.column.0,
-        state.lexer.indent,
+        lexer.indent,
     ];
     let at = lines::same_all(text, at, &others);
     lines::same(text, at, depth)
@@ -41,34 +41,28 @@ fn same_end(
     record_at: usize,
     status: u32,
     count: u32,
-    state: State,
+    lexer: Lexer,
 ) -> bool {
     if record_at == 0 {
         return false;
     }
     let end = [status, count];
     let at = lines::same_all(text, at, &end);
-    lines::same(text, at, state.lexer.place.current_byte.0) != 0
+    lines::same(text, at, lexer.place.current_byte.0) != 0
 }
 
 // The status is 0 at the end, 1 where stuck, and 105 where there is no room for a mode; the Error that stands still has a record, and leaves the
 // modes.
-fn ends(text: &[u8], at: usize, record_at: usize, what: What, count: u32, state: State) -> bool
+fn ends(text: &[u8], at: usize, record_at: usize, what: What, count: u32, lexer: Lexer) -> bool
     requires { count ≤ 4097 }
 {
     match what {
         What::Stuck => {
-            let last = same_record(
-                text,
-                record_at,
-                token::token_of(0),
-                state.lexer.depth,
-                state,
-            );
-            same_end(text, at, last, 1, count + 1, state)
+            let last = same_record(text, record_at, token::token_of(0), lexer.depth, lexer);
+            same_end(text, at, last, 1, count + 1, lexer)
         }
-        What::ModesFull => same_end(text, at, record_at, 105, count, state),
-        _ => same_end(text, at, record_at, 0, count, state),
+        What::ModesFull => same_end(text, at, record_at, 105, count, lexer),
+        _ => same_end(text, at, record_at, 0, count, lexer),
     }
 }
 
@@ -87,10 +81,10 @@ fn steps_agree(text: &[u8], at: usize, source: &[u8], table: &[u32]) -> bool
         state = step.state;
         match what {
             What::Token(token) => {
-                record_at = same_record(text, record_at, token, depth, state);
+                record_at = same_record(text, record_at, token, depth, state.lexer);
             }
             _ => {
-                return ends(text, at, record_at, what, k, state);
+                return ends(text, at, record_at, what, k, state.lexer);
             }
         }
     }
