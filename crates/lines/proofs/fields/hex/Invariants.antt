@@ -1,4 +1,4 @@
--- `lines::hex`: a turn fills one byte more of `out`, whose length stays.
+-- `lines::hex` meets its contract: a turn fills one byte more of `out`, whose length stays. Assumes nothing.
 use Rattle.std.proofs.Common.{length, ◌-◌, ◌≤◌}
 use Rattle.lines.proofs.fields.hex.Given as goal
 

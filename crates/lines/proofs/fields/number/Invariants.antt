@@ -1,4 +1,4 @@
--- `lines::number`: a number takes a further digit only where it has at most 18.
+-- `lines::number` meets its contract: a number takes a further digit only where it has at most 18. Assumes nothing.
 use Rattle.std.proofs.Common.{length, ◌-◌, ◌<◌}
 use Rattle.lines.proofs.fields.number.Given as goal
 

@@ -1,4 +1,4 @@
--- `lines::past`: the search starts at the place, and never goes back.
+-- `lines::past` meets its contract: the search starts at the place, and never goes back. Assumes nothing.
 use Rattle.std.proofs.Common.{length, ◌-◌, ◌≤◌}
 use Rattle.lines.proofs.fields.past.Given as goal
 

@@ -1,4 +1,4 @@
--- `lines::same_all`: a difference stays from field to field.
+-- `lines::same_all` meets its contract: a difference stays from field to field. Assumes nothing.
 use Rattle.std.proofs.Common.{length, ◌-◌, ◌≡◌}
 use Rattle.lines.proofs.fields.same_all.Given as goal
 

@@ -1,4 +1,4 @@
--- `lines::same_numbers`: rows of other lengths are not the same.
+-- `lines::same_numbers` meets its contract: it is safe and ends, and rows of other lengths are not the same. Assumes nothing.
 use Rattle.std.proofs.Common.{length, ◌-◌, ◌≡◌}
 use Rattle.lines.proofs.rows.same_numbers.Given as goal
 
