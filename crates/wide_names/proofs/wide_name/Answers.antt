@@ -67,12 +67,12 @@ returns c =
     let i = (reach_of l).byte.0 in
     let cs = chars_from s (reach_of l) in
     let point = c.decode-first.result in
-    let at : At s i point.code point.len = subst (λ (x : Reach). At s x.byte.0 point.code point.len) c.reach-reach.ensures (first (goal.at.returns c).After-is_id_start).at in
+    let at : At s i point.code point.len = subst (λ (x : Reach). At s x.byte.0 point.code point.len) c.reach-reach.ensures (first (goal.at.returns c).After-run_with-run).at in
     let byte : byte_at s i ≡ get_or s i 0 = rw (lt-ltb i (length s) p.stands.1) in
     let high = wide s i point.code point.len p.stands.0.well p.stands.1 (omega (arith, byte, p.fit_table.1)) at in
     let begins = ap xid_start (sym c.run_with-run.ensures.has) ∙ sym c.is_id_start.ensures ∙ c.if-not-is_id_start.false in
     let end : c.end_of_parts-ended.result.reach ≡ name_end look cs l =
-    c.end_of_parts-ended.ensures ∙ name_end_at look s l c.reach-reach.ensures (first (goal.at.returns c).After-is_id_start).at c.along.ensures
+    c.end_of_parts-ended.ensures ∙ name_end_at look s l c.reach-reach.ensures (first (goal.at.returns c).After-run_with-run).at c.along.ensures
     in
     finds_to id c.end_of_parts-ended.result.reach c.to.ensures
     (sym (wide_name s table l point.code point.len at high begins refl)
