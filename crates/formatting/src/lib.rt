@@ -3,118 +3,121 @@
 // program for one does.
 #![tactic(auto)]
 
-ghost use Rattle.std.specs.Prelude.{◌≡◌};
+ghost use Rattle.std.specs.Prelude.{◌≡◌, IfOk};
 
 use format_options::{Fill, OptionalNumber, Options, Shown};
 use input::Refusal;
-use libc::STDOUT_FILENO;
 use parse::{After, Parsed, answer};
 use pool_rows::Counts;
+use std::io;
 
 // Format strings over this many bytes are refused.
 const TEXT_MOST: usize = 1024;
 
 // A space and a number.
-fn print_number(n: u64) {
-    io::write_all(STDOUT_FILENO, b" ");
-    io::print_decimal(STDOUT_FILENO, n);
+fn print_number(rt: &impl Print, n: u64) -> io::Result<()> {
+    rt.print(" ")?;
+    rt.print(n)
 }
 
 // A space and the sign for none.
-fn print_none() {
-    io::write_all(STDOUT_FILENO, b" -");
+fn print_none(rt: &impl Print) -> io::Result<()> {
+    rt.print(" -")
 }
 
-fn print_given(given: OptionalNumber) {
+fn print_given(rt: &impl Print, given: OptionalNumber) -> io::Result<()> {
     match given {
-        OptionalNumber::Number(n) => print_number(n as u64),
-        OptionalNumber::Nothing => print_none(),
+        OptionalNumber::Number(n) => print_number(rt, n as u64),
+        OptionalNumber::Nothing => print_none(rt),
     }
 }
 
-fn print_shown(shown: Shown) {
+fn print_shown(rt: &impl Print, shown: Shown) -> io::Result<()> {
     match shown {
         Shown::As(representation) => print_number(
+            rt,
             format_options::representation_number(representation) as u64,
         ),
-        Shown::Plain => print_none(),
+        Shown::Plain => print_none(rt),
     }
 }
 
-fn print_fill(fill: Fill) {
+fn print_fill(rt: &impl Print, fill: Fill) -> io::Result<()> {
     match fill {
         Fill::Is(part) => {
-            print_number(part.place as u64);
-            print_number(part.len as u64);
+            print_number(rt, part.place as u64)?;
+            print_number(rt, part.len as u64)
         }
         Fill::NoFill => {
-            print_none();
-            print_none();
+            print_none(rt)?;
+            print_none(rt)
         }
     }
 }
 
 // Alignment, width, precision, representation, the fill's place, length and index.
-fn print_options(options: Options, index: OptionalNumber) {
+fn print_options(rt: &impl Print, options: Options, index: OptionalNumber) -> io::Result<()> {
     let alignment = options.alignment;
     let width = options.width;
     let precision = options.precision;
     let representation = options.representation;
     let fill = options.fill;
-    io::write_all(STDOUT_FILENO, b"options");
-    print_number(format_options::alignment_number(alignment) as u64);
-    print_given(width);
-    print_given(precision);
-    print_shown(representation);
-    print_fill(fill);
-    print_given(index);
-    io::write_all(STDOUT_FILENO, b"\n");
+    rt.print("options")?;
+    print_number(rt, format_options::alignment_number(alignment) as u64)?;
+    print_given(rt, width)?;
+    print_given(rt, precision)?;
+    print_shown(rt, representation)?;
+    print_fill(rt, fill)?;
+    print_given(rt, index)?;
+    rt.println("")
 }
 
 // A refusal: its number, and its place or value.
-fn print_refused(number: u32, value: u64) {
-    io::write_all(STDOUT_FILENO, b"refused");
-    print_number(number as u64);
-    print_number(value);
-    io::write_all(STDOUT_FILENO, b"\n");
+fn print_refused(rt: &impl Print, number: u32, value: u64) -> io::Result<()> {
+    rt.print("refused")?;
+    print_number(rt, number as u64)?;
+    print_number(rt, value)?;
+    rt.println("")
 }
 
-fn print_answer(parsed: Parsed) {
+fn print_answer(rt: &impl Print, parsed: Parsed) -> io::Result<()> {
     match parsed {
-        Parsed::Read { options, index } => print_options(options, index),
-        _ => print_refused(answer::number_of(parsed), answer::value_of(parsed)),
+        Parsed::Read { options, index } => print_options(rt, options, index),
+        _ => print_refused(rt, answer::number_of(parsed), answer::value_of(parsed)),
     }
 }
 
 // A byte in two hex digits.
-fn print_byte(byte: u8) {
-    io::print_hex(STDOUT_FILENO, byte as u64, 2);
+fn print_byte(rt: &impl Print, byte: u8) -> io::Result<()> {
+    print!(rt; "{byte:02x}")
 }
 
 // The bytes from a place to before another, in hex; no byte past the row's end.
-fn print_bytes(bytes: &[u8], start: usize, end: usize) {
+fn print_bytes(rt: &impl Print, bytes: &[u8], start: usize, end: usize) -> io::Result<()> {
     for i in start..end {
         if i < bytes.len() {
-            print_byte(bytes[i]);
+            print_byte(rt, bytes[i])?;
         }
     }
+    Ok(())
 }
 
 // A space, and a string by where it starts and how long it is.
-fn print_string(bytes: &[u8], start: u32, long: u32) {
+fn print_string(rt: &impl Print, bytes: &[u8], start: u32, long: u32) -> io::Result<()> {
     let first = start as usize;
     let end = first + long as usize;
-    io::write_all(STDOUT_FILENO, b" ");
-    print_bytes(bytes, first, end);
+    rt.print(" ")?;
+    print_bytes(rt, bytes, first, end)
 }
 
 // The strings of the first n entries.
-fn print_strings(bytes: &[u8], entries: &[u32], n: usize) {
+fn print_strings(rt: &impl Print, bytes: &[u8], entries: &[u32], n: usize) -> io::Result<()> {
     for k in 0..n {
         if k < entries.len() / 2 {
-            print_string(bytes, entries[2 * k], entries[2 * k + 1]);
+            print_string(rt, bytes, entries[2 * k], entries[2 * k + 1])?;
         }
     }
+    Ok(())
 }
 
 // Parses a format string with the small table and an empty pool in these rows. One that is too long is refused first, and then they stay as
@@ -135,16 +138,16 @@ fn parse_small(text: &[u8], bytes: &mut [u8], entries: &mut [u32]) -> After {
 }
 
 // Prints what a format string is parsed as: its options or its refusal, and then the strings of the pool.
-pub fn print_format(text: &[u8])
-    ensures { result ≡ tt }
+pub fn print_format(rt: &impl Print, text: &[u8]) -> io::Result<()>
+    ensures { IfOk result (λ r. r ≡ tt) }
 {
     let mut bytes = [0u8; 1024];
     let mut entries = [0u32; 128];
     let after = parse_small(text, &mut bytes, &mut entries);
     let answer = after.answer;
     let counts = after.counts;
-    print_answer(answer);
-    io::write_all(STDOUT_FILENO, b"pool");
-    print_strings(&bytes, &entries, counts.entries as usize);
-    io::write_all(STDOUT_FILENO, b"\n");
+    print_answer(rt, answer)?;
+    rt.print("pool")?;
+    print_strings(rt, &bytes, &entries, counts.entries as usize)?;
+    rt.println("")
 }

@@ -8,7 +8,7 @@
 --     by_input_lem                                      what holds of every answer that carries a refusal, and of r, holds of what the checks make of r
 -- Assumes nothing.
 use Rattle.std.specs.Prelude.{ℕ, ◌<◌, ◌≤◌, ◌≡◌, Bool, List, length}
-use Rattle.std.proofs.Common.{arith, sym, ap, subst, ◌∙◌}
+use Rattle.std.proofs.Common.{arith, sym, ap, subst}
 use Rattle.std.proofs.Math.Path.{refl}
 use Rattle.std.proofs.Math.Bool.{true, false}
 use Rattle.std.proofs.Math.Dec.{ltb}
@@ -33,7 +33,7 @@ use Rattle.input.specs.declared.Input.TheVariants.{Fine, Refused}
 module _ (most : ℕ) (bytes table : List ℕ) (edition : ℕ) where
   pub is_long : most < length bytes → input_check most bytes table edition ≡ Refused TooLong
   unfolding input_check
-  is_long h = rw (lt-ltb most (length bytes) h)
+  is_long h = rw (lt-ltb most (length bytes) h) refl
 
   pub is_none : length bytes ≤ most → is_edition edition ≡ false → input_check most bytes table edition ≡ Refused BadEdition
   unfolding input_check
@@ -60,27 +60,37 @@ module _ (most : ℕ) (bytes table : List ℕ) (edition : ℕ) where
   unfolding input_check
   is_fine_lem g = rw (le-ltb most (length bytes) g.short, g.known, g.fit, fine_of_well 0 bytes g.well)
 
-  -- what holds of each answer where it is given holds of the answer
+  -- what holds of each answer where it is given holds of what the tests come to
+  by_tests : (P : Input → Type 0) → (most < length bytes → P (Refused TooLong))
+      → (length bytes ≤ most → is_edition edition ≡ false → P (Refused BadEdition))
+      → (length bytes ≤ most → (i : ℕ) → table_check table ≡ fitness.BadTable i → P (Refused (BadTable i)))
+      → ((n : ℕ) → Damaged bytes n → P (Refused (BadUtf8 n))) → ((n : ℕ) → Arriving bytes n → P (Refused (CutUtf8 n)))
+      → (Readable most bytes table edition → P Fine)
+      → P (pick (ltb most (length bytes)) (Refused TooLong) (pick (is_edition edition) (on_table (table_check table) (on_utf8 (check_from 0 bytes))) (Refused BadEdition)))
+  by_tests P long none table-bad bad cut fine = go (ltb most (length bytes)) (is_edition edition) (table_check table) (check_from 0 bytes) refl refl refl refl
+    where
+      go : (b k : Bool) (t : TableCheck) (u : Utf8Check) → ltb most (length bytes) ≡ b → is_edition edition ≡ k → table_check table ≡ t → check_from 0 bytes ≡ u
+          → P (pick b (Refused TooLong) (pick k (on_table t (on_utf8 u)) (Refused BadEdition)))
+      go true k t u h j f w = long (ltb-true _ _ h)
+      go false false t u h j f w = none (ltb-false _ _ h) j
+      go false true (fitness.BadTable i) u h j f w = table-bad (ltb-false _ _ h) i f
+      go false true fitness.Fit (utf8.BadAt n) h j f w = bad n (check_is bytes (utf8.BadAt n) w)
+      go false true fitness.Fit (utf8.CutAt n) h j f w = cut n (check_is bytes (utf8.CutAt n) w)
+      go false true fitness.Fit utf8.Fine h j f w = fine (record { short = ltb-false _ _ h; known = j; fit = f; well = well_of_fine 0 bytes w })
+
+  -- of the answer itself
   pub by_check_lem : (P : Input → Type 0) → (most < length bytes → P (Refused TooLong))
       → (length bytes ≤ most → is_edition edition ≡ false → P (Refused BadEdition))
       → (length bytes ≤ most → (i : ℕ) → table_check table ≡ fitness.BadTable i → P (Refused (BadTable i)))
       → ((n : ℕ) → Damaged bytes n → P (Refused (BadUtf8 n))) → ((n : ℕ) → Arriving bytes n → P (Refused (CutUtf8 n)))
       → (Readable most bytes table edition → P Fine) → P (input_check most bytes table edition)
   unfolding input_check
-  by_check_lem P long none table-bad bad cut fine = by_tests (ltb most (length bytes)) (is_edition edition) (table_check table) (check_from 0 bytes) refl refl refl refl
-    where
-      by_tests : (b k : Bool) (t : TableCheck) (u : Utf8Check) → ltb most (length bytes) ≡ b → is_edition edition ≡ k → table_check table ≡ t → check_from 0 bytes ≡ u
-          → P (pick b (Refused TooLong) (pick k (on_table t (on_utf8 u)) (Refused BadEdition)))
-      by_tests true k t u h j f w = long (ltb-true _ _ h)
-      by_tests false false t u h j f w = none (ltb-false _ _ h) j
-      by_tests false true (fitness.BadTable i) u h j f w = table-bad (ltb-false _ _ h) i f
-      by_tests false true fitness.Fit (utf8.BadAt n) h j f w = bad n (check_is bytes (utf8.BadAt n) w)
-      by_tests false true fitness.Fit (utf8.CutAt n) h j f w = cut n (check_is bytes (utf8.CutAt n) w)
-      by_tests false true fitness.Fit utf8.Fine h j f w = fine (record { short = ltb-false _ _ h; known = j; fit = f; well = well_of_fine 0 bytes w })
+  by_check_lem = by_tests
 
   pub fine_of : input_check most bytes table edition ≡ Fine → Readable most bytes table edition
+  unfolding input_check
   fine_of =
-      by_check_lem (λ (c : Input). c ≡ Fine → Readable most bytes table edition) (λ h e. absurd (other e)) (λ h k e. absurd (other e)) (λ h i f e. absurd (other e))
+      by_tests (λ (c : Input). c ≡ Fine → Readable most bytes table edition) (λ h e. absurd (other e)) (λ h k e. absurd (other e)) (λ h i f e. absurd (other e))
       (λ n w e. absurd (other e)) (λ n w e. absurd (other e)) (λ g e. g)
     where
       other : {x : Refusal} → Refused x ≡ Fine → ⊥
@@ -97,15 +107,17 @@ module _ (most : ℕ) (bytes table : List ℕ) (edition : ℕ) where
     place (Refused y) = place_of y
 
     pub bad_of : input_check most bytes table edition ≡ Refused x → number_of x ≡ bad_utf8 → Damaged bytes (place_of x)
+    unfolding input_check
     bad_of =
-        by_check_lem (λ (c : Input). c ≡ Refused x → number_of x ≡ bad_utf8 → Damaged bytes (place_of x)) (λ h e m. absurd (omega (arith, ap told e)))
+        by_tests (λ (c : Input). c ≡ Refused x → number_of x ≡ bad_utf8 → Damaged bytes (place_of x)) (λ h e m. absurd (omega (arith, ap told e)))
         (λ h k e m. absurd (omega (arith, ap told e)))
         (λ h i f e m. absurd (omega (arith, ap told e))) (λ n w e m. subst (Damaged bytes) (ap place e) w)
         (λ n w e m. absurd (omega (arith, ap told e))) (λ g e m. absurd (omega (arith, ap told e)))
 
     pub cut_of : input_check most bytes table edition ≡ Refused x → number_of x ≡ cut_utf8 → Arriving bytes (place_of x)
+    unfolding input_check
     cut_of =
-        by_check_lem (λ (c : Input). c ≡ Refused x → number_of x ≡ cut_utf8 → Arriving bytes (place_of x)) (λ h e m. absurd (omega (arith, ap told e)))
+        by_tests (λ (c : Input). c ≡ Refused x → number_of x ≡ cut_utf8 → Arriving bytes (place_of x)) (λ h e m. absurd (omega (arith, ap told e)))
         (λ h k e m. absurd (omega (arith, ap told e)))
         (λ h i f e m. absurd (omega (arith, ap told e))) (λ n w e m. absurd (omega (arith, ap told e)))
         (λ n w e m. subst (Arriving bytes) (ap place e) w) (λ g e m. absurd (omega (arith, ap told e)))
@@ -118,19 +130,21 @@ module _ (most : ℕ) (bytes table : List ℕ) (edition : ℕ) where
 
     pub only_bad : (number r ≡ bad_utf8 → ⊥) → number (answer (input_check most bytes table edition)) ≡ bad_utf8
         → Damaged bytes (place (answer (input_check most bytes table edition)))
-    only_bad never = go (input_check most bytes table edition) refl
-      where
-        go : (c : Input) → input_check most bytes table edition ≡ c → number (answer c) ≡ bad_utf8 → Damaged bytes (place (answer c))
-        go Fine e m = absurd (never m)
-        go (Refused x) e m = subst (Damaged bytes) (sym (places x)) (bad_of x e (sym (numbers x) ∙ m))
+    unfolding input_check
+    only_bad never =
+        by_tests (λ (c : Input). number (answer c) ≡ bad_utf8 → Damaged bytes (place (answer c))) (λ h m. absurd (omega (arith, numbers TooLong, m)))
+        (λ h k m. absurd (omega (arith, numbers BadEdition, m)))
+        (λ h i f m. absurd (omega (arith, numbers (BadTable i), m))) (λ n w m. subst (Damaged bytes) (sym (places (BadUtf8 n))) w)
+        (λ n w m. absurd (omega (arith, numbers (CutUtf8 n), m))) (λ g m. absurd (never m))
 
     pub only_cut : (number r ≡ cut_utf8 → ⊥) → number (answer (input_check most bytes table edition)) ≡ cut_utf8
         → Arriving bytes (place (answer (input_check most bytes table edition)))
-    only_cut never = go (input_check most bytes table edition) refl
-      where
-        go : (c : Input) → input_check most bytes table edition ≡ c → number (answer c) ≡ cut_utf8 → Arriving bytes (place (answer c))
-        go Fine e m = absurd (never m)
-        go (Refused x) e m = subst (Arriving bytes) (sym (places x)) (cut_of x e (sym (numbers x) ∙ m))
+    unfolding input_check
+    only_cut never =
+        by_tests (λ (c : Input). number (answer c) ≡ cut_utf8 → Arriving bytes (place (answer c))) (λ h m. absurd (omega (arith, numbers TooLong, m)))
+        (λ h k m. absurd (omega (arith, numbers BadEdition, m)))
+        (λ h i f m. absurd (omega (arith, numbers (BadTable i), m))) (λ n w m. absurd (omega (arith, numbers (BadUtf8 n), m)))
+        (λ n w m. subst (Arriving bytes) (sym (places (CutUtf8 n))) w) (λ g m. absurd (never m))
 
 -- what the checks make of r: a refusal, or r as it is
 pub by_input_lem : {A : Type 0} (f : Refusal → A) (P : (A → A) → Type 0) (c : Input) → ((x : Refusal) → P (λ _. f x)) → P (λ r. r)

@@ -1,7 +1,7 @@
 -- A search in the table needs to look only at the keyword that has the name's place.
 --     compared, eight    a name is compared with the first bytes of the eight that stand at its place
 --     differs            a name that has another first or second byte than those is no keyword
---     by_length          a name that is too short or too long is no keyword
+--     by_length          a name that is too short or too long is no keyword: too_short, too_long
 --     by_none            no keyword has a place that the code's `match` leaves over
 -- Assumes nothing.
 use mathlib.Core.Path.{◌≡◌, refl, sym, ap, ◌∙◌}
@@ -140,6 +140,13 @@ by_length l out =
     refl
     keywords
     refl
+
+-- the same by each bound, as `keyword` asks for it
+pub too_short : (l : List ℕ) → length l < 2 → keyword_of l ≡ id
+too_short l h = sym (by_length l (λ b. omega (arith, b.0)))
+
+pub too_long : (l : List ℕ) → 8 < length l → keyword_of l ≡ id
+too_long l h = sym (by_length l (λ b. omega (arith, b.1)))
 
 -- the places that keywords have, the greatest first, as the code's `match` leaves them behind
 abbrev pub places : List ℕ

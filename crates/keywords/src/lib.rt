@@ -108,6 +108,7 @@ fn kind_at(place: usize) -> u8
 }
 
 // The kind of the keyword that the `len` bytes at `at` are, or Id.
+#[tactic(auto, using(crate::proofs::Narrow::too_short, crate::proofs::Narrow::too_long))]
 pub fn keyword(source: &[u8], at: usize, len: usize) -> u8
     ensures { result ≡ keyword_of (take len (drop at source.now)) }
 {

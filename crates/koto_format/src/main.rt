@@ -1,11 +1,12 @@
 // Prints the options of the format string on standard input, of at most 1,024 bytes, and then the strings of the pool.
 #![tactic(auto)]
 
-use libc::STDIN_FILENO;
+use std::io;
 
-fn main() {
+fn main(rt: HostRuntime) -> io::Result<()> {
     // One byte more than a format string may have, so that one too many is seen.
     let mut text = [0u8; 1025];
-    let n = io::read_full(STDIN_FILENO, &mut text);
-    formatting::print_format(&text[..n]);
+    let mut input = rt.reader();
+    let n = lines::read_full(&mut input, &mut text)?;
+    formatting::print_format(&rt, &text[..n])
 }

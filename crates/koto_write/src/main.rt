@@ -2,7 +2,7 @@
 // them and the fill's bytes in hex, each `-` where there is none. With the small table, and at most 1,024 bytes of a format string.
 #![tactic(auto)]
 
-use libc::{STDIN_FILENO, STDOUT_FILENO};
+use std::io;
 use writer::{Written, answer};
 
 // Whether the field at a place of the text is there, and no `-`.
@@ -19,28 +19,27 @@ fn number_at(text: &[u8], at: usize) -> u64 {
 }
 
 // A refusal: its number and its place.
-fn print_refused(written: Written) {
-    io::write_all(STDOUT_FILENO, b"refused ");
-    io::print_decimal(STDOUT_FILENO, answer::number_of(written) as u64);
-    io::write_all(STDOUT_FILENO, b" ");
-    io::print_decimal(STDOUT_FILENO, answer::place_of(written) as u64);
-    io::write_all(STDOUT_FILENO, b"\n");
+fn print_refused(rt: &impl Print, written: Written) -> io::Result<()> {
+    let number = answer::number_of(written);
+    let place = answer::place_of(written);
+    println!(rt; "refused {number} {place}")
 }
 
-fn print_answer(written: Written, buffer: &[u8]) {
+fn print_answer(rt: &impl Print, written: Written, buffer: &[u8]) -> io::Result<()> {
     match written {
         Written::Length(n) => {
             if n <= buffer.len() {
-                io::write_all(STDOUT_FILENO, b"format ");
-                io::write_all(STDOUT_FILENO, &buffer[..n]);
-                io::write_all(STDOUT_FILENO, b"\n");
+                rt.print("format ")?;
+                rt.write_all(&buffer[..n])?;
+                rt.println("")?;
             }
+            Ok(())
         }
-        _ => print_refused(written),
+        _ => print_refused(rt, written),
     }
 }
 
-fn print_format(text: &[u8]) {
+fn print_format(rt: &impl Print, text: &[u8]) -> io::Result<()> {
     let width_at = lines::past(text, 0, b' ');
     let precision_at = lines::past(text, width_at, b' ');
     let representation_at = lines::past(text, precision_at, b' ');
@@ -60,11 +59,12 @@ fn print_format(text: &[u8]) {
         input::WITH_GB9C,
         &mut buffer,
     );
-    print_answer(written, &buffer);
+    print_answer(rt, written, &buffer)
 }
 
-fn main() {
+fn main(rt: HostRuntime) -> io::Result<()> {
     let mut text = [0u8; 4096];
-    let n = io::read_full(STDIN_FILENO, &mut text);
-    print_format(&text[..n]);
+    let mut input = rt.reader();
+    let n = lines::read_full(&mut input, &mut text)?;
+    print_format(&rt, &text[..n])
 }

@@ -1,7 +1,7 @@
 // The fields of a line: one case a line, fields separated by one space, bytes in hex and numbers in decimal (tools/README.md). What is read is
 // compared by running, so the contracts say no more than what a caller needs to be safe and to end.
 ghost use Rattle.std.specs.Prelude.{◌≡◌, ◌+◌, ◌<◌, length};
-ghost use Rattle.io.specs.Counts.{IsPrefixLen};
+ghost use Rattle.lines.specs.Counts.{IsPrefixLen};
 
 // The place after the first `mark` from `at` on: with a space the next field, with a newline the next line. Where there is none it is the end
 // of the text, or `at` where that is past the end. So within the text it is further on.

@@ -8,6 +8,6 @@ mod report;
 mod rows;
 
 pub use fields::{hex, number, past, same, same_all};
-pub use files::{read_file, read_input, text_buffer};
+pub use files::{buffer, large_buffer, read_file, read_full, read_input, text_buffer};
 pub use report::Tally;
 pub use rows::{same_numbers, within};

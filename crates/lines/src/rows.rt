@@ -1,6 +1,6 @@
 // Rows of numbers that a program lends.
 ghost use Rattle.std.specs.Prelude.{◌≡◌, true, length};
-ghost use Rattle.io.specs.Counts.{IsPrefixLen};
+ghost use Rattle.lines.specs.Counts.{IsPrefixLen};
 
 // The count, or the row's length where that is less: `&row[..within(count, row)]` needs no proof.
 pub fn within(count: usize, row: &[u32]) -> usize

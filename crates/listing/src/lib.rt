@@ -2,13 +2,14 @@
 // lists many sources lists each as the list program does.
 #![tactic(auto)]
 
-ghost use Rattle.std.specs.Prelude.{◌≡◌, ◌≤◌, length, replicate};
+ghost use Rattle.std.specs.Prelude.{◌≡◌, ◌≤◌, length, replicate, IfOk};
 ghost use Rattle.rows.specs.Row.{room};
 ghost use Rattle.reading.specs.Scan.{count_of};
 ghost use Rattle.listing.specs.Listing.{Lists};
 
 use input::{Refusal, WITH_GB9C};
 use reading::Scanned;
+use std::io;
 
 // Sources over this many bytes are refused.
 const LIST_MOST: usize = 1024;
@@ -36,10 +37,10 @@ pub fn list_buffer() -> [u32; 10920]
 }
 
 // Prints the records of a source and how its scan ended.
-pub fn print_source(source: &[u8])
-    ensures { result ≡ tt }
+pub fn print_source(rt: &impl Print, source: &[u8]) -> io::Result<()>
+    ensures { IfOk result (λ r. r ≡ tt) }
 {
     let mut list = list_buffer();
     let scanned = scan_small(source, &mut list);
-    printing::print_scan(&list, scanned);
+    printing::print_scan(rt, &list, scanned)
 }

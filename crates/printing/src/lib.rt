@@ -2,20 +2,20 @@
 // space between two of them. This crate knows no source and no table.
 #![tactic(auto)]
 
-ghost use Rattle.std.specs.Prelude.{◌≡◌, ◌∷◌, [], ◌<◌, ◌≤◌, length};
+ghost use Rattle.std.specs.Prelude.{◌≡◌, ◌∷◌, [], ◌<◌, ◌≤◌, length, IfOk};
 ghost use Rattle.rows.specs.Row.{room};
 ghost use Rattle.reading.specs.Scan.{count_of};
 
-use libc::STDOUT_FILENO;
 use reading::{Scanned, answer};
 use rows::{Row, RowAt};
+use std::io;
 
 // Prints a number, and what stands after it.
-pub fn print_number(x: u64, after: &[u8])
-    ensures { result ≡ tt }
+pub fn print_number(rt: &impl Print, x: u64, after: &[u8]) -> io::Result<()>
+    ensures { IfOk result (λ r. r ≡ tt) }
 {
-    io::print_decimal(STDOUT_FILENO, x);
-    io::write_all(STDOUT_FILENO, after);
+    rt.print(x)?;
+    rt.write_all(after)
 }
 
 // The ten numbers of a record in the order in which they are printed: its kind and its detail, then the other eight. Their count, which
@@ -39,82 +39,84 @@ pub fn numbers(row: Row) -> [u32; 10]
 }
 
 // Prints number i of a line, and the space before it.
-fn print_field(i: usize, x: u32) {
+fn print_field(rt: &impl Print, i: usize, x: u32) -> io::Result<()> {
     if 0 < i {
-        io::write_all(STDOUT_FILENO, b" ");
+        rt.print(" ")?;
     }
-    io::print_decimal(STDOUT_FILENO, x as u64);
+    rt.print(x)
 }
 
 // Prints numbers with one space between two of them.
-fn print_numbers(numbers: &[u32]) {
+fn print_numbers(rt: &impl Print, numbers: &[u32]) -> io::Result<()> {
     let mut i = 0;
     while i < numbers.len() {
-        print_field(i, numbers[i]);
+        print_field(rt, i, numbers[i])?;
         i += 1;
     }
+    Ok(())
 }
 
 // Prints a record, by its ten numbers.
-pub fn print_row(row: Row)
-    ensures { result ≡ tt }
+pub fn print_row(rt: &impl Print, row: Row) -> io::Result<()>
+    ensures { IfOk result (λ r. r ≡ tt) }
 {
     let ten = numbers(row);
-    print_numbers(&ten);
-    io::write_all(STDOUT_FILENO, b"\n");
+    print_numbers(rt, &ten)?;
+    rt.println("")
 }
 
 // Prints record i of a list, if it may be shown: every record that a scan wrote may.
-fn print_row_at(list: &[u32], i: usize)
+fn print_row_at(rt: &impl Print, list: &[u32], i: usize) -> io::Result<()>
     requires { i < room list.now }
 {
     match rows::row_at(list, i) {
-        RowAt::Fit(row) => print_row(row),
-        RowAt::Unfit => {}
+        RowAt::Fit(row) => print_row(rt, row),
+        RowAt::Unfit => Ok(()),
     }
 }
 
 // Prints the first records of a list.
-pub fn print_rows(list: &[u32], count: usize)
+pub fn print_rows(rt: &impl Print, list: &[u32], count: usize) -> io::Result<()>
     requires { count ≤ room list.now }
-    ensures { result ≡ tt }
+    ensures { IfOk result (λ r. r ≡ tt) }
 {
     for i in 0..count {
-        print_row_at(list, i);
+        print_row_at(rt, list, i)?;
     }
+    Ok(())
 }
 
 // A word with a space after it, and two numbers.
-fn print_last(word: &[u8], first: u64, second: usize) {
-    io::write_all(STDOUT_FILENO, word);
-    print_number(first, b" ");
-    print_number(second as u64, b"\n");
+fn print_last(rt: &impl Print, word: &[u8], first: u64, second: usize) -> io::Result<()> {
+    rt.write_all(word)?;
+    print_number(rt, first, b" ")?;
+    print_number(rt, second as u64, b"\n")
 }
 
 // Prints a refusal: its number and its place.
-pub fn print_refused(number: u32, place: usize)
-    ensures { result ≡ tt }
+pub fn print_refused(rt: &impl Print, number: u32, place: usize) -> io::Result<()>
+    ensures { IfOk result (λ r. r ≡ tt) }
 {
-    print_last(b"refused ", number as u64, place);
+    print_last(rt, b"refused ", number as u64, place)
 }
 
 // Prints how a scan ended: its status with the count of records and the current byte, or the number and the place of its refusal.
-pub fn print_end(scanned: Scanned)
-    ensures { result ≡ tt }
+pub fn print_end(rt: &impl Print, scanned: Scanned) -> io::Result<()>
+    ensures { IfOk result (λ r. r ≡ tt) }
 {
     let place = answer::place_of(scanned);
     match scanned {
-        Scanned::End { count, byte: _ } => print_last(b"end ", count as u64, place),
-        Scanned::Stuck { count, byte: _ } => print_last(b"stuck ", count as u64, place),
-        _ => print_refused(answer::number_of(scanned), place),
+        Scanned::End { count, byte: _ } => print_last(rt, b"end ", count as u64, place),
+        Scanned::Stuck { count, byte: _ } => print_last(rt, b"stuck ", count as u64, place),
+        _ => print_refused(rt, answer::number_of(scanned), place),
     }
 }
 
 // Prints what a scan left: each record written, and then how it ended.
-pub fn print_scan(list: &[u32], scanned: Scanned)
+pub fn print_scan(rt: &impl Print, list: &[u32], scanned: Scanned) -> io::Result<()>
     requires { count_of scanned ≤ room list.now }
-    ensures { result ≡ tt }
+    ensures { IfOk result (λ r. r ≡ tt) }
 {
-    print_rows(list, answer::count_of(scanned));
-    print_end(scanned);
+    print_rows(rt, list, answer::count_of(scanned))?;
+    print_end(rt, scanned)
 }

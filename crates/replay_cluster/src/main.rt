@@ -4,10 +4,12 @@
 #![tactic(auto)]
 
 use cluster::Cluster;
+use std::io;
+use std::rt::Files;
 
 // Whether the line `HEX LENGTH` at a place of the text has the length of the first cluster.
 fn agrees(text: &[u8], at: usize, table: &[u32], edition: u32) -> bool {
-    let mut bytes = io::buffer();
+    let mut bytes = lines::buffer();
     let n = lines::hex(text, at, &mut bytes);
     let length_at = lines::past(text, at, b' ');
     match cluster::first_cluster(&bytes[..n], table, edition) {
@@ -16,31 +18,42 @@ fn agrees(text: &[u8], at: usize, table: &[u32], edition: u32) -> bool {
     }
 }
 
-fn replay_lines(name: &[u8], text: &[u8], table: &[u32], edition: u32) {
+fn replay_lines(
+    rt: &impl Print,
+    name: &[u8],
+    text: &[u8],
+    table: &[u32],
+    edition: u32,
+) -> io::Result<()> {
     let mut tally = lines::Tally::new();
     while tally.at < text.len() {
-        tally = tally.count(name, text, agrees(text, tally.at, table, edition));
+        tally = tally.count(rt, name, text, agrees(text, tally.at, table, edition))?;
     }
-    tally.print(name);
+    tally.print(rt, name)
 }
 
-fn replay(name: &[u8], table: &[u32], edition: u32) {
+fn replay(
+    rt: &(impl Files + Print + Eprint),
+    name: &[u8],
+    table: &[u32],
+    edition: u32,
+) -> io::Result<()> {
     let mut text = lines::text_buffer();
-    let n = lines::read_file(name, &mut text);
-    replay_lines(name, &text[..n], table, edition);
+    let n = lines::read_file(rt, name, &mut text)?;
+    replay_lines(rt, name, &text[..n], table, edition)
 }
 
-fn replay_all(table: &[u32]) {
-    replay(b"clusters.txt", table, input::WITH_GB9C);
-    replay(b"older.txt", table, input::WITHOUT_GB9C);
-    replay(b"wrong.txt", table, input::WITH_GB9C);
+fn replay_all(rt: &(impl Files + Print + Eprint), table: &[u32]) -> io::Result<()> {
+    replay(rt, b"clusters.txt", table, input::WITH_GB9C)?;
+    replay(rt, b"older.txt", table, input::WITHOUT_GB9C)?;
+    replay(rt, b"wrong.txt", table, input::WITH_GB9C)
 }
 
-fn main() {
+fn main(rt: HostRuntime) -> io::Result<()> {
     let mut row = tables::row_buffer();
-    let n = tables::full_table(b"full.kpt", &mut row);
+    let n = tables::full_table(&rt, b"full.kpt", &mut row)?;
     if n == 0 {
-        return;
+        return Ok(());
     }
-    replay_all(&row[..n]);
+    replay_all(&rt, &row[..n])
 }

@@ -7,6 +7,9 @@
 mod answers;
 mod pools;
 
+use std::io;
+use std::rt::Files;
+
 // Parses with so many numbers of the row of entries, so much room for bytes and the pool that is in the rows, and compares what is said and
 // left with what follows that pool in the line.
 fn parse_agrees(
@@ -64,7 +67,7 @@ fn format_agrees(text: &[u8], at: usize, format: &[u8], table: &[u32], edition: 
 // Whether the line `HEX NUMBERS BYTES POOL ANSWER POOL` at a place of the text is what the parse says and leaves. The buffer has one byte more
 // than a format string may have, so that one too many is seen.
 fn agrees(text: &[u8], at: usize, table: &[u32], edition: u32) -> bool {
-    let mut format = io::large_buffer();
+    let mut format = lines::large_buffer();
     let n = lines::hex(text, at, &mut format);
     format_agrees(
         text,
@@ -75,31 +78,42 @@ fn agrees(text: &[u8], at: usize, table: &[u32], edition: u32) -> bool {
     )
 }
 
-fn replay_lines(name: &[u8], text: &[u8], table: &[u32], edition: u32) {
+fn replay_lines(
+    rt: &impl Print,
+    name: &[u8],
+    text: &[u8],
+    table: &[u32],
+    edition: u32,
+) -> io::Result<()> {
     let mut tally = lines::Tally::new();
     while tally.at < text.len() {
-        tally = tally.count(name, text, agrees(text, tally.at, table, edition));
+        tally = tally.count(rt, name, text, agrees(text, tally.at, table, edition))?;
     }
-    tally.print(name);
+    tally.print(rt, name)
 }
 
-fn replay(name: &[u8], table: &[u32], edition: u32) {
+fn replay(
+    rt: &(impl Files + Print + Eprint),
+    name: &[u8],
+    table: &[u32],
+    edition: u32,
+) -> io::Result<()> {
     let mut text = lines::text_buffer();
-    let n = lines::read_file(name, &mut text);
-    replay_lines(name, &text[..n], table, edition);
+    let n = lines::read_file(rt, name, &mut text)?;
+    replay_lines(rt, name, &text[..n], table, edition)
 }
 
-fn replay_all(table: &[u32]) {
-    replay(b"formats.txt", table, input::WITH_GB9C);
-    replay(b"older.txt", table, input::WITHOUT_GB9C);
-    replay(b"wrong.txt", table, input::WITH_GB9C);
+fn replay_all(rt: &(impl Files + Print + Eprint), table: &[u32]) -> io::Result<()> {
+    replay(rt, b"formats.txt", table, input::WITH_GB9C)?;
+    replay(rt, b"older.txt", table, input::WITHOUT_GB9C)?;
+    replay(rt, b"wrong.txt", table, input::WITH_GB9C)
 }
 
-fn main() {
+fn main(rt: HostRuntime) -> io::Result<()> {
     let mut row = tables::row_buffer();
-    let n = tables::full_table(b"full.kpt", &mut row);
+    let n = tables::full_table(&rt, b"full.kpt", &mut row)?;
     if n == 0 {
-        return;
+        return Ok(());
     }
-    replay_all(&row[..n]);
+    replay_all(&rt, &row[..n])
 }

@@ -3,7 +3,6 @@
 ghost use Rattle.std.specs.Prelude.{◌≡◌, true, length, ◌≢◌};
 
 use pool_rows::Counts;
-use std::num::wrapping_add_u32;
 
 // What stands in the rows before. No string has such a byte, and none is so long.
 const BYTE_MARK: u8 = 0xff;
@@ -58,8 +57,8 @@ fn load_string(text: &[u8], bytes: &mut [u8], entries: &mut [u32], loaded: Loade
     Loaded {
         at: next,
         counts: Counts {
-            entries: wrapping_add_u32(counts.entries, 1),
-            bytes: wrapping_add_u32(counts.bytes, long),
+            entries: counts.entries.wrapping_add(1),
+            bytes: counts.bytes.wrapping_add(long),
         },
     }
 }
@@ -102,7 +101,7 @@ pub fn agrees(text: &[u8], at: usize, bytes: &[u8], entries: &[u32], counts: Cou
     if counts.bytes != want.bytes {
         return false;
     }
-    if !check::same(bytes, &byte_row) {
+    if bytes != &byte_row[..] {
         return false;
     }
     lines::same_numbers(entries, &entry_row)

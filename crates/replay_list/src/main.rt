@@ -4,6 +4,8 @@
 #![tactic(auto)]
 
 use reading::Scanned;
+use std::io;
+use std::rt::Files;
 
 // The numbers of 1,365 records.
 const LIST_WORDS: usize = 10_920;
@@ -16,28 +18,28 @@ fn scan_script(script: &[u8], list: &mut [u32]) -> Scanned {
 
 // Whether the line `HEX STATUS COUNT BYTE RECORDS..` at a place of the text is what the list program's scan says and writes.
 fn agrees(text: &[u8], at: usize) -> bool {
-    let mut bytes = io::buffer();
+    let mut bytes = lines::buffer();
     let n = lines::hex(text, at, &mut bytes);
     let mut list = replay_rows::list_buffer();
     let said = scan_script(&bytes[..n], &mut list);
     replay_rows::agrees(text, lines::past(text, at, b' '), said, &list)
 }
 
-fn replay_lines(name: &[u8], text: &[u8]) {
+fn replay_lines(rt: &impl Print, name: &[u8], text: &[u8]) -> io::Result<()> {
     let mut tally = lines::Tally::new();
     while tally.at < text.len() {
-        tally = tally.count(name, text, agrees(text, tally.at));
+        tally = tally.count(rt, name, text, agrees(text, tally.at))?;
     }
-    tally.print(name);
+    tally.print(rt, name)
 }
 
-fn replay(name: &[u8]) {
+fn replay(rt: &(impl Files + Print + Eprint), name: &[u8]) -> io::Result<()> {
     let mut text = lines::text_buffer();
-    let n = lines::read_file(name, &mut text);
-    replay_lines(name, &text[..n]);
+    let n = lines::read_file(rt, name, &mut text)?;
+    replay_lines(rt, name, &text[..n])
 }
 
-fn main() {
-    replay(b"lists.txt");
-    replay(b"wrong.txt");
+fn main(rt: HostRuntime) -> io::Result<()> {
+    replay(&rt, b"lists.txt")?;
+    replay(&rt, b"wrong.txt")
 }

@@ -3,6 +3,8 @@
 #![tactic(auto)]
 
 use pad::answer;
+use std::io;
+use std::rt::Files;
 
 // A field that has the width one greater, and 0 where there is none.
 fn width_of(field: usize) -> u64 {
@@ -22,9 +24,9 @@ fn edition_of(field: usize) -> u32 {
 
 // Whether the buffer has what the field says, and zeros behind it.
 fn bytes_agree(text: &[u8], at: usize, buffer: &[u8]) -> bool {
-    let mut wanted = io::buffer();
+    let mut wanted = lines::buffer();
     let n = lines::hex(text, at, &mut wanted);
-    n < wanted.len() && check::same(buffer, &wanted)
+    n < wanted.len() && buffer == &wanted[..]
 }
 
 // Whether the fields `NUMBER LENGTH PLACE BYTES` at a place of the text are what was said and written.
@@ -71,9 +73,9 @@ fn pad_agrees(
 
 // The same with the fill's bytes before them.
 fn fill_agrees(text: &[u8], at: usize, padded: &[u8], table: &[u32]) -> bool {
-    let mut fill = io::buffer();
+    let mut fill = lines::buffer();
     let n = lines::hex(text, at, &mut fill);
-    let mut buffer = io::buffer();
+    let mut buffer = lines::buffer();
     pad_agrees(
         text,
         lines::past(text, at, b' '),
@@ -87,31 +89,31 @@ fn fill_agrees(text: &[u8], at: usize, padded: &[u8], table: &[u32]) -> bool {
 // Whether the line `TEXT FILL ALIGNMENT WIDTH FILLED EDITION ROOM NUMBER LENGTH PLACE BYTES` at a place of the text is what padding says and
 // writes.
 fn agrees(text: &[u8], at: usize, table: &[u32]) -> bool {
-    let mut bytes = io::buffer();
+    let mut bytes = lines::buffer();
     let n = lines::hex(text, at, &mut bytes);
     fill_agrees(text, lines::past(text, at, b' '), &bytes[..n], table)
 }
 
-fn replay_lines(name: &[u8], text: &[u8], table: &[u32]) {
+fn replay_lines(rt: &impl Print, name: &[u8], text: &[u8], table: &[u32]) -> io::Result<()> {
     let mut tally = lines::Tally::new();
     while tally.at < text.len() {
-        tally = tally.count(name, text, agrees(text, tally.at, table));
+        tally = tally.count(rt, name, text, agrees(text, tally.at, table))?;
     }
-    tally.print(name);
+    tally.print(rt, name)
 }
 
-fn replay(name: &[u8], table: &[u32]) {
+fn replay(rt: &(impl Files + Print + Eprint), name: &[u8], table: &[u32]) -> io::Result<()> {
     let mut text = lines::text_buffer();
-    let n = lines::read_file(name, &mut text);
-    replay_lines(name, &text[..n], table);
+    let n = lines::read_file(rt, name, &mut text)?;
+    replay_lines(rt, name, &text[..n], table)
 }
 
-fn main() {
+fn main(rt: HostRuntime) -> io::Result<()> {
     let mut row = tables::row_buffer();
-    let n = tables::full_table(b"full.kpt", &mut row);
+    let n = tables::full_table(&rt, b"full.kpt", &mut row)?;
     if n == 0 {
-        return;
+        return Ok(());
     }
-    replay(b"pads.txt", &row[..n]);
-    replay(b"wrong.txt", &row[..n]);
+    replay(&rt, b"pads.txt", &row[..n])?;
+    replay(&rt, b"wrong.txt", &row[..n])
 }

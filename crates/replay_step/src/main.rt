@@ -9,12 +9,14 @@ ghost use Rattle.state.specs.State.{start_state};
 ghost use Rattle.stepping.specs.Invariant.{Ok};
 
 use lexer::What;
-use state::State;
+use state::{Lexer, State};
+use std::io;
+use std::rt::Files;
 use utf8::Utf8Check;
 
 // The ten numbers of a record, of a token that was found at this depth; answers the place after them, or 0 where one differs.
-fn same_record(text: &[u8], at: usize, token: token::Token, depth: usize, state: State) -> usize {
-    let place = state.lexer.place;
+fn same_record(text: &[u8], at: usize, token: token::Token, depth: usize, lexer: Lexer) -> usize {
+    let place = lexer.place;
     let start = place.span.start;
     let end = place.span.end;
     let at = lines::same(text, at, token.kind as usize);
@@ -26,7 +28,7 @@ fn same_record(text: &[u8], at: usize, token: token::Token, depth: usize, state:
         start.column.0,
         end.line,
         end.column.0,
-        state.lexer.indent,
+        lexer.indent,
     ];
     let at = lines::same_all(text, at, &others);
     lines::same(text, at, depth)
@@ -39,34 +41,28 @@ fn same_end(
     record_at: usize,
     status: u32,
     count: u32,
-    state: State,
+    lexer: Lexer,
 ) -> bool {
     if record_at == 0 {
         return false;
     }
     let end = [status, count];
     let at = lines::same_all(text, at, &end);
-    lines::same(text, at, state.lexer.place.current_byte.0) != 0
+    lines::same(text, at, lexer.place.current_byte.0) != 0
 }
 
 // The status is 0 at the end, 1 where stuck, and 105 where there is no room for a mode; the Error that stands still has a record, and leaves the
 // modes.
-fn ends(text: &[u8], at: usize, record_at: usize, what: What, count: u32, state: State) -> bool
+fn ends(text: &[u8], at: usize, record_at: usize, what: What, count: u32, lexer: Lexer) -> bool
     requires { count ≤ 4097 }
 {
     match what {
         What::Stuck => {
-            let last = same_record(
-                text,
-                record_at,
-                token::token_of(0),
-                state.lexer.depth,
-                state,
-            );
-            same_end(text, at, last, 1, count + 1, state)
+            let last = same_record(text, record_at, token::token_of(0), lexer.depth, lexer);
+            same_end(text, at, last, 1, count + 1, lexer)
         }
-        What::ModesFull => same_end(text, at, record_at, 105, count, state),
-        _ => same_end(text, at, record_at, 0, count, state),
+        What::ModesFull => same_end(text, at, record_at, 105, count, lexer),
+        _ => same_end(text, at, record_at, 0, count, lexer),
     }
 }
 
@@ -85,10 +81,10 @@ fn steps_agree(text: &[u8], at: usize, source: &[u8], table: &[u32]) -> bool
         state = step.state;
         match what {
             What::Token(token) => {
-                record_at = same_record(text, record_at, token, depth, state);
+                record_at = same_record(text, record_at, token, depth, state.lexer);
             }
             _ => {
-                return ends(text, at, record_at, what, k, state);
+                return ends(text, at, record_at, what, k, state.lexer);
             }
         }
     }
@@ -112,41 +108,41 @@ fn source_agrees(text: &[u8], at: usize, source: &[u8], table: &[u32]) -> bool
 fn agrees(text: &[u8], at: usize, table: &[u32]) -> bool
     requires { FitTable table.now }
 {
-    let mut bytes = io::buffer();
+    let mut bytes = lines::buffer();
     let n = lines::hex(text, at, &mut bytes);
     source_agrees(text, lines::past(text, at, b' '), &bytes[..n], table)
 }
 
-fn replay_lines(name: &[u8], text: &[u8], table: &[u32])
+fn replay_lines(rt: &impl Print, name: &[u8], text: &[u8], table: &[u32]) -> io::Result<()>
     requires { FitTable table.now }
 {
     let mut tally = lines::Tally::new();
     while tally.at < text.len() {
-        tally = tally.count(name, text, agrees(text, tally.at, table));
+        tally = tally.count(rt, name, text, agrees(text, tally.at, table))?;
     }
-    tally.print(name);
+    tally.print(rt, name)
 }
 
-fn replay(name: &[u8], table: &[u32])
+fn replay(rt: &(impl Files + Print + Eprint), name: &[u8], table: &[u32]) -> io::Result<()>
     requires { FitTable table.now }
 {
     let mut text = lines::text_buffer();
-    let n = lines::read_file(name, &mut text);
-    replay_lines(name, &text[..n], table);
+    let n = lines::read_file(rt, name, &mut text)?;
+    replay_lines(rt, name, &text[..n], table)
 }
 
-fn replay_both(table: &[u32])
+fn replay_both(rt: &(impl Files + Print + Eprint), table: &[u32]) -> io::Result<()>
     requires { FitTable table.now }
 {
-    replay(b"steps.txt", table);
-    replay(b"wrong.txt", table);
+    replay(rt, b"steps.txt", table)?;
+    replay(rt, b"wrong.txt", table)
 }
 
-fn main() {
+fn main(rt: HostRuntime) -> io::Result<()> {
     let mut row = tables::row_buffer();
-    let n = tables::full_table(b"full.kpt", &mut row);
+    let n = tables::full_table(&rt, b"full.kpt", &mut row)?;
     if n == 0 {
-        return;
+        return Ok(());
     }
-    replay_both(&row[..n]);
+    replay_both(&rt, &row[..n])
 }

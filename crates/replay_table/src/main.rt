@@ -5,6 +5,8 @@
 
 ghost use Rattle.std.specs.Prelude.{◌<◌, ◌≡◌, length};
 
+use std::io;
+use std::rt::Files;
 use table_file::{TableFile, answer};
 
 // The row that each file is read into; no line has more room.
@@ -145,26 +147,26 @@ fn case_agrees(case: Case, file: &[u8]) -> bool {
 }
 
 fn agrees(text: &[u8], at: usize) -> bool {
-    let mut bytes = io::large_buffer();
+    let mut bytes = lines::large_buffer();
     let n = lines::hex(text, at, &mut bytes);
     case_agrees(case_at(text, at), &bytes[..n])
 }
 
-fn replay_lines(name: &[u8], text: &[u8]) {
+fn replay_lines(rt: &impl Print, name: &[u8], text: &[u8]) -> io::Result<()> {
     let mut tally = lines::Tally::new();
     while tally.at < text.len() {
-        tally = tally.count(name, text, agrees(text, tally.at));
+        tally = tally.count(rt, name, text, agrees(text, tally.at))?;
     }
-    tally.print(name);
+    tally.print(rt, name)
 }
 
-fn replay(name: &[u8]) {
+fn replay(rt: &(impl Files + Print + Eprint), name: &[u8]) -> io::Result<()> {
     let mut text = lines::text_buffer();
-    let n = lines::read_file(name, &mut text);
-    replay_lines(name, &text[..n]);
+    let n = lines::read_file(rt, name, &mut text)?;
+    replay_lines(rt, name, &text[..n])
 }
 
-fn main() {
-    replay(b"tables.txt");
-    replay(b"wrong.txt");
+fn main(rt: HostRuntime) -> io::Result<()> {
+    replay(&rt, b"tables.txt")?;
+    replay(&rt, b"wrong.txt")
 }

@@ -2,6 +2,8 @@
 // then a file with one wrong line, so that a difference is seen to be reported.
 #![tactic(auto)]
 
+use std::io;
+use std::rt::Files;
 use utf8::{Utf8Check, answer};
 
 // What the check says, as a line has it: 0 fine, 1 bad, 2 cut.
@@ -15,7 +17,7 @@ fn said_by(check: Utf8Check) -> usize {
 
 // Whether the line `HEX ANSWER PLACE` at a place of the text has what the check says.
 fn agrees(text: &[u8], at: usize) -> bool {
-    let mut bytes = io::buffer();
+    let mut bytes = lines::buffer();
     let n = lines::hex(text, at, &mut bytes);
     let answer_at = lines::past(text, at, b' ');
     let place_at = lines::past(text, answer_at, b' ');
@@ -26,21 +28,21 @@ fn agrees(text: &[u8], at: usize) -> bool {
     answer::check_place(check) == lines::number(text, place_at)
 }
 
-fn replay_lines(name: &[u8], text: &[u8]) {
+fn replay_lines(rt: &impl Print, name: &[u8], text: &[u8]) -> io::Result<()> {
     let mut tally = lines::Tally::new();
     while tally.at < text.len() {
-        tally = tally.count(name, text, agrees(text, tally.at));
+        tally = tally.count(rt, name, text, agrees(text, tally.at))?;
     }
-    tally.print(name);
+    tally.print(rt, name)
 }
 
-fn replay(name: &[u8]) {
+fn replay(rt: &(impl Files + Print + Eprint), name: &[u8]) -> io::Result<()> {
     let mut text = lines::text_buffer();
-    let n = lines::read_file(name, &mut text);
-    replay_lines(name, &text[..n]);
+    let n = lines::read_file(rt, name, &mut text)?;
+    replay_lines(rt, name, &text[..n])
 }
 
-fn main() {
-    replay(b"utf8.txt");
-    replay(b"wrong.txt");
+fn main(rt: HostRuntime) -> io::Result<()> {
+    replay(&rt, b"utf8.txt")?;
+    replay(&rt, b"wrong.txt")
 }

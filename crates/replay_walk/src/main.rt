@@ -5,6 +5,8 @@
 
 use cursor::{Cursor, Status};
 use reading::Scanned;
+use std::io;
+use std::rt::Files;
 use walking::What;
 
 // The place of a line's next field, or 0 where one before it differed; and the cursor after the calls before it.
@@ -89,37 +91,37 @@ fn scan_agrees(text: &[u8], at: usize, list: &[u32], scanned: Scanned) -> bool {
 
 // Whether the line `HEX COUNT CALL ANSWER CALL ANSWER .. QUEUED` at a place of the text is what the calls say after a scan.
 fn agrees(text: &[u8], at: usize, table: &[u32]) -> bool {
-    let mut bytes = io::buffer();
+    let mut bytes = lines::buffer();
     let n = lines::hex(text, at, &mut bytes);
     let mut list = replay_rows::list_buffer();
     let scanned = scan::scan(&bytes[..n], table, input::WITH_GB9C, &mut list);
     scan_agrees(text, lines::past(text, at, b' '), &list, scanned)
 }
 
-fn replay_lines(name: &[u8], text: &[u8], table: &[u32]) {
+fn replay_lines(rt: &impl Print, name: &[u8], text: &[u8], table: &[u32]) -> io::Result<()> {
     let mut tally = lines::Tally::new();
     while tally.at < text.len() {
-        tally = tally.count(name, text, agrees(text, tally.at, table));
+        tally = tally.count(rt, name, text, agrees(text, tally.at, table))?;
     }
-    tally.print(name);
+    tally.print(rt, name)
 }
 
-fn replay(name: &[u8], table: &[u32]) {
+fn replay(rt: &(impl Files + Print + Eprint), name: &[u8], table: &[u32]) -> io::Result<()> {
     let mut text = lines::text_buffer();
-    let n = lines::read_file(name, &mut text);
-    replay_lines(name, &text[..n], table);
+    let n = lines::read_file(rt, name, &mut text)?;
+    replay_lines(rt, name, &text[..n], table)
 }
 
-fn replay_both(table: &[u32]) {
-    replay(b"walks.txt", table);
-    replay(b"wrong.txt", table);
+fn replay_both(rt: &(impl Files + Print + Eprint), table: &[u32]) -> io::Result<()> {
+    replay(rt, b"walks.txt", table)?;
+    replay(rt, b"wrong.txt", table)
 }
 
-fn main() {
+fn main(rt: HostRuntime) -> io::Result<()> {
     let mut row = tables::row_buffer();
-    let n = tables::full_table(b"full.kpt", &mut row);
+    let n = tables::full_table(&rt, b"full.kpt", &mut row)?;
     if n == 0 {
-        return;
+        return Ok(());
     }
-    replay_both(&row[..n]);
+    replay_both(&rt, &row[..n])
 }

@@ -2,6 +2,8 @@
 // made): the answer, and every byte of the buffer. Then a file with one wrong line, so that a difference is seen to be reported.
 #![tactic(auto)]
 
+use std::io;
+use std::rt::Files;
 use writer::{Written, answer};
 
 // The fields of a line that go in, but for the fill and the room.
@@ -57,9 +59,9 @@ fn past_six(text: &[u8], at: usize) -> usize {
 
 // Whether the buffer has what the field says, and zeros behind it.
 fn bytes_agree(text: &[u8], at: usize, buffer: &[u8]) -> bool {
-    let mut wanted = io::buffer();
+    let mut wanted = lines::buffer();
     let n = lines::hex(text, at, &mut wanted);
-    n < wanted.len() && check::same(buffer, &wanted)
+    n < wanted.len() && buffer == &wanted[..]
 }
 
 // Whether the fields `NUMBER LENGTH PLACE BYTES` at a place of the text are what was said and written.
@@ -94,11 +96,11 @@ fn write_line(line: Line, fill: &[u8], table: &[u32], buffer: &mut [u8], room: u
 // Whether the line `FILL ALIGNMENT WIDTH PRECISION REPRESENTATION FILLED EDITION ROOM NUMBER LENGTH PLACE BYTES` at a place of the text is what
 // is said and written.
 fn agrees(text: &[u8], at: usize, table: &[u32]) -> bool {
-    let mut fill = io::buffer();
+    let mut fill = lines::buffer();
     let n = lines::hex(text, at, &mut fill);
     let line_from = lines::past(text, at, b' ');
     let room_at = past_six(text, line_from);
-    let mut buffer = io::buffer();
+    let mut buffer = lines::buffer();
     let said = write_line(
         line_at(text, line_from),
         &fill[..n],
@@ -109,26 +111,26 @@ fn agrees(text: &[u8], at: usize, table: &[u32]) -> bool {
     said_agrees(text, lines::past(text, room_at, b' '), said, &buffer)
 }
 
-fn replay_lines(name: &[u8], text: &[u8], table: &[u32]) {
+fn replay_lines(rt: &impl Print, name: &[u8], text: &[u8], table: &[u32]) -> io::Result<()> {
     let mut tally = lines::Tally::new();
     while tally.at < text.len() {
-        tally = tally.count(name, text, agrees(text, tally.at, table));
+        tally = tally.count(rt, name, text, agrees(text, tally.at, table))?;
     }
-    tally.print(name);
+    tally.print(rt, name)
 }
 
-fn replay(name: &[u8], table: &[u32]) {
+fn replay(rt: &(impl Files + Print + Eprint), name: &[u8], table: &[u32]) -> io::Result<()> {
     let mut text = lines::text_buffer();
-    let n = lines::read_file(name, &mut text);
-    replay_lines(name, &text[..n], table);
+    let n = lines::read_file(rt, name, &mut text)?;
+    replay_lines(rt, name, &text[..n], table)
 }
 
-fn main() {
+fn main(rt: HostRuntime) -> io::Result<()> {
     let mut row = tables::row_buffer();
-    let n = tables::full_table(b"full.kpt", &mut row);
+    let n = tables::full_table(&rt, b"full.kpt", &mut row)?;
     if n == 0 {
-        return;
+        return Ok(());
     }
-    replay(b"formats.txt", &row[..n]);
-    replay(b"wrong.txt", &row[..n]);
+    replay(&rt, b"formats.txt", &row[..n])?;
+    replay(&rt, b"wrong.txt", &row[..n])
 }

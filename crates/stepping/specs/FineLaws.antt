@@ -181,7 +181,7 @@ module _ (s : List ℕ) (l : Lexer) (o : Stands s (reach_of l)) (h : (reach_of l
         on = omega arith;
         cut = λ e. record {
           is_error = refl;
-          one_byte = refl;
+          one_byte_lem = refl;
           code = first.code;
           len = first.len;
           character = first.read;

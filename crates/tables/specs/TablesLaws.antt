@@ -4,7 +4,7 @@
 use Rattle.std.specs.Prelude.{ℕ, ◌≤◌, ◌≡◌, refl, List, ◌++◌, length, take, drop}
 use Rattle.std.proofs.Common.{arith, sym, ap, ◌∙◌, length-take}
 use Rattle.std.proofs.Math.Seq.{take-append_seam, drop-append_seam}
-use Rattle.io.specs.Counts.{IsPrefixLen}
+use Rattle.lines.specs.Counts.{IsPrefixLen}
 use Rattle.fitness.specs.FitLaws.{fit_of}
 use Rattle.table_file.specs.File.{numbers_of, row_after, read_table, read_count, ReadTableIs}
 use Rattle.table_file.specs.FileLaws.{Bytes, FileRead, file_of_read}

@@ -1,11 +1,12 @@
 // The table that a replay program lends to what it replays, read from its file. This crate knows nothing of what is compared.
 #![tactic(auto)]
 
-ghost use Rattle.std.specs.Prelude.{◌≡◌, length, replicate};
-ghost use Rattle.io.specs.Counts.{IsPrefixLen};
+ghost use Rattle.std.specs.Prelude.{◌≡◌, length, replicate, IfOk};
+ghost use Rattle.lines.specs.Counts.{IsPrefixLen};
 ghost use Rattle.tables.specs.Tables.{TableIn};
 
-use libc::STDOUT_FILENO;
+use std::io;
+use std::rt::Files;
 use table_file::answer;
 
 // Zeros, as many as the longest table has numbers. The length, which follows, is what lending them as a slice asks.
@@ -25,25 +26,26 @@ fn table_in(file: &[u8], row: &mut [u32]) -> usize
 }
 
 // Says how many runs the table of that name has, or that it was refused.
-fn print(name: &[u8], count: usize) {
-    io::write_all(STDOUT_FILENO, name);
+fn print(rt: &impl Print, name: &[u8], count: usize) -> io::Result<()> {
+    rt.write_all(name)?;
     if count == 0 {
-        io::write_all(STDOUT_FILENO, b": refused\n");
-        return;
+        return rt.write_all(b": refused\n");
     }
-    io::write_all(STDOUT_FILENO, b": ");
-    io::print_decimal(STDOUT_FILENO, count as u64);
-    io::write_all(STDOUT_FILENO, b" runs\n");
+    println!(rt; ": {count} runs")
 }
 
 // Reads the table file of that name into the start of the row, and answers how many runs it has; 0 where it is refused. Either is said.
-pub fn full_table(name: &[u8], row: &mut [u32]) -> usize
-    ensures prefix_len { IsPrefixLen result row.new }
-    ensures table_in { TableIn row.old row.new result }
+pub fn full_table(
+    rt: &(impl Files + Print + Eprint),
+    name: &[u8],
+    row: &mut [u32],
+) -> io::Result<usize>
+    ensures prefix_len { IfOk result (λ n. IsPrefixLen n row.new) }
+    ensures table_in { IfOk result (λ n. TableIn row.old row.new n) }
 {
-    let mut file = io::large_buffer();
-    let n = lines::read_file(name, &mut file);
+    let mut file = lines::large_buffer();
+    let n = lines::read_file(rt, name, &mut file)?;
     let count = table_in(&file[..n], row);
-    print(name, count);
-    count
+    print(rt, name, count)?;
+    Ok(count)
 }

@@ -136,6 +136,7 @@ pub fn run_end(source: &[u8], at: usize, test: u8) -> usize
 }
 
 // The properties that every fit table gives an ASCII character: document 01, the small table.
+#[tactic(auto, unfolding(crate::specs::Ascii::ascii_properties))]
 fn ascii_properties(b: u8) -> u32
     ensures { result ≡ ascii_properties b }
 {

@@ -163,6 +163,7 @@ fn check_pair(before: u32, after: u32) -> Pair
 }
 
 // GB9c, in edition 2: a consonant after a consonant and a linker
+#[tactic(auto, unfolding(crate::specs::Uax29::gb9c))]
 fn joins_conjunct(edition: u32, linked: bool, p: u32) -> bool
     ensures { result ≡ gb9c edition linked p }
 {

@@ -1,7 +1,7 @@
 -- The count of a byte's leading ones decides the length of its sequence: one test, which antt computes at each of the 256 bytes.
 -- Assumes nothing.
 use Prim.Native.Nat.{ℕ, ◌-◌}
-use mathlib.Core.Path.{◌≡◌, refl}
+use mathlib.Core.Path.{◌≡◌, refl, sym}
 use mathlib.Core.Bool.{Bool}
 use lib.Dec.{ltb, eqb}
 use lib.Count.{count_leading_zeros}
@@ -30,3 +30,7 @@ len_by_ones a =
     (λ h. let e : 255 - a ≡ 0 = omega arith in
     rw
     (e, le-ltb a 0x80 (omega arith), le-ltb a 0xc2 (omega arith), le-ltb a 0xe0 (omega arith), le-ltb a 0xf0 (omega arith), le-ltb a 0xf5 (omega arith)))
+
+-- the same, as `lead_len` asks for it
+pub seq_len_by : (a : ℕ) → seq_len a ≡ len_by (count_leading_zeros 8 (255 - a)) a
+seq_len_by a = sym (len_by_ones a)

@@ -37,6 +37,7 @@ pub enum Utf8Check {
 }
 
 // The length of the sequence that a byte opens, by the count of its leading ones; 0 where it opens none.
+#[tactic(auto, using(crate::proofs::Lead::seq_len_by), unfolding(crate::proofs::Lead::len_by))]
 pub fn lead_len(a: u8) -> usize
     ensures { result ≡ seq_len a }
 {

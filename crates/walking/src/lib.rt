@@ -5,17 +5,17 @@
 
 mod calls;
 
-ghost use Rattle.std.specs.Prelude.{◌≡◌, length};
+ghost use Rattle.std.specs.Prelude.{◌≡◌, length, IfOk};
 ghost use Rattle.cursor.specs.Cursor.{start_cursor};
 ghost use Rattle.walking.specs.Told.{refused_at, told_given, told_peeked, told_of};
 
 pub use calls::{Call, are_calls, call_at};
 use cursor::{Cursor, Status};
 use layout::Layout;
-use libc::STDOUT_FILENO;
 use lookahead::{Given, Peeked, answer};
 use reading::Scanned;
 use rows::Row;
+use std::io;
 
 // What is said of a call.
 #[derive(Clone, Copy)]
@@ -112,46 +112,49 @@ pub fn ask(list: &[u32], cursor: Cursor, call: Call) -> Told
 }
 
 // Prints what is said of a call.
-fn print_what(what: What) {
+fn print_what(rt: &impl Print, what: What) -> io::Result<()> {
     match what {
-        What::Token(row) => printing::print_row(row),
-        What::Nothing => {
-            io::write_all(STDOUT_FILENO, b"none\n");
-        }
-        What::Refused { number, place } => printing::print_refused(number, place),
+        What::Token(row) => printing::print_row(rt, row),
+        What::Nothing => rt.println("none"),
+        What::Refused { number, place } => printing::print_refused(rt, number, place),
     }
 }
 
 // Makes a call, prints what is said of it, and answers the cursor after it.
-fn print_call(list: &[u32], cursor: Cursor, call: Call) -> Cursor {
+fn print_call(rt: &impl Print, list: &[u32], cursor: Cursor, call: Call) -> io::Result<Cursor> {
     let told = ask(list, cursor, call);
     let what = told.what;
-    print_what(what);
-    told.cursor
+    print_what(rt, what)?;
+    Ok(told.cursor)
 }
 
-fn print_queued(cursor: Cursor) {
-    io::write_all(STDOUT_FILENO, b"queued ");
-    printing::print_number(cursor.queued as u64, b"\n");
+fn print_queued(rt: &impl Print, cursor: Cursor) -> io::Result<()> {
+    rt.print("queued ")?;
+    printing::print_number(rt, cursor.queued as u64, b"\n")
 }
 
 // Makes the calls of a line, which is known to be one, and prints what is said of each; last how many tokens are queued.
-fn print_calls(line: &[u8], list: &[u32], from: Cursor) {
+fn print_calls(rt: &impl Print, line: &[u8], list: &[u32], from: Cursor) -> io::Result<()> {
     let mut cursor = from;
     let mut at = 0;
     while at < line.len() {
-        cursor = print_call(list, cursor, call_at(line, at));
+        cursor = print_call(rt, list, cursor, call_at(line, at))?;
         at = lines::past(line, at, b' ');
     }
-    print_queued(cursor);
+    print_queued(rt, cursor)
 }
 
 // There is nothing to walk over where a scan is refused, so its refusal is printed alone.
-fn print_scan(line: &[u8], list: &[u32], scanned: Scanned) {
+fn print_scan(rt: &impl Print, line: &[u8], list: &[u32], scanned: Scanned) -> io::Result<()> {
     match scanned {
-        Scanned::End { count, byte: _ } => print_calls(line, list, start(count, Status::End)),
-        Scanned::Stuck { count, byte: _ } => print_calls(line, list, start(count, Status::Stuck)),
-        _ => printing::print_end(scanned),
+        Scanned::End { count, byte: _ } => print_calls(rt, line, list, start(count, Status::End)),
+        Scanned::Stuck { count, byte: _ } => print_calls(
+            rt,
+            line,
+            list,
+            start(count, Status::Stuck),
+        ),
+        _ => printing::print_end(rt, scanned),
     }
 }
 
@@ -164,12 +167,11 @@ pub fn line_buffer() -> [u8; 200001]
 
 // Prints a walk over the records of a scan: a line for each call and how many tokens are queued at the end, the refusal of the scan, or that
 // the line is malformed, which is told first.
-pub fn print_walk(line: &[u8], list: &[u32], scanned: Scanned)
-    ensures { result ≡ tt }
+pub fn print_walk(rt: &impl Print, line: &[u8], list: &[u32], scanned: Scanned) -> io::Result<()>
+    ensures { IfOk result (λ r. r ≡ tt) }
 {
     if !are_calls(line) {
-        io::write_all(STDOUT_FILENO, b"bad calls\n");
-        return;
+        return rt.println("bad calls");
     }
-    print_scan(line, list, scanned);
+    print_scan(rt, line, list, scanned)
 }

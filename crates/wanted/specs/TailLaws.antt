@@ -364,7 +364,7 @@ module _ {P : Type 0} (add : P → Part → P) (look : ℕ → ℕ) (edition : �
     width_end {o = o} [] b w v =
         subst (λ (x : Options). WidthEnd s o x []) (stays v) (of_precision b refl (of_type b.precision (type_none o b.representation)))
     width_end {at} {o} {pool} (c ∷ cs) {r} b w v =
-        go (eqb c zero_digit && is_digit (peeked cs)) refl (is_digit c) refl (λ b' w' v'. width_end cs b' w' v')
+        go (eqb c zero_digit && is_digit (peeked cs)) refl (is_digit c) refl (λ b' w' v'. width_end {at = at + len_utf8 c + length (encode_all (take 0 cs))} cs b' w' v')
       where
         rest : Bool → Arm
         rest t = pick t arm.MinWidth (dotted c (peeked cs))

@@ -29,4 +29,4 @@ pub returns : goal.returns
 unfolding begins_as_small
 returns c =
     let all : c.loop-k.k ≡ 15 = omega arith in
-    rw (lt-ltb 15 _ c.if-table-le15.false, ← all, c.loop-k.invariant.1)
+    rw (lt-ltb 15 _ c.if-table-le15.false, ← all, c.loop-k.invariant.1) refl

@@ -1,4 +1,5 @@
 -- `keywords::keyword` meets its contract: only the keyword that has the name's place can be the name. Assumes nothing.
+use Rattle.std.proofs.Common.{rules}
 use mathlib.Core.Path.{◌≡◌, sym, ◌∙◌}
 use Prim.Native.Nat.{ℕ, ◌+◌, ◌≤◌, ◌<◌}
 use native.Mathlib.Nat.{add-zero}
@@ -9,7 +10,7 @@ use Rattle.base.specs.Pick.{pick}
 use Rattle.token.specs.Kind.{id}
 use Rattle.keywords.specs.Keywords.{keyword_of}
 use Rattle.keywords.specs.Places.{kind_at}
-use Rattle.keywords.proofs.Narrow.{by_length, eight, compared, differs}
+use Rattle.keywords.proofs.Narrow.{eight, compared, differs}
 use Rattle.keywords.proofs.keyword.Goals as goal
 use Rattle.keywords.proofs.keyword.Goals.{After-starts_with, After-text_at-text, After-within-n}
 
@@ -18,12 +19,6 @@ inside : (p : After-within-n) → 2 ≤ p.within-n.result → p.args.at + 1 < le
 inside p h =
     let a = p.args in
     omega (arith, p.within-n.ensures, length-take a.len (drop a.at a.source.now), length-drop a.at a.source.now)
-
-pub returns-then-n-lt2 : goal.returns-then-n-lt2
-returns-then-n-lt2 c = by_length _ (λ h. omega (arith, h.0, c.within-n.ensures, c.if-n-lt2.true))
-
-pub returns-then-n-gt8 : goal.returns-then-n-gt8
-returns-then-n-gt8 c = by_length _ (λ h. omega (arith, h.1, c.within-n.ensures, c.if-n-gt8.true))
 
 pub bounds-source-at : goal.bounds-source-at
 bounds-source-at c = omega (arith, inside (goal.at.bounds-source-at c).After-within-n (omega arith))
@@ -80,7 +75,7 @@ said : (c : After-starts_with) → let a = c.args in
 said c =
     let a = c.args in
     compared a.source.now a.at a.len c.within-n.ensures (omega arith) (omega arith) c.place-place.ensures c.text_at-text.ensures
-    c.starts_with.ensures
+    (search rules)
 
 pub returns-then-starts_with : goal.returns-then-starts_with
 returns-then-starts_with c = c.kind_at.ensures ∙ (rw c.if-starts_with.true at (said (goal.at.returns-then-starts_with c).After-starts_with))

@@ -1,0 +1,17 @@
+-- `lookahead::see` meets its contract: the record that is ahead is shown, if one is there. Assumes nothing.
+use Rattle.lookahead.specs.AnswerLaws.{see_token, see_bad, see_nothing}
+use Rattle.lookahead.proofs.see.Goals as goal
+
+pub returns-in-Fit : goal.returns-in-Fit
+returns-in-Fit c =
+    see_token _ _ c.args.n c.ahead-i.ensures c.if-i-cursor.true c.shown.ensures
+    c.in-Fit.is
+
+pub returns-in-Unfit : goal.returns-in-Unfit
+returns-in-Unfit c =
+    see_bad _ _ c.args.n c.ahead-i.ensures c.if-i-cursor.true c.shown.ensures
+    c.in-Unfit.is
+
+pub returns : goal.returns
+returns c =
+    see_nothing _ _ c.args.n c.ahead-i.ensures c.if-i-cursor.false

@@ -1,0 +1,23 @@
+-- `parse::read` meets its contract: the code takes the tests of `input_of` in its order. Assumes nothing.
+use mathlib.Core.Path.{sym, ◌∙◌}
+use Rattle.fitness.specs.FitLaws.{fit_of}
+use Rattle.input.specs.InputLaws.{fine_of}
+use Rattle.parse.specs.PlanLaws.{is_refused, is_unfit, is_read}
+use Rattle.parse.proofs.read.Goals as goal
+
+pub read_format-requires : goal.read_format-requires
+read_format-requires c =
+    let g = fine_of _ _ _ _ (sym c.check_input.ensures ∙ c.in-Fine.is) in
+    (g.well, g.short, (fit_of _ g.fit).rises)
+
+pub returns-then-fit : goal.returns-then-fit
+returns-then-fit c =
+    sym (is_read _ _ _ _ (sym c.check_input.ensures ∙ c.in-Fine.is) c.if-fit.true c.read_format.ensures)
+
+pub returns-in-Refused : goal.returns-in-Refused
+returns-in-Refused c =
+    sym (is_refused _ _ _ _ (sym c.check_input.ensures ∙ c.in-Refused.is))
+
+pub returns-else-fit : goal.returns-else-fit
+returns-else-fit c =
+    sym (is_unfit _ _ _ _ (sym c.check_input.ensures ∙ c.in-Fine.is) c.if-fit.false)

@@ -1,0 +1,7 @@
+-- `profile::opener_at` meets its contract: what stands at the index is what was matched. Assumes nothing.
+use mathlib.Core.Path.{sym, ap, ◌∙◌}
+use Rattle.forbidden.specs.Pass.{opener_at}
+use Rattle.profile.proofs.opener_at.Goals as goal
+
+pub returns-in-Fit : goal.returns-in-Fit
+returns-in-Fit c = c.opener_after.ensures ∙ sym (ap (opener_at c.args.opener) c.in-Fit.is)

@@ -1,0 +1,16 @@
+-- `rescan::rescan` meets its contract: a refusal of `check_input` is the answer, and where there is none the rest answers. Assumes nothing.
+use mathlib.Core.Path.{sym, ◌∙◌}
+use Rattle.input.specs.InputLaws.{fine_of}
+use Rattle.rescan.specs.RescanLaws.{is_refused, is_readable}
+use Rattle.rescan.proofs.rescan.Goals as goal
+
+pub rescan_readable-requires : goal.rescan_readable-requires
+rescan_readable-requires c =
+    fine_of _ _ _ _ (sym c.check_input.ensures ∙ c.in-Fine.is)
+
+pub returns-in-Refused : goal.returns-in-Refused
+returns-in-Refused c = is_refused (sym c.check_input.ensures ∙ c.in-Refused.is)
+
+pub returns-in-Fine : goal.returns-in-Fine
+returns-in-Fine c =
+    is_readable (sym c.check_input.ensures ∙ c.in-Fine.is) c.rescan_readable.ensures

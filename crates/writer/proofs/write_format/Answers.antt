@@ -1,0 +1,56 @@
+-- `writer::write_format` meets its contract: by what was asked first, then by the numbers and the fill. Assumes nothing.
+use mathlib.Core.Path.{◌≡◌, sym, ap, ◌∙◌}
+use mathlib.Core.Bool.{Bool, true}
+use mathlib.Core.List.{[]}
+use Rattle.base.specs.Pick.{pick}
+use Rattle.property.specs.Table.{properties_at}
+use Rattle.fitness.specs.FitLaws.{fit_of}
+use Rattle.input.specs.Input.{input_check}
+use Rattle.input.specs.InputLaws.{fine_of}
+use Rattle.input.specs.declared.Input.TheVariants.{Fine}
+use Rattle.asked.specs.Fields.{are_fields}
+use Rattle.wanted.specs.Wanted.{Bytes, Unfilled}
+use Rattle.writer.specs.CallLaws.{refused, no_options_lem, told, same_test, no_fill}
+use Rattle.writer.proofs.write_format.Goals as goal
+use Rattle.writer.proofs.write_format.Goals.{After-are_fields}
+
+checked : (a : After-are_fields) → input_check 0 [] a.args.table.now a.args.edition ≡ Fine
+checked a = sym a.check_input.ensures ∙ a.in-Fine.is
+
+some : (a : After-are_fields) → a.are_fields.result ≡ true
+    → are_fields a.args.alignment a.args.width a.args.precision a.args.representation ≡ true
+some a e = sym a.are_fields.ensures ∙ e
+
+pub returns-then-not-are_fields : goal.returns-then-not-are_fields
+returns-then-not-are_fields c =
+    let b = c.args in
+    no_options_lem b.alignment b.width b.precision b.representation b.filled b.fill.now b.table.now b.edition b.buffer.now
+    (checked (goal.at.returns-then-not-are_fields c).After-are_fields) (sym c.are_fields.ensures ∙ c.if-not-are_fields.true)
+
+pub fields_of-fields-requires : goal.fields_of-fields-requires
+fields_of-fields-requires c = some (goal.at.fields_of-fields-requires c).After-are_fields c.if-not-are_fields.false
+
+pub write_filled-requires : goal.write_filled-requires
+write_filled-requires c =
+    fit_of _ (fine_of _ _ _ _ (checked (goal.at.write_filled-requires c).After-are_fields)).fit
+
+pub returns-then-filled : goal.returns-then-filled
+returns-then-filled c =
+    let b = c.args in
+    told b.alignment b.width b.precision b.representation b.filled b.fill.now b.table.now b.edition b.buffer.now
+    (checked (goal.at.returns-then-filled c).After-are_fields) (some (goal.at.returns-then-filled c).After-are_fields c.if-not-are_fields.false) c.fields_of-fields.result c.fields_of-fields.ensures (Bytes b.fill.now)
+    (ap (λ (x : Bool). pick x (Bytes b.fill.now) Unfilled) (sym c.if-filled.true)) c.write_filled.ensures
+
+pub returns-in-Refused : goal.returns-in-Refused
+returns-in-Refused c =
+    let b = c.args in
+    refused b.alignment b.width b.precision b.representation b.filled b.fill.now b.table.now b.edition b.buffer.now _
+    (sym c.check_input.ensures ∙ c.in-Refused.is)
+
+pub returns-else-filled : goal.returns-else-filled
+returns-else-filled c =
+    let b = c.args in
+    told b.alignment b.width b.precision b.representation b.filled b.fill.now b.table.now b.edition b.buffer.now
+    (checked (goal.at.returns-else-filled c).After-are_fields) (some (goal.at.returns-else-filled c).After-are_fields c.if-not-are_fields.false) c.fields_of-fields.result c.fields_of-fields.ensures Unfilled
+    (ap (λ (x : Bool). pick x (Bytes b.fill.now) Unfilled) (sym c.if-filled.false))
+    (same_test (no_fill (properties_at b.table.now) b.edition c.fields_of-fields.result) c.put_format.ensures)
