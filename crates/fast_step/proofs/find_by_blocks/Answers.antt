@@ -1,0 +1,56 @@
+-- `fast_step::find_by_blocks` meets its contract: the mode's tag picks the arm of `take_token`. Assumes nothing.
+use Prim.Native.Nat.{ℕ}
+use mathlib.Core.Path.{sym, ap, ◌∙◌}
+use Rattle.property.specs.Table.{properties_at}
+use Rattle.text.specs.Stands.{chars_from}
+use Rattle.state.specs.Modes.{delimiter_of}
+use Rattle.state.specs.Lexer.{reach_of}
+use Rattle.lexer.specs.GetNextToken.{next_char, in_literal}
+use Rattle.lexer.specs.ArmLaws.{quote_small, take_literal, take_format, take_contents, take_code}
+use Rattle.found.specs.FoundLaws.{finds_same, finds_nothing, finds_of}
+use Rattle.fast_step.specs.FastStepLaws.{raw_of}
+use Rattle.fast_step.proofs.find_by_blocks.Goals as goal
+
+pub contents_in_literal-requires : goal.contents_in_literal-requires
+contents_in_literal-requires c =
+    record { stands = c.requires.stands; fit_table = (c.requires.fit_table, rw c.quote_of.ensures (quote_small (delimiter_of c.args.lexer.mode))) }
+
+pub returns-in-1 : goal.returns-in-1
+returns-in-1 c =
+    let l = c.args.lexer in
+    let look = properties_at c.args.table.now in
+    let cs = chars_from c.args.source.now (reach_of l) in
+    λ edition.
+    finds_same
+    (ap (λ (q : ℕ). in_literal look q (next_char cs) cs l) c.quote_of.ensures
+    ∙ sym (take_literal look edition cs l c.in-1.is))
+    c.contents_in_literal.ensures
+
+pub returns-in-4 : goal.returns-in-4
+returns-in-4 c =
+    let l = c.args.lexer in
+    λ edition.
+    finds_same (sym (take_format (properties_at c.args.table.now) edition (chars_from c.args.source.now (reach_of l)) l c.in-4.is))
+    (c.find_options.ensures c.args.table.now c.requires.fit_table edition)
+
+pub returns-in-5 : goal.returns-in-5
+returns-in-5 c =
+    let l = c.args.lexer in
+    let look = properties_at c.args.table.now in
+    let cs = chars_from c.args.source.now (reach_of l) in
+    λ edition.
+    finds_same (sym (take_contents look edition cs l c.in-5.is))
+    (finds_of c.of.ensures c.consume_raw_string_contents.ensures (raw_of look (delimiter_of l.mode) cs l))
+
+pub returns-in-6 : goal.returns-in-6
+returns-in-6 c = λ edition. finds_nothing c.nothing.ensures
+
+pub returns-in_default : goal.returns-in_default
+returns-in_default c =
+    let l = c.args.lexer in
+    let r = c.in_default.in_default-own.rest in
+    λ edition.
+    finds_same
+    (sym
+    (take_code (properties_at c.args.table.now) edition (chars_from c.args.source.now (reach_of l)) l r.0.0.0.1 r.0.0.1 r.0.1 r.1))
+    c.long_in_code.ensures
