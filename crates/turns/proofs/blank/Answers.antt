@@ -23,12 +23,16 @@ after_is m =
 pub advance_line-requires : goal.advance_line-requires
 advance_line-requires c =
     let p = c.requires in
-    rw (c.indent_by.ensures, c.settle.ensures) (omega (arith, p.start, p.end), omega (arith, p.column))
+    record {
+      self_bound = rw (c.indent_by.ensures, c.settle.ensures) (omega (arith, p.start, p.end));
+      self_bound_2 = rw (c.indent_by.ensures, c.settle.ensures) (omega (arith, p.column));
+    }
 
 pub row_of-requires : goal.row_of-requires
 row_of-requires c =
     let p = c.requires in
-    rw (after_is (goal.at.row_of-requires c).After-remember-next) ((p.start, p.end), p.depth)
+    let a = after_is (goal.at.row_of-requires c).After-remember-next in
+    record { previous_byte_bound = rw a (p.start, p.end); depth_le_depth_most = p.depth }
 
 pub put-requires : goal.put-requires
 put-requires c =

@@ -22,7 +22,8 @@ advance_line-requires c =
 pub row_of-requires : goal.row_of-requires
 row_of-requires c =
     let p = c.requires in
-    rw (after_is (goal.at.row_of-requires c).After-remember-next) ((p.start, p.end), p.depth)
+    let a = after_is (goal.at.row_of-requires c).After-remember-next in
+    record { previous_byte_bound = rw a (p.start, p.end); depth_le_depth_most = p.depth }
 
 pub put-requires : goal.put-requires
 put-requires c =
