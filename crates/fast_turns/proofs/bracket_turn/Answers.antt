@@ -44,8 +44,8 @@ pub closed-requires : goal.closed-requires
 closed-requires c =
     let p = c.requires in
     rw c.token_of.ensures
-    (in_code c.args.edition p.0 (inside_at (goal.at.closed-requires c).After-is_inside) p.1
-    ((subst (λ (l : Lexer). ClosesIs c.args.source.now c.args.table.now l c.closes.result) c.settle-2.ensures c.closes.ensures).is c.if3.true) refl)
+    (in_code c.args.edition p.0 (inside_at (goal.at.closed-requires c).Else-not-is_inside) p.1
+    ((subst (λ (l : Lexer). ClosesIs c.args.source.now c.args.table.now l c.closes.result) c.settle-2.ensures c.closes.ensures).is c.if-closes.true) refl)
 
 pub returns-then-closes : goal.returns-then-closes
 returns-then-closes c = c.closed.ensures

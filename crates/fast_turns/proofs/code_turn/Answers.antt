@@ -76,7 +76,7 @@ returns-then-b-eq32 c =
 pub code_plain-plain-requires : goal.code_plain-plain-requires
 code_plain-plain-requires c =
     let p = c.requires in
-    record { stands = rw c.settle.ensures ((stands_at (goal.at.code_plain-plain-requires c).Else-not-is_inside, (inside_at (goal.at.code_plain-plain-requires c).Else-not-is_inside).within)); class_table = rw c.settle.ensures ((p.1.by_class, p.1.by_sign_lem)) }
+    record { stands = rw c.settle.ensures ((stands_at (goal.at.code_plain-plain-requires c).Else-not-is_inside, (inside_at (goal.at.code_plain-plain-requires c).Else-not-is_inside).within)); class_table = (p.1.by_class, p.1.by_sign) }
 
 plain_ready : (t : Then-plain-ne-ERROR)
     → ReadyAt (goal.at.Then-plain-ne-ERROR t).Else-not-is_inside

@@ -43,7 +43,7 @@ closed-requires c =
     rw c.token_of.ensures
     (ready_by c.args.edition p.0 (inside_at (goal.at.closed-requires c).Else-not-is_inside)
     (takes_quote c.args.source.now c.args.table.now c.args.edition (settled c.args.lexer) p.1 (inside_at (goal.at.closed-requires c).Else-not-is_inside).within
-    (stands_at (goal.at.closed-requires c).Else-not-is_inside).well (sym c.byte_at-b.ensures ∙ c.if2.true ∙ c.quote_of-quote.ensures)) refl)
+    (stands_at (goal.at.closed-requires c).Else-not-is_inside).well (sym c.byte_at-b.ensures ∙ c.if-b-quote.true ∙ c.quote_of-quote.ensures)) refl)
 
 pub returns-then-b-quote : goal.returns-then-b-quote
 returns-then-b-quote c = c.closed.ensures
@@ -67,11 +67,11 @@ pub passed-requires : goal.passed-requires
 passed-requires c =
     let p = c.requires in
     let s = c.args.source.now in
-    let n = ne_eqb c.contents-plain.result.kind error c.if4.true in
+    let n = ne_eqb c.contents-plain.result.kind error c.if-plain-ne-ERROR.true in
     rw c.token_of-then-plain-ne-ERROR.ensures
     (ready_by c.args.edition p.0 (inside_at (goal.at.passed-requires c).Else-not-is_inside)
     ((takes_contents s c.args.table.now c.args.edition (settled c.args.lexer) p.1 (inside_at (goal.at.passed-requires c).Else-not-is_inside).within (stands_at (goal.at.passed-requires c).Else-not-is_inside).well
-    (no_quote (goal.at.passed-requires c).After-quote_of-quote) (λ g. c.if3.false (c.byte_at-b.ensures ∙ g)) p.0.fit
+    (no_quote (goal.at.passed-requires c).Else-b-quote) (λ g. c.if-b-eq-CURLY_OPEN.false (c.byte_at-b.ensures ∙ g)) p.0.fit
     (subst (λ (n : ℕ). FindsContents s n (settled c.args.lexer) c.contents-plain.result) c.quote_of-quote.ensures
     (subst (λ (l : Lexer). FindsContents s c.quote_of-quote.result l c.contents-plain.result) c.settle.ensures c.contents-plain.ensures))
     ).is n) n)

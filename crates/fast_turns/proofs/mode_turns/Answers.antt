@@ -8,7 +8,7 @@ literal_turn-requires c =
 
 pub format_turn-requires : goal.format_turn-requires
 format_turn-requires c =
-    (c.requires.0, c.match.keys2)
+    (c.requires.0, c.in-4.is)
 
 pub code_turns-requires : goal.code_turns-requires
 code_turns-requires c =
