@@ -8,8 +8,7 @@ use compact::answer;
 // Takes back the room of every string that neither desk marks: the others move together in order, and the row `moved` tells each old index its
 // new one, or that it is gone. Refused are a pool or desks that are unfit with 8, then a mark that is no index, or a row that is shorter than the
 // count, with 20; each leaves everything.
-#[unsafe(no_mangle)]
-pub extern "C" fn koto_compact_flat(
+pub fn koto_compact_flat(
     first: &[u32],
     second: &[u32],
     bytes: &mut [u8],

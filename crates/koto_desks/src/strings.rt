@@ -37,8 +37,7 @@ fn add_from(
 // Adds a string for a desk to the pool that is lent. Refused are a string that is wrong with 3 or that its end cuts with 15, then a number that
 // is no desk, or a pool or desks that are unfit, with 8, then a string that is not there and has no room for the desk with 13; each leaves
 // everything.
-#[unsafe(no_mangle)]
-pub extern "C" fn koto_desk_add_string_flat(
+pub fn koto_desk_add_string_flat(
     desk: u32,
     string: &[u8],
     bytes: &mut [u8],

@@ -10,8 +10,7 @@ ghost use Rattle.koto_half.specs.Halves.{ScanHalfIs};
 use reading::answer;
 
 // Scans as `koto_scan` does, with its refusals, into records of five numbers; the status tells a cursor so.
-#[unsafe(no_mangle)]
-pub extern "C" fn koto_scan_half(
+pub fn koto_scan_half(
     source: &[u8],
     table: &[u32],
     edition: u32,

@@ -6,8 +6,7 @@ use reading::answer;
 // Writes the records of a source at the start of the list; every word past them stays. Refused are a source that is too long with 1, then
 // a number that is no edition with 17, then a table that is unfit with 2, then bytes that are wrong with 3 or that the end cuts with 15, each
 // before a word is written; then a token for which there is no record with 4, or no mode with 5, which leave the records before it.
-#[unsafe(no_mangle)]
-pub extern "C" fn koto_scan(
+pub fn koto_scan(
     source: &[u8],
     table: &[u32],
     edition: u32,

@@ -21,8 +21,7 @@ fn look_by(list: &[u32], taken: usize, queued: usize, count: usize, number: u32,
 
 // Shows the token that the (n+1)th following `koto_next` would hand out, and queues what is lacking for it. Refused are a cursor that is unfit
 // with 8, then more tokens than may be queued with 7, then a record that may not be shown with 9; all leave the cursor.
-#[unsafe(no_mangle)]
-pub extern "C" fn koto_look_ahead(
+pub fn koto_look_ahead(
     list: &[u32],
     taken: usize,
     queued: &mut usize,

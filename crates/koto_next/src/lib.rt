@@ -62,8 +62,7 @@ fn next_by(list: &[u32], taken: usize, queued: usize, count: usize, number: u32)
 
 // Hands out the next token, and moves the cursor on. Refused are a cursor that is unfit with 8, then a record that may not be shown with 9;
 // both leave the cursor.
-#[unsafe(no_mangle)]
-pub extern "C" fn koto_next(
+pub fn koto_next(
     list: &[u32],
     taken: &mut usize,
     queued: &mut usize,

@@ -12,8 +12,7 @@ use pad::answer;
 // that is too long with 1, then an edition that is none with 17, then a table that is unfit with 2, then bytes of the text that are wrong
 // with 3 or cut with 15, then those of the fill, then what is no format with 18, then a buffer that is too short with 19; each leaves the
 // whole buffer.
-#[unsafe(no_mangle)]
-pub extern "C" fn koto_pad(
+pub fn koto_pad(
     text: &[u8],
     alignment: u64,
     width: u64,

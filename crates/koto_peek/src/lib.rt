@@ -21,8 +21,7 @@ fn peek_by(list: &[u32], taken: usize, queued: usize, count: usize, number: u32,
 
 // Queues one more token, if there is one and n is at most what is queued, and shows queued token n. Refused are a cursor that is unfit with
 // 8, then an n that is too far with 6, then a full queue with 7, then a record that may not be shown with 9; all leave the cursor.
-#[unsafe(no_mangle)]
-pub extern "C" fn koto_peek(
+pub fn koto_peek(
     list: &[u32],
     taken: usize,
     queued: &mut usize,

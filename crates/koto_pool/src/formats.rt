@@ -18,8 +18,7 @@ fn tell(parsed: Parsed, options: &mut [u64; 7], value: &mut u64) -> u32
 // too long with 1, then a number that is no edition with 17, then a table that is unfit with 2, then bytes that are wrong with 3 or that the
 // end cuts with 15, then a pool that is unfit with 8, each before a word of the pool is written; then what the Rust refuses with 10 to 12, and
 // a string without room with 13. Strings added before that stay.
-#[unsafe(no_mangle)]
-pub extern "C" fn koto_parse(
+pub fn koto_parse(
     format: &[u8],
     table: &[u32],
     edition: u32,

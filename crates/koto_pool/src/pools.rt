@@ -17,8 +17,7 @@ fn tell(added: Added, index: &mut u32, place: &mut usize) -> u32
 // Adds a string to the pool that is lent: a row of bytes, a row of entries, and the counts of what is in use. Refused are a string that is
 // wrong with 3 or that its end cuts with 15, then a pool that is unfit with 8, then a string that is not there and has no room with 13; each
 // leaves the pool.
-#[unsafe(no_mangle)]
-pub extern "C" fn koto_add_string(
+pub fn koto_add_string(
     string: &[u8],
     bytes: &mut [u8],
     entries: &mut [Entry],

@@ -10,8 +10,7 @@ use profile::answer;
 
 // Scans as `koto_scan` does, with its refusals. Then refused with 21 is a source with a forbidden token, a raw string's start or the "{" of a
 // template inside a template: at the index of the first such record; the list keeps the whole scan.
-#[unsafe(no_mangle)]
-pub extern "C" fn koto_scan_profile(
+pub fn koto_scan_profile(
     source: &[u8],
     table: &[u32],
     edition: u32,

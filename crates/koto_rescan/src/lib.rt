@@ -14,8 +14,7 @@ use rescan::answer;
 // are taken from the old list. Every word past them stays. Refused are what `koto_scan` refuses of the new source before any work, then an
 // edit that does not lead from the old source to the new one with 16, then an old list that is shorter than its count with 8, each before a
 // word is written; then as `koto_scan` with 4 or 5.
-#[unsafe(no_mangle)]
-pub extern "C" fn koto_rescan(
+pub fn koto_rescan(
     old: &[u8],
     old_list: &[u32],
     old_count: usize,

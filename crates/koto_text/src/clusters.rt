@@ -5,8 +5,7 @@ use cluster::answer;
 
 // The length in bytes of the source's first cluster; no bytes give 0. Refused are a source that is too long with 1, then a number that is no
 // edition with 17, then a table that is unfit with 2, then bytes that are wrong with 3 or that the end cuts with 15.
-#[unsafe(no_mangle)]
-pub extern "C" fn koto_first_cluster(
+pub fn koto_first_cluster(
     source: &[u8],
     table: &[u32],
     edition: u32,

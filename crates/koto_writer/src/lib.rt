@@ -11,8 +11,7 @@ use writer::answer;
 // Writes the format string for options to the start of the buffer; bytes past it stay. A fill is given where `filled` is not 0. Refused are an
 // edition that is none with 17, then a table that is unfit with 2, then options as which no format string is read back with 18, then a buffer
 // that is too short with 19; each leaves the whole buffer.
-#[unsafe(no_mangle)]
-pub extern "C" fn koto_write_format(
+pub fn koto_write_format(
     alignment: u64,
     width: u64,
     precision: u64,

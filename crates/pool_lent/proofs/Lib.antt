@@ -1,9 +1,3 @@
 pub mod Numbers
 pub mod Loops
 pub mod Adds
-pub mod Turns
-pub mod Walk
-pub mod Places
-pub mod Rows
-pub mod Shared
-pub mod LeastCall

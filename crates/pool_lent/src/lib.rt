@@ -37,7 +37,8 @@ fn least(a: usize, b: usize) -> usize
 
 // Where an entry ends that starts where those before it end.
 fn end_of(end: u64, start: u32, len: u32) -> u64
-    ensures { result ≡ end_of end start len }
+    ensures value { result ≡ end_of end start len }
+    ensures in_range { (start < 4294967296) × (len < 4294967296) }
 {
     if end == start as u64 {
         return start as u64 + len as u64;

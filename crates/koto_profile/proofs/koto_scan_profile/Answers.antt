@@ -1,0 +1,15 @@
+-- `koto_scan_profile` meets its contract: each number is that of the inner answer, and the list is as it left it. Assumes nothing.
+use mathlib.Core.Path.{ap, ◌∙◌}
+use Rattle.profile.specs.Profile.{number_of, place_of, count_of, status_of}
+use Rattle.koto_profile.proofs.koto_scan_profile.Goals as goal
+
+pub returns : goal.returns
+returns c =
+    let scan = c.scan_profile-profiled.ensures in
+    record {
+      number = c.number_of.ensures ∙ ap number_of scan.answer;
+      status_is = c.status_of.ensures ∙ ap status_of scan.answer;
+      count_is = c.count_of.ensures ∙ ap count_of scan.answer;
+      byte_is = c.place_of.ensures ∙ ap place_of scan.answer;
+      words = scan.words;
+    }
