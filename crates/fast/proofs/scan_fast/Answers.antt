@@ -1,0 +1,28 @@
+-- `fast::scan_fast` meets its contract: a refusal of `check_input` is the answer, and where there is none it reads on from the start.
+-- Assumes nothing.
+use mathlib.Core.Path.{sym, subst, ◌∙◌}
+use native.Mathlib.Omega.{arith}
+use Rattle.fitness.specs.FitLaws.{fit_of}
+use Rattle.input.specs.InputLaws.{fine_of}
+use Rattle.stepping.specs.Invariant.{Ok}
+use Rattle.stepping.specs.InvariantLaws.{start_ok_lem}
+use Rattle.reading.specs.ScanLaws.{scans_refused, scans_fine}
+use Rattle.fast.proofs.scan_fast.Goals as goal
+
+pub read_on-requires : goal.read_on-requires
+read_on-requires c =
+    let g = fine_of _ _ _ _ (sym c.check_input.ensures ∙ c.in-Fine.is) in record {
+      ok = (
+        subst (Ok _) (sym c.new.ensures) (start_ok_lem _ g.short g.well),
+        fit_of _ g.fit,
+        omega arith,
+      );
+      rows = record { by_class = c.classes-classes.ensures; by_sign = c.signs-signs.ensures };
+    }
+
+pub returns-in-Refused : goal.returns-in-Refused
+returns-in-Refused c = scans_refused (sym c.check_input.ensures ∙ c.in-Refused.is)
+
+pub returns-in-Fine : goal.returns-in-Fine
+returns-in-Fine c =
+    scans_fine (sym c.check_input.ensures ∙ c.in-Fine.is) c.new.ensures c.read_on.ensures

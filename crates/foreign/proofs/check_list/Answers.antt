@@ -1,0 +1,24 @@
+-- `foreign::check_list` meets its contract: a refusal of `check_input` is the answer, then 8, and else what `compare` says. Assumes nothing.
+use mathlib.Core.Path.{sym, ◌∙◌}
+use native.Mathlib.Omega.{arith}
+use Rattle.fitness.specs.FitLaws.{fit_of}
+use Rattle.input.specs.InputLaws.{fine_of}
+use Rattle.foreign.specs.CheckLaws.{is_refused, is_short, is_compared}
+use Rattle.foreign.proofs.check_list.Goals as goal
+
+pub returns-then-room-count : goal.returns-then-room-count
+returns-then-room-count c =
+    is_short _ _ _ _ _ _ (sym c.check_input.ensures ∙ c.in-Fine.is) (omega (arith, c.if-room-count.true, c.room.ensures))
+
+pub compare-requires : goal.compare-requires
+compare-requires c =
+    let g = fine_of _ _ _ _ (sym c.check_input.ensures ∙ c.in-Fine.is) in
+    record { source_len_bound = (g.short, g.well, fit_of _ g.fit, omega (arith, c.if-room-count.false, c.room.ensures)); class_table = (c.classes-classes.ensures, c.signs-signs.ensures) }
+
+pub returns-in-Refused : goal.returns-in-Refused
+returns-in-Refused c = is_refused _ _ _ _ _ _ (sym c.check_input.ensures ∙ c.in-Refused.is)
+
+pub returns-else-room-count : goal.returns-else-room-count
+returns-else-room-count c =
+    is_compared _ _ _ _ _ _ (sym c.check_input.ensures ∙ c.in-Fine.is) (omega (arith, c.if-room-count.false, c.room.ensures))
+    c.compare.ensures
