@@ -20,16 +20,16 @@ use Rattle.input.specs.declared.Input.TheVariants.{Fine, Refused}
 -- ---- editions of the cluster rules
 
 -- without GB9c, as before Unicode 15.1
-abbrev pub without_gB9c : ℕ
-without_gB9c = 1
+abbrev pub without_gb9c : ℕ
+without_gb9c = 1
 
 -- with it: document 01's
-abbrev pub with_gB9c : ℕ
-with_gB9c = 2
+abbrev pub with_gb9c : ℕ
+with_gb9c = 2
 
 -- no other number is one
 abbrev pub is_edition : ℕ → Bool
-is_edition edition = inside edition without_gB9c with_gB9c
+is_edition edition = inside edition without_gb9c with_gb9c
 
 -- ---- the checks
 

@@ -10,7 +10,7 @@ use Rattle.std.proofs.Math.Path.{subst}
 use mathlib.Core.List.{List}
 use Rattle.base.specs.PickLaws.{by_test}
 use Rattle.fitness.specs.Small.{small_table}
-use Rattle.input.specs.Input.{with_gB9c}
+use Rattle.input.specs.Input.{with_gb9c}
 use Rattle.input.specs.declared.Refusal.TheVariants.{TooLong}
 use Rattle.rows.specs.Row.{room}
 use Rattle.rows.specs.RowLaws.{same_room, rows_none}
@@ -26,11 +26,11 @@ module _ {source old : List ℕ} where
   lists_long h =
       record { answer = rw (lt-ltb list_most (length source) h); words = rw (lt-ltb list_most (length source) h) (sym (rows_none old)) }
 
-  pub lists_scan : {table : List ℕ} {r : Scanned} {new : List ℕ} → length source ≤ list_most → table ≡ small_table → Scans source table with_gB9c old r new
+  pub lists_scan : {table : List ℕ} {r : Scanned} {new : List ℕ} → length source ≤ list_most → table ≡ small_table → Scans source table with_gb9c old r new
       → Lists source old r new
   unfolding listed listed_rows
   lists_scan {table} {r} {new} h e s =
-      let small : Scans source small_table with_gB9c old r new = subst (λ (t : List ℕ). Scans source t with_gB9c old r new) e s in
+      let small : Scans source small_table with_gb9c old r new = subst (λ (t : List ℕ). Scans source t with_gb9c old r new) e s in
       record {
         answer = rw (le-ltb list_most (length source) h) small.answer;
         words = rw (le-ltb list_most (length source) h) small.words;
@@ -39,7 +39,7 @@ module _ {source old : List ℕ} where
 listed_count : (source : List ℕ) (n : ℕ) → count_of (listed source n) ≤ n
 unfolding listed
 listed_count source n =
-    by_test (λ (r : Scanned). count_of r ≤ n) (ltb list_most (length source)) (λ _. omega arith) (λ _. count_room n source small_table with_gB9c)
+    by_test (λ (r : Scanned). count_of r ≤ n) (ltb list_most (length source)) (λ _. omega arith) (λ _. count_room n source small_table with_gb9c)
 
 pub lists_within : {source old new : List ℕ} {r : Scanned} → Lists source old r new → length new ≡ length old → count_of r ≤ room new
 lists_within {source} {old} {new} {r} f long =

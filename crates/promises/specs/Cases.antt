@@ -4,7 +4,7 @@
 -- Assumes nothing.
 use Rattle.std.specs.Prelude.{ℕ, List, [], ◌∷◌, replicate}
 use Rattle.fitness.specs.Small.{small_table}
-use Rattle.input.specs.Input.{with_gB9c}
+use Rattle.input.specs.Input.{with_gb9c}
 use Rattle.token.specs.Kind.{error, comment_multi, id, string_start, string_end, string_literal, dot, else, else_if}
 use Rattle.rows.specs.declared.Row.{Row}
 use Rattle.words.specs.Words.{bytes}
@@ -57,8 +57,8 @@ strings_in p = strings_of p.bytes p.entries p.counts.entries
 
 -- what the definitions give for a call
 abbrev pub run : Call → Gives
-run (scan source) = records (scanned source small_table with_gB9c list_room) (written source small_table with_gB9c list_room)
-run (format text) = options (parse.call text small_table with_gB9c empty_pool).answer (strings_in (parse.call text small_table with_gB9c empty_pool).pool)
+run (scan source) = records (scanned source small_table with_gb9c list_room) (written source small_table with_gb9c list_room)
+run (format text) = options (parse.call text small_table with_gb9c empty_pool).answer (strings_in (parse.call text small_table with_gb9c empty_pool).pool)
 
 -- what the definitions give for a case, and what the case says
 abbrev pub ran : Case → Gives

@@ -8,7 +8,7 @@ use Rattle.std.proofs.Common.{◌∙◌}
 use mathlib.Core.List.{List, [], ◌∷◌}
 use Rattle.std.proofs.Math.ListN.{length, get_or}
 use Rattle.fitness.specs.Small.{small_table}
-use Rattle.input.specs.Input.{with_gB9c}
+use Rattle.input.specs.Input.{with_gb9c}
 use Rattle.rows.specs.Row.{room, words_of_all, put_rows}
 use Rattle.words.specs.Words.{bytes}
 use Rattle.reading.specs.Scan.{written, number_of}
@@ -25,38 +25,38 @@ module _ (f : Scan) (meets : Meets f) where
   -- the empty source is read to its end, even without room
   pub refuses_everything : RefusesEverything f → ⊥
   unfolding reads_computed
-  refuses_everything wrong = wrong [] small_table with_gB9c [] (ap number_of (meets [] small_table with_gB9c []).answer)
+  refuses_everything wrong = wrong [] small_table with_gb9c [] (ap number_of (meets [] small_table with_gb9c []).answer)
 
   -- the first word after a scan of a source into zeros
   abbrev first_word : List ℕ → ℕ
-  first_word source = get_or (f source small_table with_gB9c zeros).1 0 0
+  first_word source = get_or (f source small_table with_gb9c zeros).1 0 0
 
   -- "#-#" is a CommentMulti
   comment : first_word (bytes "#-#") ≡ 4
   unfolding reads_computed words_of_all put_rows
-  comment = ap (λ (l : List ℕ). get_or l 0 0) (meets (bytes "#-#") small_table with_gB9c zeros).words
+  comment = ap (λ (l : List ℕ). get_or l 0 0) (meets (bytes "#-#") small_table with_gb9c zeros).words
 
   -- "\r" is an Error
   lone_return : first_word (13 ∷ []) ≡ 0
   unfolding reads_computed words_of_all put_rows
-  lone_return = ap (λ (l : List ℕ). get_or l 0 0) (meets (13 ∷ []) small_table with_gB9c zeros).words
+  lone_return = ap (λ (l : List ℕ). get_or l 0 0) (meets (13 ∷ []) small_table with_gb9c zeros).words
 
   pub one_fixed_list : OneFixedList f → ⊥
   one_fixed_list wrong =
       let same : first_word (bytes "#-#") ≡ first_word (13 ∷ []) =
-      ap (λ (l : List ℕ). get_or l 0 0) (wrong (bytes "#-#") (13 ∷ []) small_table with_gB9c zeros) in
+      ap (λ (l : List ℕ). get_or l 0 0) (wrong (bytes "#-#") (13 ∷ []) small_table with_gb9c zeros) in
       omega (arith, comment, lone_return)
 
   pub writes_nothing : WritesNothing f → ⊥
   writes_nothing wrong =
-      let kept : first_word (bytes "#-#") ≡ 0 = ap (λ (l : List ℕ). get_or l 0 0) (wrong (bytes "#-#") small_table with_gB9c zeros) in omega (arith, comment)
+      let kept : first_word (bytes "#-#") ≡ 0 = ap (λ (l : List ℕ). get_or l 0 0) (wrong (bytes "#-#") small_table with_gb9c zeros) in omega (arith, comment)
 
   -- `r""` has three records, and is read to its end
   pub first_token_then_stuck : FirstTokenThenStuck f → ⊥
   unfolding reads_computed
   first_token_then_stuck wrong =
-      let three : length (written (bytes "r\"\"") small_table with_gB9c (room zeros)) ≡ 3 = refl in
-      let told = sym (meets (bytes "r\"\"") small_table with_gB9c zeros).answer ∙ wrong (bytes "r\"\"") small_table with_gB9c zeros (omega arith) in
+      let three : length (written (bytes "r\"\"") small_table with_gb9c (room zeros)) ≡ 3 = refl in
+      let told = sym (meets (bytes "r\"\"") small_table with_gb9c zeros).answer ∙ wrong (bytes "r\"\"") small_table with_gb9c zeros (omega arith) in
       let z : ◌≡◌ {A = ℕ} 0 1 = cc in
       omega arith
 

@@ -88,8 +88,8 @@ hangul_v = 10
 abbrev pub hangul_t : ℕ
 hangul_t = 11
 
-abbrev pub hangul_lV : ℕ
-hangul_lV = 12
+abbrev pub hangul_lv : ℕ
+hangul_lv = 12
 
-abbrev pub hangul_lVT : ℕ
-hangul_lVT = 13
+abbrev pub hangul_lvt : ℕ
+hangul_lvt = 13

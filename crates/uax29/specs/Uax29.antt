@@ -6,7 +6,7 @@
 -- Assumes nothing.
 use Rattle.std.specs.Prelude.{ℕ, List, [], ◌∷◌, Bool, true, false, not, ◌&&◌, ◌||◌, eqb, get_or}
 use Rattle.base.specs.Pick.{pick}
-use Rattle.property.specs.Parts.{class_of, is_pict, incb_of, cr, lf, control, extend, zwj, regional_indicator, prepend, spacing_mark, hangul_l, hangul_v, hangul_t, hangul_lV, hangul_lVT, consonant, incb_extend, linker}
+use Rattle.property.specs.Parts.{class_of, is_pict, incb_of, cr, lf, control, extend, zwj, regional_indicator, prepend, spacing_mark, hangul_l, hangul_v, hangul_t, hangul_lv, hangul_lvt, consonant, incb_extend, linker}
 use Rattle.uax29.specs.declared.Pair.{Pair}
 use Rattle.uax29.specs.declared.Pair.TheVariants.{Joined, Broken, Open}
 
@@ -22,15 +22,15 @@ gb3 b a = eqb b cr && eqb a lf
 
 -- GB6: L × (L | V | LV | LVT)
 unfoldable pub gb6 : ℕ → ℕ → Bool
-gb6 b a = eqb b hangul_l && (eqb a hangul_l || (eqb a hangul_v || (eqb a hangul_lV || eqb a hangul_lVT)))
+gb6 b a = eqb b hangul_l && (eqb a hangul_l || (eqb a hangul_v || (eqb a hangul_lv || eqb a hangul_lvt)))
 
 -- GB7: (LV | V) × (V | T)
 unfoldable pub gb7 : ℕ → ℕ → Bool
-gb7 b a = (eqb b hangul_lV || eqb b hangul_v) && (eqb a hangul_v || eqb a hangul_t)
+gb7 b a = (eqb b hangul_lv || eqb b hangul_v) && (eqb a hangul_v || eqb a hangul_t)
 
 -- GB8: (LVT | T) × T
 unfoldable pub gb8 : ℕ → ℕ → Bool
-gb8 b a = (eqb b hangul_lVT || eqb b hangul_t) && eqb a hangul_t
+gb8 b a = (eqb b hangul_lvt || eqb b hangul_t) && eqb a hangul_t
 
 -- GB9: × (Extend | ZWJ)
 unfoldable pub gb9 : ℕ → Bool

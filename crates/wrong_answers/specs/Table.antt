@@ -3,7 +3,7 @@
 use Rattle.std.specs.Prelude.{ℕ, zero, suc, ◌+◌, ◌*◌, List, [], ◌∷◌, ◌++◌, length, take, drop, replicate}
 use Rattle.fitness.specs.Small.{small_table}
 use Rattle.table_file.specs.File.{file_of}
-use Rattle.input.specs.Input.{without_gB9c, with_gB9c}
+use Rattle.input.specs.Input.{without_gb9c, with_gb9c}
 use Rattle.token.specs.Kind as kind
 use Rattle.words.specs.Words.{bytes}
 use Rattle.reading.specs.Status.{end_number, stuck_number, refused_number, end_half_number, stuck_half_number}
@@ -214,26 +214,26 @@ of_tables =
 abbrev pub of_clusters : List Wrong
 of_clusters =
     -- GB11 asks for a pictograph before the ZWJ too
-    first_cluster (bytes "a" ++ two 2 ++ two 3) rich with_gB9c 5 0 0
+    first_cluster (bytes "a" ++ two 2 ++ two 3) rich with_gb9c 5 0 0
     -- GB9a: no break before a SpacingMark
-    ∷ first_cluster (bytes "a" ++ two 6) rich with_gB9c 1 0 0
+    ∷ first_cluster (bytes "a" ++ two 6) rich with_gb9c 1 0 0
     -- GB9c asks for a linker between the consonants
-    ∷ first_cluster (two 4 ++ two 5 ++ two 4) rich with_gB9c 6 0 0
+    ∷ first_cluster (two 4 ++ two 5 ++ two 4) rich with_gb9c 6 0 0
     -- a third Regional_Indicator begins a new cluster
-    ∷ first_cluster (two 1 ++ two 1 ++ two 1) rich with_gB9c 6 0 0
+    ∷ first_cluster (two 1 ++ two 1 ++ two 1) rich with_gb9c 6 0 0
     -- the length is that of the first cluster, in bytes
-    ∷ first_cluster (bytes "a") small_table with_gB9c 0 0 0
+    ∷ first_cluster (bytes "a") small_table with_gb9c 0 0 0
     -- only a refusal has a place
-    ∷ first_cluster (bytes "ab") small_table with_gB9c 1 1 0
+    ∷ first_cluster (bytes "ab") small_table with_gb9c 1 1 0
     -- refusal 2 keeps the place that the check of the table gives it
-    ∷ first_cluster [] other_nul with_gB9c 0 0 2
+    ∷ first_cluster [] other_nul with_gb9c 0 0 2
     -- and comes before what is said of the bytes, with a number of its own
-    ∷ first_cluster bad_at_one other_nul with_gB9c 0 1 3
+    ∷ first_cluster bad_at_one other_nul with_gb9c 0 1 3
     -- 17 comes before 2
     ∷ first_cluster [] other_nul 3 0 23 2
     -- 3 and 15 are told apart
-    ∷ first_cluster cut_euro small_table with_gB9c 0 0 3
-    ∷ first_cluster bad_at_one small_table with_gB9c 0 1 15
+    ∷ first_cluster cut_euro small_table with_gb9c 0 0 3
+    ∷ first_cluster bad_at_one small_table with_gb9c 0 1 15
     ∷ []
 
 -- ---- scans
@@ -241,53 +241,53 @@ of_clusters =
 abbrev pub of_scans : List Wrong
 of_scans =
     -- the count is that of the records written, the Error that stands still among them
-    scan (bytes "\r") small_table with_gB9c (zeros 1) (zeros 1) stuck_number 2 0 0
-    ∷ scan (bytes "a") small_table with_gB9c (zeros 2) (row kind.id 0 0 0 1 ++ zeros 1) end_number 2 1 0
+    scan (bytes "\r") small_table with_gb9c (zeros 1) (zeros 1) stuck_number 2 0 0
+    ∷ scan (bytes "a") small_table with_gb9c (zeros 2) (row kind.id 0 0 0 1 ++ zeros 1) end_number 2 1 0
     -- the Rust would repeat that Error for ever, and never answer None
-    ∷ scan (bytes "\r") small_table with_gB9c (zeros 1) (zeros 1) end_number 1 0 0
+    ∷ scan (bytes "\r") small_table with_gb9c (zeros 1) (zeros 1) end_number 1 0 0
     -- an Error that stands still has the range and span before it; the next ones would be empty, and begin where those end
-    ∷ scan (bytes "a\r") small_table with_gB9c (zeros 2) (row kind.id 0 0 0 1 ++ row kind.error 0 0 1 1) stuck_number 2 1 0
+    ∷ scan (bytes "a\r") small_table with_gb9c (zeros 2) (row kind.id 0 0 0 1 ++ row kind.error 0 0 1 1) stuck_number 2 1 0
     -- the list's last word is past the records
-    ∷ scan (bytes "a") small_table with_gB9c (replicate 9 7) (row kind.id 0 0 0 1 ++ (0 ∷ [])) end_number 1 1 0
+    ∷ scan (bytes "a") small_table with_gb9c (replicate 9 7) (row kind.id 0 0 0 1 ++ (0 ∷ [])) end_number 1 1 0
     -- the first number has room for 128 kinds below the detail
-    ∷ scan (bytes "'") small_table with_gB9c (zeros 1) ((kind.string_start + 64) ∷ drop 1 (row kind.string_start 1 0 0 1)) end_number 1 1 0
+    ∷ scan (bytes "'") small_table with_gb9c (zeros 1) ((kind.string_start + 64) ∷ drop 1 (row kind.string_start 1 0 0 1)) end_number 1 1 0
     -- the byte start is the second number, and the indent is the eighth
-    ∷ scan (bytes "a") small_table with_gB9c (replicate 8 7) (kind.id ∷ 7 ∷ 1 ∷ 0 ∷ 0 ∷ 0 ∷ 1 ∷ 0 ∷ []) end_number 1 1 0
-    ∷ scan (bytes "a") small_table with_gB9c (replicate 9 7) (kind.id ∷ 0 ∷ 1 ∷ 0 ∷ 0 ∷ 0 ∷ 1 ∷ 7 ∷ 0 ∷ []) end_number 1 1 0
+    ∷ scan (bytes "a") small_table with_gb9c (replicate 8 7) (kind.id ∷ 7 ∷ 1 ∷ 0 ∷ 0 ∷ 0 ∷ 1 ∷ 0 ∷ []) end_number 1 1 0
+    ∷ scan (bytes "a") small_table with_gb9c (replicate 9 7) (kind.id ∷ 0 ∷ 1 ∷ 0 ∷ 0 ∷ 0 ∷ 1 ∷ 7 ∷ 0 ∷ []) end_number 1 1 0
     -- a record that lacks its last number has no room
-    ∷ scan (bytes "a") small_table with_gB9c (replicate 7 7) (take 7 (row kind.id 0 0 0 1)) end_number 1 1 0
+    ∷ scan (bytes "a") small_table with_gb9c (replicate 7 7) (take 7 (row kind.id 0 0 0 1)) end_number 1 1 0
     -- there are two editions
     ∷ scan [] small_table 3 [] [] end_number 0 0 0
     -- a list that is full is refusal 4, and its scan has not come to the end
-    ∷ scan (bytes "a") small_table with_gB9c [] [] refused_number 0 0 5
-    ∷ scan (bytes "a") small_table with_gB9c [] [] end_number 0 0 4
+    ∷ scan (bytes "a") small_table with_gb9c [] [] refused_number 0 0 5
+    ∷ scan (bytes "a") small_table with_gb9c [] [] end_number 0 0 4
     -- a refusal that comes before any work leaves every word of the list
-    ∷ scan bad_at_one small_table with_gB9c (zeros 1) (row kind.id 0 0 0 1) refused_number 0 1 3
+    ∷ scan bad_at_one small_table with_gb9c (zeros 1) (row kind.id 0 0 0 1) refused_number 0 1 3
     -- a string literal ends before "{", where a template expression begins
-    ∷ scan (bytes "'{") small_table with_gB9c (zeros 2) (row kind.string_start 1 0 0 1 ++ row kind.string_literal 0 1 1 2) end_number 2 2 0
+    ∷ scan (bytes "'{") small_table with_gb9c (zeros 2) (row kind.string_start 1 0 0 1 ++ row kind.string_literal 0 1 1 2) end_number 2 2 0
     -- the end of a raw string has its quote
-    ∷ scan (bytes "r''") small_table with_gB9c (zeros 3)
+    ∷ scan (bytes "r''") small_table with_gb9c (zeros 3)
     (row kind.string_start 3 0 0 2 ++ row kind.string_literal 0 1 2 2 ++ row kind.string_end 0 1 2 2) stuck_number 3 2 0
     -- after the contents of a raw string its end is read, and not its contents again
-    ∷ scan (bytes "r''") small_table with_gB9c (zeros 3)
+    ∷ scan (bytes "r''") small_table with_gb9c (zeros 3)
     (row kind.string_start 3 0 0 2 ++ row kind.string_literal 0 1 2 2 ++ row kind.string_literal 0 1 2 2) refused_number 3 2 4
     -- in a string literal "\\{" is contents, and its brace opens no template
-    ∷ scan (bytes "'\\{x'") small_table with_gB9c (zeros 5)
+    ∷ scan (bytes "'\\{x'") small_table with_gb9c (zeros 5)
     (row kind.string_start 1 0 0 1 ++ row kind.string_literal 0 1 1 2 ++ row kind.curly_open 0 1 2 3 ++ row kind.id 0 2 3 4 ++ row kind.string_start 1 2 4 5)
     end_number 5 5 0
     -- the alignments are "<", "^" and ">", so a "}" before "=" is no fill and ends the options
-    ∷ scan (bytes "'{x:}=}'") small_table with_gB9c (zeros 8)
+    ∷ scan (bytes "'{x:}=}'") small_table with_gb9c (zeros 8)
     (to_options ++ row kind.string_literal 0 3 4 6 ++ row kind.curly_close 0 2 6 7 ++ row kind.string_end 0 1 7 8 ++ zeros 1) end_number 7 8 0
     -- a "}" with an alignment after it is the fill, and does not end them
-    ∷ scan (bytes "'{x:}<}'") small_table with_gB9c (zeros 8)
+    ∷ scan (bytes "'{x:}<}'") small_table with_gb9c (zeros 8)
     (to_options ++ row kind.string_literal 0 3 4 4 ++ row kind.curly_close 0 2 4 5 ++ row kind.string_literal 0 1 5 7 ++ row kind.string_end 0 1 7 8)
     end_number 8 8 0
     -- the options reach to the brace that ends them
-    ∷ scan (bytes "'{x:5}'") small_table with_gB9c (zeros 8)
+    ∷ scan (bytes "'{x:5}'") small_table with_gb9c (zeros 8)
     (to_options ++ row kind.string_literal 0 3 4 4 ++ row kind.number 0 2 4 5 ++ row kind.curly_close 0 2 5 6 ++ row kind.string_end 0 1 6 7)
     end_number 8 7 0
     -- the edition is the caller's: by GB9c the fill would reach over the first "}" here, and edition 1 is without it
-    ∷ scan joined_brace rich without_gB9c (zeros 8)
+    ∷ scan joined_brace rich without_gb9c (zeros 8)
     (to_options ++ row kind.string_literal 0 3 4 12 ++ row kind.curly_close 0 2 12 13 ++ row kind.string_end 0 1 13 14 ++ zeros 1) end_number 7 14 0
     ∷ []
 
@@ -295,7 +295,7 @@ of_scans =
 
 -- a scan that comes to the end of a source and leaves this list, of which so many records count, in a list of zeros with this room
 abbrev lexes : List ℕ → List ℕ → ℕ → ℕ → Wrong
-lexes source new count room = scan source small_table with_gB9c (zeros room) new end_number count (length source) 0
+lexes source new count room = scan source small_table with_gb9c (zeros room) new end_number count (length source) 0
 
 abbrev pub of_tokens : List Wrong
 of_tokens =
@@ -343,7 +343,7 @@ of_tokens =
     -- "#-" inside a comment opens nothing: the first "-#" behind it closes the comment
     ∷ lexes (bytes "#- #--# -#") (row kind.comment_multi 0 0 0 10 ++ zeros 3) 1 4
     -- an unclosed comment is an Error that reaches the end, and not one that stands still
-    ∷ scan (bytes "#-") small_table with_gB9c (zeros 1) (row kind.error 0 0 0 0) stuck_number 1 0 0
+    ∷ scan (bytes "#-") small_table with_gb9c (zeros 1) (row kind.error 0 0 0 0) stuck_number 1 0 0
     -- a quote with one hash too few after it is contents
     ∷ lexes (bytes "r#'''#")
     (row kind.string_start 5 0 0 3 ++ row kind.string_literal 0 1 3 3 ++ row kind.string_end 0 1 3 4 ++ row kind.string_start 1 0 4 5
@@ -387,22 +387,22 @@ of_tokens =
 abbrev pub of_half_scans : List Wrong
 of_half_scans =
     -- the room is the list's length by five: here two records have room, and not one
-    scan_half (bytes "a ") small_table with_gB9c (half_zeros 2) (half_row kind.id 1 ++ half_zeros 1) refused_number 1 1 4
+    scan_half (bytes "a ") small_table with_gb9c (half_zeros 2) (half_row kind.id 1 ++ half_zeros 1) refused_number 1 1 4
     -- the status tells the layout
-    ∷ scan_half (bytes "a") small_table with_gB9c (half_zeros 1) (half_row kind.id 1) end_number 1 1 0
+    ∷ scan_half (bytes "a") small_table with_gb9c (half_zeros 1) (half_row kind.id 1) end_number 1 1 0
     -- an Error that stands still has the mark
-    ∷ scan_half (bytes "\r") small_table with_gB9c (half_zeros 1) (half_row kind.error 0) stuck_half_number 1 0 0
+    ∷ scan_half (bytes "\r") small_table with_gb9c (half_zeros 1) (half_row kind.error 0) stuck_half_number 1 0 0
     -- and no other record
-    ∷ scan_half (bytes "a\r") small_table with_gB9c (half_zeros 2) (half_row (kind.id + 268435456) 1 ++ half_row still_error 1) stuck_half_number 2 1 0
+    ∷ scan_half (bytes "a\r") small_table with_gb9c (half_zeros 2) (half_row (kind.id + 268435456) 1 ++ half_row still_error 1) stuck_half_number 2 1 0
     -- the first number of a record is followed by its byte end
-    ∷ scan_half (bytes "a") small_table with_gB9c (half_zeros 1) (kind.id ∷ 0 ∷ 1 ∷ 1 ∷ 0 ∷ []) end_half_number 1 1 0
+    ∷ scan_half (bytes "a") small_table with_gb9c (half_zeros 1) (kind.id ∷ 0 ∷ 1 ∷ 1 ∷ 0 ∷ []) end_half_number 1 1 0
     -- a word past the records stays
-    ∷ scan_half (bytes "a") small_table with_gB9c (replicate 6 7) (half_row kind.id 1 ++ (0 ∷ [])) end_half_number 1 1 0
+    ∷ scan_half (bytes "a") small_table with_gb9c (replicate 6 7) (half_row kind.id 1 ++ (0 ∷ [])) end_half_number 1 1 0
     -- the byte is where the last record ends, or the place of a refusal
-    ∷ scan_half (bytes "a") small_table with_gB9c (half_zeros 1) (half_row kind.id 1) end_half_number 1 0 0
-    ∷ scan_half bad_at_one small_table with_gB9c [] [] refused_number 0 0 3
+    ∷ scan_half (bytes "a") small_table with_gb9c (half_zeros 1) (half_row kind.id 1) end_half_number 1 0 0
+    ∷ scan_half bad_at_one small_table with_gb9c [] [] refused_number 0 0 3
     -- the edition is the caller's here too
-    ∷ scan_half joined_brace rich without_gB9c (half_zeros 8)
+    ∷ scan_half joined_brace rich without_gb9c (half_zeros 8)
     (half_row (kind.string_start + 128) 1 ++ half_deep kind.curly_open 1 2 ++ half_deep kind.id 2 3 ++ half_deep kind.colon 2 4
     ++ half_deep kind.string_literal 3 12 ++ half_deep kind.curly_close 2 13 ++ half_deep kind.string_end 1 14 ++ half_zeros 1) end_half_number 7 14 0
     ∷ []
@@ -412,7 +412,7 @@ of_half_scans =
 abbrev pub of_fast_scans : List Wrong
 of_fast_scans =
     -- how many records were written is told
-    scan_fast (bytes "a") small_table with_gB9c (zeros 1) (row kind.id 0 0 0 1) end_number 0 1 0
+    scan_fast (bytes "a") small_table with_gb9c (zeros 1) (row kind.id 0 0 0 1) end_number 0 1 0
     ∷ []
 
 -- ---- scans by the site profile
@@ -434,11 +434,11 @@ number_raw = row kind.number 0 0 0 1 ++ row kind.string_start 3 0 1 3
 abbrev pub of_profiles : List Wrong
 of_profiles =
     -- the index of the forbidden record stands in the byte: not 0
-    scan_profile (bytes "1r'") small_table with_gB9c (zeros 2) number_raw refused_number 2 0 21
+    scan_profile (bytes "1r'") small_table with_gb9c (zeros 2) number_raw refused_number 2 0 21
     -- nor the one after it
-    ∷ scan_profile (bytes "1r'") small_table with_gB9c (zeros 2) number_raw refused_number 2 2 21
+    ∷ scan_profile (bytes "1r'") small_table with_gb9c (zeros 2) number_raw refused_number 2 2 21
     -- 21 comes after a scan that was not refused: a 65th mode is 5, whatever the records before it are
-    ∷ scan_profile (nested 32 ++ bytes "'") small_table with_gB9c (zeros 65) (nested_rows 0 32 ++ zeros 1) refused_number 64 3 21
+    ∷ scan_profile (nested 32 ++ bytes "'") small_table with_gb9c (zeros 65) (nested_rows 0 32 ++ zeros 1) refused_number 64 3 21
     ∷ []
 
 -- ---- look-ahead
@@ -508,17 +508,17 @@ of_cursors =
 abbrev pub of_checks : List Wrong
 of_checks =
     -- the last record is compared too
-    check_list (bytes "a ") small_table with_gB9c (row kind.id 0 0 0 1 ++ row kind.whitespace 0 0 1 3) 2 end_number 1 0 0 0
+    check_list (bytes "a ") small_table with_gb9c (row kind.id 0 0 0 1 ++ row kind.whitespace 0 0 1 3) 2 end_number 1 0 0 0
     -- where only the counts differ the smaller one is named
-    ∷ check_list (bytes "a ") small_table with_gB9c a_space 1 end_number 0 2 0 0
+    ∷ check_list (bytes "a ") small_table with_gb9c a_space 1 end_number 0 2 0 0
     -- the status is compared
-    ∷ check_list (bytes "a ") small_table with_gB9c a_space 2 stuck_number 1 0 0 0
+    ∷ check_list (bytes "a ") small_table with_gb9c a_space 2 stuck_number 1 0 0 0
     -- a list that is shorter than its count is refusal 8, and no difference is named
-    ∷ check_list (bytes "a ") small_table with_gB9c a_space 3 end_number 0 2 0 0
+    ∷ check_list (bytes "a ") small_table with_gb9c a_space 3 end_number 0 2 0 0
     -- our reading is stuck here, so that End is another status
-    ∷ check_list (bytes "\r") small_table with_gB9c (zeros 1) 1 end_number 1 0 0 0
+    ∷ check_list (bytes "\r") small_table with_gb9c (zeros 1) 1 end_number 1 0 0 0
     -- a refusal's place is told
-    ∷ check_list bad_at_one small_table with_gB9c [] 0 end_number 0 0 0 3
+    ∷ check_list bad_at_one small_table with_gb9c [] 0 end_number 0 0 0 3
     ∷ []
 
 -- ---- a list after an edit
@@ -526,19 +526,19 @@ of_checks =
 abbrev pub of_rescans : List Wrong
 of_rescans =
     -- no record is kept where a string is open at the line's start: what follows is still the literal
-    rescan (bytes "'a\nb'") over_lines 3 3 1 1 (bytes "'a\nc'") small_table with_gB9c (zeros 5)
+    rescan (bytes "'a\nb'") over_lines 3 3 1 1 (bytes "'a\nc'") small_table with_gb9c (zeros 5)
     (row kind.string_start 1 0 0 1 ++ row kind.id 0 0 1 2 ++ new_line_at 2 ++ name_below 3 ++ zeros 1) end_number 4 4 0
     -- the old list's words past the kept ones are not copied
-    ∷ rescan (bytes "a\nb") (row kind.id 0 0 0 1 ++ new_line_at 1 ++ name_below 2) 3 2 1 0 (bytes "a\n") small_table with_gB9c (replicate 24 7)
+    ∷ rescan (bytes "a\nb") (row kind.id 0 0 0 1 ++ new_line_at 1 ++ name_below 2) 3 2 1 0 (bytes "a\n") small_table with_gb9c (replicate 24 7)
     (row kind.id 0 0 0 1 ++ new_line_at 1 ++ name_below 2) end_number 2 2 0
     -- an edit that leads to another source is refusal 16
-    ∷ rescan (bytes "a\nb") (row kind.id 0 0 0 1 ++ new_line_at 1 ++ name_below 2) 3 2 1 0 (bytes "b\n") small_table with_gB9c [] [] refused_number 0 0 4
+    ∷ rescan (bytes "a\nb") (row kind.id 0 0 0 1 ++ new_line_at 1 ++ name_below 2) 3 2 1 0 (bytes "b\n") small_table with_gb9c [] [] refused_number 0 0 4
     -- a kept record without room is refusal 4
-    ∷ rescan (bytes "a\nb") (row kind.id 0 0 0 1 ++ new_line_at 1 ++ name_below 2) 3 2 1 0 (bytes "a\n") small_table with_gB9c (zeros 1)
+    ∷ rescan (bytes "a\nb") (row kind.id 0 0 0 1 ++ new_line_at 1 ++ name_below 2) 3 2 1 0 (bytes "a\n") small_table with_gb9c (zeros 1)
     (row kind.id 0 0 0 1) end_number 1 1 0
     -- the byte is where the last record ends, or a refusal's place
-    ∷ rescan [] [] 0 0 0 1 (bytes "a") small_table with_gB9c (zeros 1) (row kind.id 0 0 0 1) end_number 1 0 0
-    ∷ rescan [] [] 0 0 0 2 bad_at_one small_table with_gB9c [] [] refused_number 0 0 3
+    ∷ rescan [] [] 0 0 0 1 (bytes "a") small_table with_gb9c (zeros 1) (row kind.id 0 0 0 1) end_number 1 0 0
+    ∷ rescan [] [] 0 0 0 2 bad_at_one small_table with_gb9c [] [] refused_number 0 0 3
     ∷ []
 
 -- ---- strings of a pool, and format options
@@ -570,28 +570,28 @@ of_pools =
     -- a string that is there costs nothing
     ∷ add_string (bytes "a") pool_bytes pool_entries (counts 1 1) (bytes "aa" ++ (0 ∷ [])) (entry_of 0 1 ∷ entry_of 1 1 ∷ []) (counts 1 1) 0 0 0
     -- an addition without room comes before the error that is found after it
-    ∷ parse (bytes "b<!") small_table with_gB9c [] [] (counts 0 0) [] [] (counts 0 0) no_options 33 12
+    ∷ parse (bytes "b<!") small_table with_gb9c [] [] (counts 0 0) [] [] (counts 0 0) no_options 33 12
     -- a pool without room is refusal 13
-    ∷ parse (bytes "b<") small_table with_gB9c [] [] (counts 0 0) [] [] (counts 0 0) no_options 0 8
+    ∷ parse (bytes "b<") small_table with_gb9c [] [] (counts 0 0) [] [] (counts 0 0) no_options 0 8
     -- the fill's index is that of the string added last
-    ∷ parse (bytes "b<") small_table with_gB9c pool_bytes pool_entries (counts 1 1) (bytes "ab" ++ (0 ∷ [])) (entry_of 0 1 ∷ entry_of 1 1 ∷ [])
+    ∷ parse (bytes "b<") small_table with_gb9c pool_bytes pool_entries (counts 1 1) (bytes "ab" ++ (0 ∷ [])) (entry_of 0 1 ∷ entry_of 1 1 ∷ [])
     (counts 2 2) (fill_at 1 no_number 0 0) 0 0
     -- what was added is in the entries, and in the counts
-    ∷ parse (bytes "b<") small_table with_gB9c pool_bytes pool_entries (counts 1 1) (bytes "ab" ++ (0 ∷ [])) pool_entries (counts 2 2)
+    ∷ parse (bytes "b<") small_table with_gb9c pool_bytes pool_entries (counts 1 1) (bytes "ab" ++ (0 ∷ [])) pool_entries (counts 2 2)
     (fill_at 1 no_number 0 1) 0 0
-    ∷ parse (bytes "b<") small_table with_gB9c pool_bytes pool_entries (counts 1 1) (bytes "ab" ++ (0 ∷ [])) (entry_of 0 1 ∷ entry_of 1 1 ∷ [])
+    ∷ parse (bytes "b<") small_table with_gb9c pool_bytes pool_entries (counts 1 1) (bytes "ab" ++ (0 ∷ [])) (entry_of 0 1 ∷ entry_of 1 1 ∷ [])
     (counts 1 1) (fill_at 1 no_number 0 1) 0 0
     -- no representation is none, and not 0, which is Debug
-    ∷ parse [] small_table with_gB9c [] [] (counts 0 0) [] [] (counts 0 0)
+    ∷ parse [] small_table with_gb9c [] [] (counts 0 0) [] [] (counts 0 0)
     (0 ∷ no_number ∷ no_number ∷ 0 ∷ no_number ∷ no_number ∷ no_number ∷ []) 0 0
     -- a format string can add two strings, its fill and "0"
-    ∷ parse (bytes "a<05") small_table with_gB9c pool_bytes pool_entries (counts 1 1) pool_bytes pool_entries (counts 1 1) (fill_at 1 5 2 0) 0 0
+    ∷ parse (bytes "a<05") small_table with_gb9c pool_bytes pool_entries (counts 1 1) pool_bytes pool_entries (counts 1 1) (fill_at 1 5 2 0) 0 0
     -- refusals 10 to 12 have the code point or the value that was refused
-    ∷ parse (bytes ".x") small_table with_gB9c [] [] (counts 0 0) [] [] (counts 0 0) no_options 0 10
-    ∷ parse (bytes "4294967296") small_table with_gB9c [] [] (counts 0 0) [] [] (counts 0 0) no_options 0 11
-    ∷ parse (bytes "<!") small_table with_gB9c [] [] (counts 0 0) [] [] (counts 0 0) no_options 0 12
+    ∷ parse (bytes ".x") small_table with_gb9c [] [] (counts 0 0) [] [] (counts 0 0) no_options 0 10
+    ∷ parse (bytes "4294967296") small_table with_gb9c [] [] (counts 0 0) [] [] (counts 0 0) no_options 0 11
+    ∷ parse (bytes "<!") small_table with_gb9c [] [] (counts 0 0) [] [] (counts 0 0) no_options 0 12
     -- the edition is the caller's: by GB9c this would be one fill before a sign, and edition 1 is without it
-    ∷ parse (conjunct ++ bytes "<") rich without_gB9c (replicate 6 0) (entry_of 0 0 ∷ []) (counts 0 0) conjunct (entry_of 0 6 ∷ []) (counts 1 6)
+    ∷ parse (conjunct ++ bytes "<") rich without_gb9c (replicate 6 0) (entry_of 0 0 ∷ []) (counts 0 0) conjunct (entry_of 0 6 ∷ []) (counts 1 6)
     (1 ∷ no_number ∷ no_number ∷ no_number ∷ 0 ∷ 6 ∷ 0 ∷ []) 0 0
     ∷ []
 
@@ -640,7 +640,7 @@ of_desks =
     ∷ desk_add 0 (bytes "a") (0 ∷ []) (0 ∷ 0 ∷ []) (0 ∷ []) (0 ∷ 0 ∷ []) (first_holds 0 0)
     (bytes "a") (0 ∷ 1 ∷ []) (0 ∷ []) (1 ∷ 1 ∷ []) (first_holds 1 0) 0 0 0
     -- and so is what a parse adds
-    ∷ desk_parse 0 (bytes "a<") small_table with_gB9c (0 ∷ []) (0 ∷ 0 ∷ []) (0 ∷ []) (0 ∷ 0 ∷ []) (first_holds 0 0)
+    ∷ desk_parse 0 (bytes "a<") small_table with_gb9c (0 ∷ []) (0 ∷ 0 ∷ []) (0 ∷ []) (0 ∷ 0 ∷ []) (first_holds 0 0)
     (bytes "a") (0 ∷ 1 ∷ []) (0 ∷ []) (1 ∷ 1 ∷ []) (first_holds 1 0) (fill_at 1 no_number 0 0) 0 0
     -- charges that do not add up to the counts are unfit, here beside an owner that is no desk
     ∷ desk_add 0 (bytes "a") (bytes "a") (0 ∷ 1 ∷ []) (2 ∷ []) (1 ∷ 1 ∷ []) (first_holds 0 0)
@@ -648,7 +648,7 @@ of_desks =
     -- the numbers of a desk stand in the header's order: what it is charged is not told as what it is guaranteed
     ∷ desk_add 0 (bytes "a") (0 ∷ []) (0 ∷ 0 ∷ []) (0 ∷ []) (0 ∷ 0 ∷ []) (first_holds 0 0)
     (bytes "a") (0 ∷ 1 ∷ []) (0 ∷ []) (1 ∷ 1 ∷ []) told_twice 0 0 0
-    ∷ desk_parse 0 (bytes "a<") small_table with_gB9c (0 ∷ []) (0 ∷ 0 ∷ []) (0 ∷ []) (0 ∷ 0 ∷ []) (first_holds 0 0)
+    ∷ desk_parse 0 (bytes "a<") small_table with_gb9c (0 ∷ []) (0 ∷ 0 ∷ []) (0 ∷ []) (0 ∷ 0 ∷ []) (first_holds 0 0)
     (bytes "a") (0 ∷ 1 ∷ []) (0 ∷ []) (1 ∷ 1 ∷ []) told_twice (fill_at 1 no_number 0 0) 0 0
     ∷ compact (0 ∷ []) [] (bytes "a") (0 ∷ 1 ∷ []) (0 ∷ []) (1 ∷ 1 ∷ []) (first_holds 1 1) (7 ∷ [])
     (bytes "a") (0 ∷ 1 ∷ []) (0 ∷ []) (1 ∷ 1 ∷ []) told_twice (0 ∷ []) 0
@@ -659,7 +659,7 @@ of_desks =
 abbrev pub of_pads : List Wrong
 of_pads =
     -- a refusal's place is told
-    pad bad_at_one 0 no_number 0 [] small_table with_gB9c [] [] 0 0 3
+    pad bad_at_one 0 no_number 0 [] small_table with_gb9c [] [] 0 0 3
     ∷ []
 
 -- ---- writing format options
@@ -667,7 +667,7 @@ of_pads =
 abbrev pub of_formats : List Wrong
 of_formats =
     -- a buffer that is too short is 19, and not that no format string is read back
-    write_format 0 5 no_number no_number 0 [] small_table with_gB9c [] [] 0 0 18
+    write_format 0 5 no_number no_number 0 [] small_table with_gb9c [] [] 0 0 18
     -- a refusal's place is told
-    ∷ write_format 0 5 no_number no_number 0 [] other_nul with_gB9c [] [] 0 0 2
+    ∷ write_format 0 5 no_number no_number 0 [] other_nul with_gb9c [] [] 0 0 2
     ∷ []
