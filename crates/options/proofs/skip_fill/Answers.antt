@@ -35,7 +35,8 @@ overflow_add-fill c = omega (arith, (behind (filled (goal.at.overflow_add-fill c
 
 pub returns-then-cluster_end-fill : goal.returns-then-cluster_end-fill
 returns-then-cluster_end-fill c =
-    aligned (filled (goal.at.returns-then-cluster_end-fill c).After-cluster_end-fill) (tested (goal.at.returns-then-cluster_end-fill c).After-is_alignment true c.if-not-is_alignment.false) (search rules)
+    let e = aligned (filled (goal.at.returns-then-cluster_end-fill c).After-cluster_end-fill) (tested (goal.at.returns-then-cluster_end-fill c).After-is_alignment true c.if-not-is_alignment.false) (search rules) in
+    search (rules, e)
 
 pub returns : goal.returns
 returns c =
