@@ -102,7 +102,7 @@ pub searchable : (bytes entries : List ℕ) (counts : Counts) → fit_pool bytes
 searchable bytes entries counts e =
     let f = fit_of entries counts (entry_room entries) (byte_room bytes) e in (
       λ k h. omega (arith, within entries counts (entry_room entries) (byte_room bytes) f k h, f.bytes_fit, (room_within (length bytes)).0),
-      entry_room_lem entries counts.entries f.entries_fit,
+      omega (arith, f.entries_fit, (room_within (length entries / 2)).0, div-mul-le_self (length entries) 2),
     )
 
 -- entries that are the same run the same way
