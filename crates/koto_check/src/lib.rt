@@ -12,8 +12,7 @@ use foreign::answer;
 // index of the first record that differs, or the smaller count. Refused are, in this order, a source that is too long with 1, an edition that is
 // none with 17, a table that is unfit with 2, bytes that are wrong with 3 or cut with 15, a list without room for its count with 8, and a source
 // that our scan refuses with 5.
-#[unsafe(no_mangle)]
-pub extern "C" fn koto_check_list(
+pub fn koto_check_list(
     source: &[u8],
     table: &[u32],
     edition: u32,

@@ -10,8 +10,7 @@ ghost use Rattle.koto_fast.specs.Fast.{ScanFastIs};
 use reading::answer;
 
 // Writes the records of a source at the start of the list, as `koto_scan` does: the same answer and the same words, on every input.
-#[unsafe(no_mangle)]
-pub extern "C" fn koto_scan_fast(
+pub fn koto_scan_fast(
     source: &[u8],
     table: &[u32],
     edition: u32,
