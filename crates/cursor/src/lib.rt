@@ -131,7 +131,7 @@ impl Cursor {
     }
 
     // Must a token be queued before queued token n is looked for?
-    fn must_queue(self, n: usize) -> bool
+    pub fn must_queue(self, n: usize) -> bool
         ensures { result ≡ must_queue self n }
     {
         if self.queued < n {
@@ -155,7 +155,7 @@ impl Cursor {
     }
 
     // The cursor that has queued one more token.
-    fn queued_one(self) -> Cursor
+    pub fn queued_one(self) -> Cursor
         requires { self.queued ≤ queue_most }
         ensures { result ≡ queued_one self }
     {

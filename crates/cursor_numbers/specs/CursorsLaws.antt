@@ -2,12 +2,14 @@
 -- list shows anything. And how the contracts come of what is written of an answer.
 --     by_end, by_stuck, by_end_half, by_stuck_half, by_refused    what each number of a scan names
 --     next_refused, peek_refused, look_refused    refusal 8, whatever the list and the other numbers are
---     given_shown, looked_shown       each number is that of an answer
+--     given_shown, looked_shown, given_told_lem, looked_told       each number is that of an answer
 -- Assumes nothing.
 use Rattle.std.specs.Prelude.{ℕ, ◌≡◌, refl, List}
+use Rattle.std.proofs.Common.{ap, ◌∙◌}
 use Rattle.lookahead.specs.Next as next
 use Rattle.lookahead.specs.Peek as peek
-use Rattle.lookahead.specs.Told.{given_told, peeked_told}
+use Rattle.lookahead.specs.Told.{record_numbers, given_told, peeked_told}
+use Rattle.lookahead.specs.declared.answer.Told.{Told}
 use Rattle.layout.specs.declared.Layout.{Layout}
 use Rattle.layout.specs.declared.Layout.TheVariants.{Whole, Half}
 use Rattle.cursor.specs.declared.Status.{Status}
@@ -74,3 +76,30 @@ looked_shown taken queued e s =
       words_are = s.words_are;
       place_is = s.place_is;
     })
+
+-- the same by an answer's own words
+pub given_told_lem : {given : Given} {words : List ℕ} {taken queued place r : ℕ} {told : Told} → told ≡ given_told given taken queued
+    → words ≡ record_numbers told.row → place ≡ next.place_of given → r ≡ next.number_of given
+    → GivenIs given taken queued told.taken told.queued told.shown words place r
+given_told_lem t w p r =
+    record {
+      number = r;
+      taken_is = ap (λ (x : Told). x.taken) t;
+      queued_is = ap (λ (x : Told). x.queued) t;
+      shown_is = ap (λ (x : Told). x.shown) t;
+      words_are = w ∙ ap (λ (x : Told). record_numbers x.row) t;
+      place_is = p;
+    }
+
+pub looked_told : {looked x : Peeked} {words : List ℕ} {taken queued place r : ℕ} {told : Told} → x ≡ looked → told ≡ peeked_told x taken queued
+    → words ≡ record_numbers told.row → place ≡ peek.place_of x → r ≡ peek.number_of x
+    → LookedIs looked taken queued told.queued told.shown words place r
+looked_told {looked} {taken} {queued} {told} e t w p r =
+    let is : told ≡ peeked_told looked taken queued = t ∙ ap (λ (y : Peeked). peeked_told y taken queued) e in
+    record {
+      number = r ∙ ap peek.number_of e;
+      queued_is = ap (λ (y : Told). y.queued) is;
+      shown_is = ap (λ (y : Told). y.shown) is;
+      words_are = w ∙ ap (λ (y : Told). record_numbers y.row) is;
+      place_is = p ∙ ap peek.place_of e;
+    }

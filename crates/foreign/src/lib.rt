@@ -79,8 +79,8 @@ fn compared(count: usize, status: u32, read: usize, apart: usize, right: u32) ->
     Checked::Differs(apart)
 }
 
-// Reads the source and compares as it goes. It reads on where a record differs, since refusal 5 comes first.
-fn compare(
+// Reads the source and compares as it goes, with the rows of the second engine at hand. It reads on where a record differs, since refusal 5 comes first.
+fn compare_by(
     source: &[u8],
     table: &[u32],
     edition: u32,
@@ -133,6 +133,25 @@ fn compare(
     }
 }
 
+// The same, with no rows at hand.
+fn compare(
+    source: &[u8],
+    table: &[u32],
+    edition: u32,
+    list: &[u32],
+    count: usize,
+    status: u32,
+) -> Checked
+    requires { (length source.now ≤ source_most) × WellFormed source.now × FitTable table.now × (count ≤ room list.now) }
+    ensures { result ≡ by_reading list.now count status (reading_of source.now table.now edition) }
+{
+    let classes = classes();
+    let signs = signs();
+    compare_by(
+        source, table, edition, &classes, &signs, list, count, status,
+    )
+}
+
 // Whether a list, its count and its status are those that a scan of this source would leave, whoever made them. Refused are a source that is too
 // long, then a number that is no edition, then a table that is unfit, then bytes that are wrong or cut, then a list without room for its count,
 // then a source of ours that pushes a 65th mode, before any difference is named. Nothing is written.
@@ -152,11 +171,7 @@ pub fn check_list(
             if rows::room(list) < count {
                 return Checked::BadState;
             }
-            let classes = classes();
-            let signs = signs();
-            compare(
-                source, table, edition, &classes, &signs, list, count, status,
-            )
+            compare(source, table, edition, list, count, status)
         }
     }
 }

@@ -9,7 +9,7 @@
 --     shown_fit, shown_unfit                 what is shown at an index, by the test
 --     halves_shown                           a record that was put and may be shown is shown
 -- Assumes nothing.
-use Rattle.std.specs.Prelude.{◌≡◌, Bool, true, false, ◌&&◌, ℕ, zero, suc, ◌+◌, ◌*◌, ◌-◌, ◌%◌, ◌≤◌, ◌<◌, eqb, length, take, drop}
+use Rattle.std.specs.Prelude.{◌≡◌, Bool, true, false, ℕ, zero, suc, ◌+◌, ◌*◌, ◌-◌, ◌%◌, ◌≤◌, ◌<◌, eqb, length, take, drop}
 use Rattle.std.proofs.Math.Path.{refl, sym, ap}
 use Rattle.std.proofs.Common.{◌∙◌, add-zero, get_or-drop, eq-eqb}
 use mathlib.Core.List.{List, [], ◌∷◌, ◌++◌}
@@ -17,7 +17,6 @@ use native.Mathlib.Omega.{arith}
 use Rattle.std.proofs.Math.ListN.{get_or}
 use Rattle.std.proofs.lemmas.List.Edits.{sets}
 use Rattle.base.specs.Pick.{pick}
-use Rattle.base.specs.CasesLaws.{and_no}
 use Rattle.token.specs.Kind.{error}
 use Rattle.rows.specs.First.{above_unit, Packs, kind_in, detail_in, depth_in, above_in, row_fits, fits_below, shown_below}
 use Rattle.rows.specs.FirstLaws.{kind_back, detail_back, depth_back, above_back, fits_packs, fits_first, below_fit, below_unfit}

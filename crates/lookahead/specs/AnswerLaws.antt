@@ -1,6 +1,6 @@
 -- What the definitions answer, on plain values: one law for each way to get there, for the code's returns and for other laws.
 --     see_token, see_bad, see_nothing   what is seen
---     next_is_lem                           `next`, by what is seen
+--     next_is_lem, give_token, give_none, give_bad       `next`, by what is seen
 --     show_is, show_token, show_none, show_bad       queued token n, by what is seen
 --     queued_row, queued_bad, queued_none            queued token n, by what is shown there
 --     next_row, next_bad, next_none                  `next`, by what is shown there
@@ -53,6 +53,16 @@ module _ (shown : ℕ → RowAt) (c : Cursor) (n : ℕ) {i : ℕ} (e : i ≡ ahe
   see_nothing h = rw (← e, le-ltb i c.count h)
 
 -- ---- `next`
+
+module _ (c : Cursor) {s : Seen} where
+  pub give_token : {row : Row} {after : Cursor} → s ≡ seen.Token row → after ≡ moved_on c → given.Token row after ≡ given_by c s
+  give_token e f = rw (e, f)
+
+  pub give_none : s ≡ seen.Nothing → given.Nothing ≡ given_by c s
+  give_none e = rw e
+
+  pub give_bad : {i : ℕ} → s ≡ seen.BadRecord i → given.BadRecord i ≡ given_by c s
+  give_bad e = rw e
 
 -- the answer of a cursor that is fit, by what was seen
 pub next_is_lem : (room : ℕ) (shown : ℕ → RowAt) (c : Cursor) {s : Seen} {v : Given} → is_fit room c ≡ true → s ≡ seen_at shown c 0

@@ -4,6 +4,7 @@
 use Rattle.std.specs.Prelude.{ℕ, List, [], ◌∷◌}
 use Rattle.rows.specs.declared.Row.{Row}
 use Rattle.cursor.specs.declared.Cursor.{Cursor}
+use Rattle.lookahead.specs.declared.answer.Told.{Told}
 use Rattle.lookahead.specs.declared.Given.{Given}
 use Rattle.lookahead.specs.declared.Given.TheVariants as given
 use Rattle.lookahead.specs.declared.Peeked.{Peeked}
@@ -34,13 +35,6 @@ record_numbers row =
     ∷ row.indent ∷ row.depth ∷ []
 
 -- ---- what is told
-
--- what an answer tells beside its refusal: 1 where a token is shown, its record, zeros where none is, and how many tokens are taken and queued after it
-pub record Told : Type 0 where
-  pub shown : ℕ
-  pub row : Row
-  pub taken : ℕ
-  pub queued : ℕ
 
 -- a token is shown, and the cursor is the one after it
 abbrev pub shown_with : Row → Cursor → Told

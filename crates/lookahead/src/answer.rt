@@ -2,9 +2,9 @@
 ghost use Rattle.std.specs.Prelude.{◌≡◌};
 ghost use Rattle.lookahead.specs.Next as next;
 ghost use Rattle.lookahead.specs.Peek as peek;
-ghost use Rattle.lookahead.specs.Told.{record_numbers};
+ghost use Rattle.lookahead.specs.Told.{record_numbers, shown_with, not_shown, given_told, peeked_told};
 
-use crate::{Given, Peeked};
+use crate::{Cursor, Given, Peeked};
 use base::refusals::{BAD_RECORD, BAD_STATE, NO_REFUSAL, PEEK_TOO_FAR, QUEUE_FULL};
 use rows::Row;
 
@@ -26,6 +26,53 @@ pub fn put_record(words: &mut [u32; 10], row: Row)
         row.indent,
         row.depth,
     ];
+}
+
+// ---- what is told
+
+// What an answer tells beside its refusal.
+#[derive(Clone, Copy)]
+pub struct Told {
+    // 1 where a token is shown.
+    pub shown: u32,
+    // Its record; zeros where none is.
+    pub row: Row,
+    // How many tokens are taken and queued after it.
+    pub taken: usize,
+    pub queued: usize,
+}
+
+fn shown_with(row: Row, after: Cursor) -> Told
+    ensures { result ≡ shown_with row after }
+{
+    Told {
+        shown: 1,
+        row,
+        taken: after.taken,
+        queued: after.queued,
+    }
+}
+
+fn not_shown(taken: usize, queued: usize) -> Told
+    ensures { result ≡ not_shown taken queued }
+{
+    Told {
+        shown: 0,
+        row: Row {
+            kind: 0,
+            detail: 0,
+            start: 0,
+            end: 0,
+            start_line: 0,
+            start_column: 0,
+            end_line: 0,
+            end_column: 0,
+            indent: 0,
+            depth: 0,
+        },
+        taken,
+        queued,
+    }
 }
 
 // ---- `next`
@@ -51,6 +98,18 @@ pub fn given_place(given: Given) -> usize
         Given::Nothing => 0,
         Given::BadState => 0,
         Given::BadRecord(i) => i,
+    }
+}
+
+// What it tells, where so many tokens were taken and queued before it.
+pub fn given_told(given: Given, taken: usize, queued: usize) -> Told
+    ensures { result ≡ given_told given taken queued }
+{
+    match given {
+        Given::Token { row, cursor } => shown_with(row, cursor),
+        Given::Nothing => not_shown(taken, queued),
+        Given::BadState => not_shown(taken, queued),
+        Given::BadRecord(_) => not_shown(taken, queued),
     }
 }
 
@@ -81,5 +140,19 @@ pub fn peeked_place(peeked: Peeked) -> usize
         Peeked::PeekTooFar => 0,
         Peeked::QueueFull => 0,
         Peeked::BadRecord(i) => i,
+    }
+}
+
+// What it tells, where so many tokens were taken and queued before it.
+pub fn peeked_told(peeked: Peeked, taken: usize, queued: usize) -> Told
+    ensures { result ≡ peeked_told peeked taken queued }
+{
+    match peeked {
+        Peeked::Token { row, cursor } => shown_with(row, cursor),
+        Peeked::Nothing { cursor } => not_shown(cursor.taken, cursor.queued),
+        Peeked::BadState => not_shown(taken, queued),
+        Peeked::PeekTooFar => not_shown(taken, queued),
+        Peeked::QueueFull => not_shown(taken, queued),
+        Peeked::BadRecord(_) => not_shown(taken, queued),
     }
 }

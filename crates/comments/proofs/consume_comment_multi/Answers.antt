@@ -1,8 +1,8 @@
 -- `comments::consume_comment_multi` meets its contract. The loop's invariant is `Going`: what is found from here is what was to be found
 -- from the start. Each arm cites its law of `Loops`. Assumes nothing.
 use native.Mathlib.Omega.{arith}
-use Prim.Native.Nat.{◌-◌}
-use mathlib.Core.Path.{sym, ap, ◌∙◌}
+use Rattle.std.proofs.Common.{rules}
+use mathlib.Core.Path.{refl, sym, ap, ◌∙◌}
 use Rattle.position.specs.Place.{along_by}
 use Rattle.property.specs.Table.{properties_at}
 use Rattle.text.specs.FollowLaws.{ends}
@@ -29,7 +29,7 @@ along_ascii-reach-requires c =
     record { byte_le_source_most = rw c.reach.ensures (omega (arith, c.requires.0)); column_le_column_most = rw c.reach.ensures (omega (arith, c.requires.0)) }
 
 pub loop-i-init : goal.loop-i-init
-loop-i-init c = begun (c.along_ascii-reach.ensures ∙ ap (along_by 1 1) c.reach.ensures) c.requires.0
+loop-i-init c = begun (rw (c.along_ascii-reach.ensures, c.reach.ensures) refl) c.requires.0
 
 pub comment_turn-requires : goal.comment_turn-requires
 comment_turn-requires c =
@@ -50,12 +50,14 @@ along-requires c =
 pub returns-in-Close : goal.returns-in-Close
 unfolding consume_comment_multi
 returns-in-Close c =
-    c.token_to.ensures
-    ∙ ap (comment_token _) (closed (comment (goal.at.returns-in-Close c).After-comment_turn) c.in-Close.is c.along.ensures)
+    let e = c.token_to.ensures ∙ ap (comment_token c.args.lexer) (closed (comment (goal.at.returns-in-Close c).After-comment_turn) c.in-Close.is c.along.ensures) in
+    search (rules, e)
 
 pub returns-in-Stuck : goal.returns-in-Stuck
 unfolding consume_comment_multi
-returns-in-Stuck c = c.stuck.ensures ∙ ap (comment_token _) (stopped (comment (goal.at.returns-in-Stuck c).After-comment_turn) c.in-Stuck.is)
+returns-in-Stuck c =
+    let e = c.stuck.ensures ∙ ap (comment_token c.args.lexer) (stopped (comment (goal.at.returns-in-Stuck c).After-comment_turn) c.in-Stuck.is) in
+    search (rules, e)
 
 pub loop-i-smaller-in-Pass : goal.loop-i-smaller-in-Pass
 loop-i-smaller-in-Pass c = passes_fall (comment (goal.at.loop-i-smaller-in-Pass c).After-comment_turn) c.in-Pass.is c.along-reach.ensures
@@ -71,4 +73,6 @@ loop-i-preserved c = lined (comment (goal.at.loop-i-preserved c).After-comment_t
 
 pub returns : goal.returns
 unfolding consume_comment_multi
-returns c = c.token_to-2.ensures ∙ ap (comment_token _) (sym (ends c.loop-i.invariant c.loop-i-test.false))
+returns c =
+    let e = c.token_to-2.ensures ∙ ap (comment_token c.args.lexer) (sym (ends c.loop-i.invariant c.loop-i-test.false)) in
+    search (rules, e)

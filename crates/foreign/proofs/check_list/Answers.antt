@@ -13,7 +13,7 @@ returns-then-room-count c =
 pub compare-requires : goal.compare-requires
 compare-requires c =
     let g = fine_of _ _ _ _ (sym c.check_input.ensures ∙ c.in-Fine.is) in
-    record { source_len_bound = (g.short, g.well, fit_of _ g.fit, omega (arith, c.if-room-count.false, c.room.ensures)); class_table = (c.classes-classes.ensures, c.signs-signs.ensures) }
+    (g.short, g.well, fit_of _ g.fit, omega (arith, c.if-room-count.false, c.room.ensures))
 
 pub returns-in-Refused : goal.returns-in-Refused
 returns-in-Refused c = is_refused _ _ _ _ _ _ (sym c.check_input.ensures ∙ c.in-Refused.is)

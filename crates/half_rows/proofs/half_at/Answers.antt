@@ -1,5 +1,6 @@
 -- `half_rows::half_at` meets its contract: where the mark may stand it is left out, and `shown_by` says whether the rest may be shown. Assumes nothing.
-use mathlib.Core.Path.{sym, ap, ◌∙◌}
+use Rattle.std.proofs.Common.{rules}
+use mathlib.Core.Path.{ap, ◌∙◌}
 use Rattle.rows.specs.declared.Row.{Row}
 use Rattle.half_rows.specs.Half.{first_at, row_at}
 use Rattle.half_rows.specs.HalfLaws.{depth_below, shown_marked, shown_plain}
@@ -13,7 +14,7 @@ shown_by-requires c =
 
 pub returns-then-may_stand : goal.returns-then-may_stand
 returns-then-may_stand c =
-    shown_marked _ _ _ c.read_half-row.ensures (sym c.may_stand.ensures ∙ c.if-may_stand.true) c.shown_by.ensures
+    shown_marked _ _ _ c.read_half-row.ensures (search rules) c.shown_by.ensures
 
 pub shown_by-requires-2 : goal.shown_by-requires-2
 unfolding row_at
@@ -21,4 +22,4 @@ shown_by-requires-2 c = ap (λ (r : Row). r.depth) c.read_half-row.ensures
 
 pub returns : goal.returns
 returns c =
-    shown_plain _ _ _ c.read_half-row.ensures (sym c.may_stand.ensures ∙ c.if-may_stand.false) c.shown_by-2.ensures
+    shown_plain _ _ _ c.read_half-row.ensures (search rules) c.shown_by-2.ensures
