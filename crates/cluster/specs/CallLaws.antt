@@ -4,9 +4,9 @@
 --     no_bytes      no bytes give length 0
 --     same_call     fit tables that agree on the code points of the source give the same answer
 -- Assumes nothing.
-use Rattle.std.specs.Prelude.{ℕ, ◌≤◌, ◌≡◌, refl, true, List, [], length}
+use Rattle.std.specs.Prelude.{ℕ, ◌≡◌, true, List, []}
 use Rattle.base.specs.Refusal.{source_most}
-use Rattle.utf8.specs.Encode.{encode_all, WellFormed}
+use Rattle.utf8.specs.Encode.{encode_all}
 use Rattle.utf8.specs.Chars.{chars, chars_in, check_in}
 use Rattle.property.specs.Table.{properties_at}
 use Rattle.fitness.specs.Fit.{table_check}

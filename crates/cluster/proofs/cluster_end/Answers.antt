@@ -1,7 +1,7 @@
 -- `cluster::cluster_end` meets its contract. The loop's invariant: the state is that of the characters passed, and what the definition
 -- answers from here on is what it answers from the start. Assumes nothing.
 use native.Mathlib.Omega.{arith}
-use Prim.Native.Nat.{ℕ, ◌-◌}
+use Prim.Native.Nat.{ℕ}
 use mathlib.Core.Path.{◌≡◌, sym, subst, ◌∙◌}
 use mathlib.Core.List.{List}
 use mathlib.Core.Bool.{Bool}
