@@ -1,3 +1,2 @@
 pub mod Forbidden
 pub mod Pass
-pub mod PassLaws

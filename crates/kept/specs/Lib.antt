@@ -1,6 +1,4 @@
 pub mod Kept
 pub mod NewLineLaws
-pub mod ReadingLaws
 pub mod ResumeLaws
 pub mod OldListLaws
-pub mod RescanLaws

@@ -12,5 +12,3 @@ pub mod WholeLaws
 pub mod HeadLaws
 pub mod GoingLaws
 pub mod PaidLaws
-pub mod WorthLaws
-pub mod PotentialLaws

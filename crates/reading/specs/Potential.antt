@@ -2,13 +2,14 @@
 -- a record of no bytes, and a template whose closing brace comes next owes 2. At the start there are 4 for each byte (`start_potential`),
 -- and every record is paid for (`step_pays`, `stop_pays`): so a source of n bytes never has more than n + n/3 records.
 -- Assumes nothing.
-use Rattle.std.specs.Prelude.{ℕ, ◌+◌, ◌*◌, ◌-◌, ◌≡◌, Bool, ◌&&◌, List, [], ◌∷◌, eqb, length}
+use Rattle.std.specs.Prelude.{ℕ, ◌+◌, ◌*◌, ◌-◌, ◌≤◌, ◌≡◌, Bool, ◌&&◌, List, [], ◌∷◌, eqb, length}
 use Rattle.base.specs.Pick.{pick}
 use Rattle.text.specs.Bytes.{byte_at}
 use Rattle.text.specs.Tests.{curly_close}
 use Rattle.state.specs.Modes.{template_expr, template_expr_format, raw_start, mode_code, tag_of}
 use Rattle.state.specs.Lexer.{reach_of}
-use Rattle.state.specs.Stack.{top, stack_of}
+use Rattle.state.specs.Stack.{top, changed, stack_of}
+use Rattle.state.specs.declared.Change.{Change}
 use Rattle.state.specs.declared.State.{State}
 
 -- what a mode has in store, by its tag: RawStart for contents that may be empty, the two of a template for format options that may be empty
@@ -39,6 +40,10 @@ worth s i ms = 4 * (length s - i) - owes s i (top ms) + own_all ms
 -- the same of a state
 abbrev pub potential : List ℕ → State → ℕ
 potential s st = worth s (reach_of st.lexer).byte.0 (stack_of st.modes)
+
+-- a record is paid for where reading goes on from the byte i to the byte j, with this change of the modes
+abbrev pub Pays : List ℕ → ℕ → ℕ → List ℕ → Change → Type 0
+Pays s i j ms c = worth s j (changed c ms) + 3 ≤ worth s i ms
 
 -- directly below every format mode of a stack stands a template
 unfoldable pub NestedIn : List ℕ → Type 0

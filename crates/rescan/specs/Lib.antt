@@ -1,2 +1,1 @@
 pub mod Rescan
-pub mod RescanLaws

@@ -1,4 +1,2 @@
 pub mod Rescan
-pub mod UnalteredLaws
 pub mod OldWordsLaws
-pub mod RescanLaws

@@ -1,6 +1,2 @@
 pub mod TokenLexer
 pub mod Hands
-pub mod StillLaws
-pub mod DepthLaws
-pub mod HandsLaws
-pub mod OneLaws

@@ -1,5 +1,5 @@
 -- `profile::judge` meets its contract: each return is a case of its `pick`. Assumes nothing.
-use Rattle.profile.specs.ProfileLaws.{judged_out, judged_in}
+use Rattle.profile.proofs.ProfileLaws.{judged_out, judged_in}
 use Rattle.profile.proofs.judge.Goals as goal
 
 pub returns-then-index-count : goal.returns-then-index-count

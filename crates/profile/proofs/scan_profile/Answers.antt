@@ -2,7 +2,7 @@
 -- Assumes nothing.
 use mathlib.Core.Path.{ap}
 use Rattle.profile.specs.declared.Profiled.TheVariants.{Base}
-use Rattle.profile.specs.ProfileLaws.{end_room, stuck_room, profiles_end, profiles_stuck, profiles_by}
+use Rattle.profile.proofs.ProfileLaws.{end_room, stuck_room, profiles_end, profiles_stuck, profiles_by}
 use Rattle.profile.proofs.scan_profile.Goals as goal
 
 -- what the scan ensures, of the answer that was matched

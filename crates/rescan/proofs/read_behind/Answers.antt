@@ -9,7 +9,7 @@ use Rattle.rows.specs.RowLaws.{copy_room}
 use Rattle.rows.specs.declared.Row.{Row}
 use Rattle.stepping.specs.Invariant.{Ok}
 use Rattle.kept.specs.Kept.{resumed}
-use Rattle.rescan.specs.RescanLaws.{kind_low, behind_short, behind_long}
+use Rattle.rescan.proofs.RescanLaws.{kind_low, behind_short, behind_long}
 use Rattle.rescan.proofs.read_behind.Goals as goal
 
 pub returns-then-room-kept : goal.returns-then-room-kept

@@ -1,7 +1,7 @@
 -- `rescan::rescan` meets its contract: a refusal of `check_input` is the answer, and where there is none the rest answers. Assumes nothing.
 use mathlib.Core.Path.{sym, ◌∙◌}
 use Rattle.input.specs.InputLaws.{fine_of}
-use Rattle.rescan.specs.RescanLaws.{is_refused, is_readable}
+use Rattle.rescan.proofs.RescanLaws.{is_refused, is_readable}
 use Rattle.rescan.proofs.rescan.Goals as goal
 
 pub rescan_readable-requires : goal.rescan_readable-requires

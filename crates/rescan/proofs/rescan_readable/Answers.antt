@@ -12,7 +12,7 @@ use Rattle.edit.specs.Edit.{edit_fits}
 use Rattle.edit.specs.EditLaws.{edit_of_lem, edit_inside, line_within}
 use Rattle.keep.specs.Keep.{row_before, kept_rows}
 use Rattle.keep.specs.KeepLaws.{keeps_within}
-use Rattle.rescan.specs.RescanLaws.{kept_ok, is_bad_edit, is_bad_state, is_behind}
+use Rattle.rescan.proofs.RescanLaws.{kept_ok, is_bad_edit, is_bad_state, is_behind}
 use Rattle.rescan.proofs.rescan_readable.Goals as goal
 use Rattle.rescan.proofs.rescan_readable.Goals.{Else-not-edit_fits}
 

@@ -33,7 +33,7 @@ use Rattle.line.specs.Line.{line}
 use Rattle.line.specs.SourceLaws.{after_line}
 use Rattle.kept.specs.Kept.{onto_all, last_of, UpTo, Shares, resumed, ResumesIn, OldList, Edited, KeptTo}
 use Rattle.kept.specs.OldListLaws.{old_list, old_kept}
-use Rattle.kept.specs.ReadingLaws.{reading_line}
+use Rattle.kept.proofs.ReadingLaws.{reading_line}
 use Rattle.kept.specs.ResumeLaws.{resumed_agrees, resume, resume_ok}
 
 -- ---- records in front of a reading

@@ -27,7 +27,7 @@ use Rattle.reading.specs.declared.Scanned.{Scanned}
 use Rattle.reading.specs.declared.Scanned.TheVariants.{Refused, ListFull}
 use Rattle.line.specs.Line.{line}
 use Rattle.kept.specs.Kept.{resumed}
-use Rattle.kept.specs.RescanLaws.{resumes_in, source_line}
+use Rattle.kept.proofs.RescanLaws.{resumes_in, source_line}
 use Rattle.edit.specs.Edit.{edit_fits, start_of_line}
 use Rattle.edit.specs.EditLaws.{line_within, line_newline}
 use Rattle.edit.specs.declared.Edit.{Edit}

@@ -47,9 +47,9 @@ use Rattle.queue.specs.Queue.{get}
 use Rattle.queue.specs.Calls.{Streams}
 use Rattle.queue.specs.StreamLaws.{get_past}
 use Rattle.rust.specs.TokenLexer.{TokenLexer, new_token_lexer, view_of, with_fields, Given, given, given_at, get_next_token, lexed_of, lexed, state_at, handed, stream_of, StandsStill}
-use Rattle.rust.specs.StillLaws.{some_is, still_again, still_token, for_ever, none_for_ever}
+use Rattle.rust.proofs.StillLaws.{some_is, still_again, still_token, for_ever, none_for_ever}
 use Rattle.rust.specs.Hands.{Sticks, Overflows, Hands}
-use Rattle.rust.specs.DepthLaws.{change_near}
+use Rattle.rust.proofs.DepthLaws.{change_near}
 
 -- ---- the machine beside a state of the code
 
@@ -84,7 +84,7 @@ beside_is st a t modes q e =
     record {
       view = sym
           (lexer_is st.lexer (view_of (with_fields t.lexer (some t.token) modes)) q.place q.indent q.previous
-          (a.depth ∙ sym (length_codes st.modes.codes st.modes.depth) ∙ ap length e) (a.mode ∙ ap top e));
+          (a.depth ∙ sym (length_codes st.modes.codes st.modes.depth) ∙ ap length e) (search (a.mode ∙ ap top e)));
       stack = sym e;
     }
 
@@ -114,7 +114,7 @@ module _ (look : ℕ → ℕ) (edition : ℕ) (s : List ℕ) where
         record {
           each = λ i k. absurd (omega arith);
           goes = λ i k _. absurd (omega arith);
-          room = room_none;
+          room = λ i k. room_none i (omega arith);
           ended = λ _ i k. none_for_ever look edition s x e i;
           stuck = λ q. absurd (omega (arith, ap why_of q));
           deep = λ q. absurd (omega (arith, ap why_of q));
@@ -154,7 +154,7 @@ module _ (look : ℕ → ℕ) (edition : ℕ) (s : List ℕ) where
 
       sticks : Sticks look edition s (stuck_reading b l).rows x
       unfolding state_at get
-      sticks = record { last = 0; size = refl; stands = t; for_ever = λ i _. same_row i }
+      sticks = record { last = 0; size = refl; stands = t; for_ever = λ i _. search (same_row i) }
 
       stuck_hands : Hands look edition s (stuck_reading b l) x
       stuck_hands =
@@ -247,7 +247,7 @@ module _ (s table : List ℕ) (edition : ℕ) (fit : FitTable table) where
       answered = row_of_lem st.lexer b.view
 
       taller : length (get_next_token look edition s x).after.string_mode_stack ≡ length (modes_after st t)
-      taller = ap (λ (g : Given). length g.after.string_mode_stack) e
+      taller = omega (arith, ap (λ (g : Given). length g.after.string_mode_stack) e)
 
       same_byte : (get_next_token look edition s x).after.current_byte.0 ≡ t.lexer.place.current_byte.0
       same_byte = ap (λ (g : Given). g.after.current_byte.0) e

@@ -14,8 +14,8 @@ use Rattle.reading.specs.ScanLaws as scan
 use Rattle.reading.specs.declared.Scanned.TheVariants.{Refused}
 use Rattle.forbidden.specs.Forbidden.{first_forbidden}
 use Rattle.profile.specs.Profile.{profiled_by, Profiles}
-use Rattle.profile.specs.ProfileLaws as profile
-use Rattle.profile.specs.ProfileLaws.{profiled_same}
+use Rattle.profile.proofs.ProfileLaws as profile
+use Rattle.profile.proofs.ProfileLaws.{profiled_same}
 use Rattle.profile.specs.declared.Profiled.{Profiled}
 use Rattle.foreign.specs.Check.{by_reading, list_checked}
 use Rattle.foreign.specs.declared.Checked.TheVariants as checked
@@ -25,7 +25,7 @@ use Rattle.edit.specs.Edit.{start_of_line}
 use Rattle.edit.specs.declared.Edit.{Edit}
 use Rattle.keep.specs.Keep.{row_before, kept_rows}
 use Rattle.rescan.specs.Rescan.{within, on_old, Rescans}
-use Rattle.rescan.specs.RescanLaws as rescan
+use Rattle.rescan.proofs.RescanLaws as rescan
 use Rattle.rescan.specs.declared.Rescanned.{Rescanned}
 use Rattle.rescan.specs.declared.Rescanned.TheVariants as rescanned
 use Rattle.rescan.specs.declared.Rescanned.TheVariants.{AsScan, BadEdit}

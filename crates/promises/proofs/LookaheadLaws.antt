@@ -47,11 +47,11 @@ use Rattle.lookahead.specs.declared.Peeked.TheVariants as peeked
 use Rattle.queue.specs.Queue.{Stream, new_lexer, get}
 use Rattle.queue.specs.Calls.{Call, next, nexts, Shows, Stands, rust_after, Streams, Mirrors}
 use Rattle.queue.specs.StreamLaws.{get_in, get_past, shows_by}
-use Rattle.queue.specs.QueueLaws.{start_mirrors, calls_agree, calls_mirror, far_underflows, full_queued}
+use Rattle.queue.proofs.QueueLaws.{start_mirrors, calls_agree, calls_mirror, far_underflows, full_queued}
 use Rattle.queue.specs.CallsLaws as laws
 use Rattle.queue.specs.CallsLaws.{start_stands, calls_stand}
 use Rattle.promises.specs.Stream.{rust_stream}
-use Rattle.promises.specs.StreamLaws.{stream_promise}
+use Rattle.promises.proofs.StreamLaws.{stream_promise}
 use Rattle.promises.specs.Lookahead.{Unfit, list_short, taken_over, queued_past_end, stuck_all_taken, queued_over}
 use Rattle.promises.specs.Lookahead.{More, left, again, NextEnsures, given_says, handed_on, NextPromise}
 use Rattle.promises.specs.Lookahead.{PeekEnsures, peeked_says, Queues, one_more_lem, no_more, next_one, PeekPromise}

@@ -33,7 +33,7 @@ use Rattle.lexer.specs.declared.What.{What}
 use Rattle.lexer.specs.declared.What.TheVariants as what
 use Rattle.reading.specs.Reading.{row_of, Stop, ended, stuck, deep, Reading, after_step, read_in, read_from, reading}
 use Rattle.reading.specs.Potential.{potential, Nested}
-use Rattle.reading.specs.PotentialLaws.{start_nested, start_potential, step_nested, step_pays, stop_pays}
+use Rattle.reading.proofs.PotentialLaws.{start_nested, start_potential, step_nested, step_pays, stop_pays}
 use Rattle.reading.specs.Scan.{end_of, whole, by_room, reading_of, scanned, number_of}
 use Rattle.reading.specs.declared.Scanned.{Scanned}
 use Rattle.promises.specs.Demand3.{most_records, Joined, Chained, without, moving, ClosesOnCut, Whole}

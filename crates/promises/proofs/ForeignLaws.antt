@@ -39,7 +39,7 @@ use Rattle.promises.specs.Scan.{Readable, rows, stop}
 use Rattle.promises.specs.Stream.{rust_stream}
 use Rattle.layout.specs.declared.Layout.TheVariants.{Whole}
 use Rattle.promises.specs.Lookahead.{HandsOut}
-use Rattle.promises.specs.LookaheadLaws.{ended_hands, stuck_hands}
+use Rattle.promises.proofs.LookaheadLaws.{ended_hands, stuck_hands}
 use Rattle.promises.specs.Foreign.{CheckEnsures, check_says, Right, Agrees, Taken, CheckPromise, BeginsBy}
 
 module _ (source table : List ℕ) (edition : ℕ) (list : List ℕ) (count status : ℕ) where

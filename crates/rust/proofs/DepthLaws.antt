@@ -56,14 +56,16 @@ module _ (look : ℕ → ℕ) (edition : ℕ) (s : List ℕ) where
 
   given_near : (cs : List ℕ) (x : TokenLexer) → Near (height x) (height (given_at look edition cs x).after)
   given_near [] x = record { up = omega arith; down = omega arith }
-  given_near (c ∷ cs) x = change_near (take_token look edition (c ∷ cs) (settled (view_of x))).change x.string_mode_stack
+  given_near (c ∷ cs) x =
+      let n = change_near (take_token look edition (c ∷ cs) (settled (view_of x))).change x.string_mode_stack in
+      record { up = omega (arith, n.up); down = omega (arith, n.down) }
 
   pub call_near : (x : TokenLexer) → Near (height x) (height (next x))
   call_near x = given_near (remaining_at s x.current_byte.0) x
 
   depth_of : (x : TokenLexer) (o : Option Token) (after : TokenLexer) (row : Row) → lexed_of x o after ≡ some row → row.depth ≡ height x
   depth_of x none after row e = absurd (let z : ◌≡◌ {A = ℕ} 0 1 = cc in omega arith)
-  depth_of x (some t) after row e = ap (λ (o : Option Row). depth_in o) (sym e)
+  depth_of x (some t) after row e = omega (arith, ap (λ (o : Option Row). depth_in o) (sym e))
     where
       depth_in : Option Row → ℕ
       depth_in none = 0

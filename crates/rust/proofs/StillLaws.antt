@@ -213,7 +213,7 @@ module _ (look : ℕ → ℕ) (edition : ℕ) (s : List ℕ) where
     taken_again (On h) k b = absurd (omega arith)
     taken_again (Still q r) k b = (
       ap (λ (v : Taken). next (given v x.string_mode_stack).after) q
-          ∙ ap (λ (a : List ℕ). given_at look edition a (with_fields l (some (token_of error)) x.string_mode_stack)) e
+          ∙ search (ap (λ (a : List ℕ). given_at look edition a (with_fields l (some (token_of error)) x.string_mode_stack)) e)
           ∙ ap (λ (v : Taken). given v x.string_mode_stack) r
           ∙ ap (λ (v : Taken). given v x.string_mode_stack) (sym q),
       q,
@@ -234,12 +234,12 @@ module _ (look : ℕ → ℕ) (edition : ℕ) (s : List ℕ) where
       record {
         again = p.0;
         token = ap (λ (v : Taken). some v.token) p.1;
-        modes = ap (λ (v : Taken). changed v.change x.string_mode_stack) p.1;
+        modes = search (ap (λ (v : Taken). changed v.change x.string_mode_stack) p.1);
       }
 
   module _ (x : TokenLexer) (h : StandsStill look edition s x) where
     stood : Stood x (next x)
-    stood = at_again x (remaining_at s x.current_byte.0) refl h.token h.answered h.kind h.byte
+    stood = at_again x (remaining_at s x.current_byte.0) refl h.token h.answered h.kind (search h.byte)
 
     pub still_again : Repeats x
     still_again = record { again = stood.again; modes = stood.modes }

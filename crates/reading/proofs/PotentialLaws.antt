@@ -39,7 +39,7 @@ use Rattle.lexer.specs.declared.What.{What}
 use Rattle.lexer.specs.declared.What.TheVariants as what
 use Rattle.reading.specs.Potential.{own_all, closes, worth, potential, NestedIn, Nested}
 use Rattle.reading.specs.PaidLaws.{Asks, Paid, take_paid, take_closes}
-use Rattle.reading.specs.WorthLaws.{change_nested, closes_is, owes_none, change_pays}
+use Rattle.reading.proofs.WorthLaws.{change_nested, closes_is, owes_none, change_pays}
 
 -- ---- at the start
 

@@ -27,17 +27,17 @@ use Rattle.reading.specs.declared.Scanned.{Scanned}
 use Rattle.reading.specs.declared.Scanned.TheVariants.{Refused, ListFull}
 use Rattle.kept.specs.Kept.{last_of, resumed, Edited, KeptTo}
 use Rattle.kept.specs.OldListLaws.{old_list, old_words, old_kept}
-use Rattle.kept.specs.RescanLaws.{rescan_is_scan, short_rescan_is_scan, last_kept, up_to}
+use Rattle.kept.proofs.RescanLaws.{rescan_is_scan, short_rescan_is_scan, last_kept, up_to}
 use Rattle.edit.specs.Edit.{Edits, start_of_line}
 use Rattle.edit.specs.EditLaws.{edit_of_lem, fits_of, edit_inside, same_start, line_within, line_newline}
 use Rattle.edit.specs.declared.Edit.{Edit}
 use Rattle.keep.specs.Keep.{no_row, row_before, Keeps}
 use Rattle.keep.specs.KeepLaws.{keeps_of, kept_of, last_is, over_some}
 use Rattle.rescan.specs.Rescan.{within, read_behind, kept, Rescans}
-use Rattle.rescan.specs.RescanLaws.{one_answer}
+use Rattle.rescan.proofs.RescanLaws.{one_answer}
 use Rattle.rescan.specs.declared.Rescanned.{Rescanned}
 use Rattle.rescan_promises.specs.Rescan.{Fresh, RescanPromise, RescanMeans}
-use Rattle.rescan_promises.specs.UnalteredLaws.{take_begin, begins_too}
+use Rattle.rescan_promises.proofs.UnalteredLaws.{take_begin, begins_too}
 use Rattle.rescan_promises.specs.OldWordsLaws.{rows_of_take, end_of_rows, copied_is}
 
 pub rescan_means : (s from : List ℕ) (count : ℕ) (e : Edit) (t table : List ℕ) (edition : ℕ) → RescanMeans s from count e t table edition

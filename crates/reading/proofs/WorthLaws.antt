@@ -16,7 +16,7 @@ use Rattle.state.specs.Modes.{template_expr, template_expr_format, raw_start, ra
 use Rattle.state.specs.Stack.{top, rest, changed}
 use Rattle.state.specs.declared.Change.{Change}
 use Rattle.state.specs.declared.Change.TheVariants.{Keep, Push, Pop, Replace}
-use Rattle.reading.specs.Potential.{stored, owns, own_all, closes, owes, worth, NestedIn}
+use Rattle.reading.specs.Potential.{stored, owns, own_all, closes, owes, worth, Pays, NestedIn}
 use Rattle.reading.specs.PaidLaws.{Asks}
 
 -- ---- stacks of modes
@@ -66,7 +66,7 @@ module _ (s : List ℕ) (i mode : ℕ) where
 
   closes_both : mode ≡ mode_code template_expr 0 → byte_at s i ≡ curly_close → owes s i mode ≡ 2
   unfolding closes
-  closes_both m e = rw (eq-eqb mode (mode_code template_expr 0) m, eq-eqb (byte_at s i) curly_close e)
+  closes_both m e = rw (eq-eqb mode (mode_code template_expr 0) m, eq-eqb (byte_at s i) curly_close e) refl
 
   pub owes_none : (closes s i mode ≡ true → ⊥) → owes s i mode ≡ 0
   owes_none n = by_test (λ (k : ℕ). k ≡ 0) (closes s i mode) (λ e. absurd (n e)) (λ _. refl)
@@ -83,21 +83,17 @@ module _ (s : List ℕ) (i mode : ℕ) where
 -- ---- from the byte i to the byte j, with a stack of modes
 
 module _ (s : List ℕ) (i j : ℕ) (ms : List ℕ) (on : i ≤ j) (within : j ≤ length s) where
-  -- a record is paid for, with this change of the modes
-  abbrev Pays : Change → Type 0
-  Pays c = worth s j (changed c ms) + 3 ≤ worth s i ms
-
-  keep_pays : (closes s i (top ms) ≡ true → ⊥) → i < j → Pays Keep
+  keep_pays : (closes s i (top ms) ≡ true → ⊥) → i < j → Pays s i j ms Keep
   keep_pays n h = omega (arith, owes_none s i (top ms) n)
 
-  push_pays : (code : ℕ) → (closes s i (top ms) ≡ true → ⊥) → owns code + 3 + 4 * i ≤ 4 * j → Pays (Push code)
+  push_pays : (code : ℕ) → (closes s i (top ms) ≡ true → ⊥) → owns code + 3 + 4 * i ≤ 4 * j → Pays s i j ms (Push code)
   push_pays code n h = omega (arith, owes_none s i (top ms) n, own_cons code ms)
 
-  pop_pays : i < j → Pays Pop
+  pop_pays : i < j → Pays s i j ms Pop
   pop_pays h = omega (arith, owes_most s i (top ms), own_top ms)
 
   -- the template that is on top then owes for its closing brace
-  format_pays : NestedIn ms → tag_of (top ms) ≡ template_expr_format → byte_at s j ≡ curly_close → Pays Pop
+  format_pays : NestedIn ms → tag_of (top ms) ≡ template_expr_format → byte_at s j ≡ curly_close → Pays s i j ms Pop
   format_pays n e b =
       omega (
         arith,
@@ -108,7 +104,7 @@ module _ (s : List ℕ) (i j : ℕ) (ms : List ℕ) (on : i ≤ j) (within : j �
         byte_within s j curly_close b (omega arith),
       )
 
-  turn_pays : (code : ℕ) → tag_of (top ms) ≡ raw_start → tag_of code ≡ raw_end → Pays (Replace code)
+  turn_pays : (code : ℕ) → tag_of (top ms) ≡ raw_start → tag_of code ≡ raw_end → Pays s i j ms (Replace code)
   turn_pays code e f =
       omega (
         arith,
@@ -121,7 +117,7 @@ module _ (s : List ℕ) (i j : ℕ) (ms : List ℕ) (on : i ≤ j) (within : j �
 
   -- where a template closes it is popped, and a token that changes no mode goes on by a byte
   pub change_pays : (c : Change) → Asks s (top ms) i j c → NestedIn ms → (closes s i (top ms) ≡ true → c ≡ Pop) → (c ≡ Keep → i < j)
-      → Pays c
+      → Pays s i j ms c
   change_pays Keep a n z k = keep_pays (λ e. let q = z e in let x : ◌≡◌ {A = ℕ} 0 1 = cc in omega arith) (k refl)
   change_pays (Push code) a n z k = push_pays code (λ e. let q = z e in let x : ◌≡◌ {A = ℕ} 0 1 = cc in omega arith) a.0
   change_pays Pop (inl h) n z k = pop_pays h

@@ -27,7 +27,7 @@ use Rattle.lookahead.specs.declared.Peeked.TheVariants as peeked
 use Rattle.queue.specs.Calls.{peeked_token, peeked_cursor, next, call, after_calls}
 use Rattle.queue.specs.LookLaws.{same_nexts, look_fits, look_token}
 use Rattle.promises.specs.Lookahead.{peeked_says}
-use Rattle.promises.specs.LookaheadLaws.{unfit_is, fit_is}
+use Rattle.promises.proofs.LookaheadLaws.{unfit_is, fit_is}
 use Rattle.promises.specs.Look.{LookAheadEnsures, Lacks, nothing, at_stuck, at_end, past_end, nexts_of, LookAheadPromise}
 
 -- how many are queued, as the document says it and as the definition computes it

@@ -28,11 +28,11 @@ use Rattle.reading.specs.WholeLaws.{ReadWhole, end_whole, stuck_whole}
 use Rattle.reading.specs.declared.Scanned.{Scanned}
 use Rattle.reading.specs.declared.Scanned.TheVariants.{End, Stuck, Refused, ListFull, ModesFull}
 use Rattle.rust.specs.TokenLexer.{new_token_lexer}
-use Rattle.rust.specs.HandsLaws.{reading_hands}
+use Rattle.rust.proofs.HandsLaws.{reading_hands}
 use Rattle.forbidden.specs.Forbidden.{first_forbidden}
 use Rattle.profile.specs.Profile.{judged, profiled_by, Profiles}
 use Rattle.forbidden.specs.Pass.{pass_from}
-use Rattle.forbidden.specs.PassLaws.{pass_is}
+use Rattle.forbidden.proofs.PassLaws.{pass_is}
 use Rattle.profile.specs.declared.Profiled.{Profiled}
 use Rattle.profile.specs.declared.Profiled.TheVariants.{Base, NotInProfile}
 

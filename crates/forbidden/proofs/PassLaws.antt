@@ -31,7 +31,7 @@ use Rattle.reading.specs.Reading.{Reading}
 use Rattle.queue.specs.StreamLaws.{get_in}
 use Rattle.rust.specs.TokenLexer.{TokenLexer, view_of, given_at, get_next_token, lexed_of, state_at, handed}
 use Rattle.rust.specs.Hands.{Hands}
-use Rattle.rust.specs.DepthLaws.{state_next, hands_depth}
+use Rattle.rust.proofs.DepthLaws.{state_next, hands_depth}
 use Rattle.forbidden.specs.Forbidden.{is_raw, has_template, opens_inner, is_forbidden, forbidden_token}
 use Rattle.forbidden.specs.Pass.{opener_after, is_inner, is_forbidden_by, forbidden_at, opener_at, pass_from}
 

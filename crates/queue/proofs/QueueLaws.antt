@@ -52,7 +52,7 @@ called k = record { lexer = k.lexer + 1; token_queue = k.token_queue }
 module _ (stream : Stream) (k : KotoLexer) where
   pop_empty : {o : Option Row} → k.token_queue ≡ [] → stream k.lexer ≡ o → rust_next stream k ≡ record { token = o; after = called k }
   unfolding rust_next
-  pop_empty e f = rw (e, f)
+  pop_empty e f = rw (e, f) (search refl)
 
   pop_front_lem : {t : Row} {queue : List Row} → k.token_queue ≡ t ∷ queue
       → rust_next stream k ≡ record { token = some t; after = record { lexer = k.lexer; token_queue = queue } }

@@ -20,7 +20,7 @@ use Rattle.reading.specs.declared.Scanned.{Scanned}
 use Rattle.reading.specs.declared.Scanned.TheVariants as answer
 use Rattle.forbidden.specs.Forbidden.{is_allowed, first_forbidden}
 use Rattle.profile.specs.Profile.{judged, profiled_by, Profiles, number_of, place_of}
-use Rattle.profile.specs.ProfileLaws.{one_answer}
+use Rattle.profile.proofs.ProfileLaws.{one_answer}
 use Rattle.profile.specs.declared.Profiled.{Profiled}
 use Rattle.profile.specs.declared.Profiled.TheVariants.{Base, NotInProfile}
 use Rattle.promises.specs.Profile.{Allowed, First, ProfilePromise}

@@ -8,10 +8,10 @@ use Rattle.fitness.specs.Fit.{FitTable}
 use Rattle.fitness.specs.FitLaws.{fit_of}
 use Rattle.input.specs.Input.{Readable}
 use Rattle.rust.specs.TokenLexer.{TokenLexer, new_token_lexer, get_next_token, state_at, handed, StandsStill}
-use Rattle.rust.specs.StillLaws as rust
-use Rattle.rust.specs.DepthLaws.{hands_depth, hands_near}
-use Rattle.rust.specs.HandsLaws.{reading_hands, stream_end, stream_stuck}
-use Rattle.rust.specs.OneLaws.{hands_one}
+use Rattle.rust.proofs.StillLaws as rust
+use Rattle.rust.proofs.DepthLaws.{hands_depth, hands_near}
+use Rattle.rust.proofs.HandsLaws.{reading_hands, stream_end, stream_stuck}
+use Rattle.rust.proofs.OneLaws.{hands_one}
 use Rattle.promises.specs.Stream.{our_reading, StreamPromise}
 
 pub stream_promise : (source table : List ℕ) (edition : ℕ) → Readable source_most source table edition → StreamPromise source table edition

@@ -11,8 +11,8 @@ use Rattle.reading.specs.Reading.{Reading}
 use Rattle.reading.specs.Scan.{reading_of}
 use Rattle.line.specs.Line.{line}
 use Rattle.kept.specs.Kept.{onto_all, UpTo, Edited}
-use Rattle.kept.specs.ReadingLaws.{reading_line}
-use Rattle.kept.specs.RescanLaws.{source_line, other_line, up_to}
+use Rattle.kept.proofs.ReadingLaws.{reading_line}
+use Rattle.kept.proofs.RescanLaws.{source_line, other_line, up_to}
 use Rattle.rescan_promises.specs.Rescan.{NoByteAlters}
 
 onto_rows : (kept : List Row) (r : Reading) → (onto_all kept r).rows ≡ kept ++ r.rows

@@ -1,0 +1,2 @@
+pub mod RescanLaws
+pub mod UnalteredLaws

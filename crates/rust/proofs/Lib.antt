@@ -1,0 +1,4 @@
+pub mod StillLaws
+pub mod DepthLaws
+pub mod HandsLaws
+pub mod OneLaws
