@@ -8,6 +8,7 @@ ghost use Rattle.fitness.specs.Fit.{FitTable};
 ghost use Rattle.layout.specs.Layout.{room_in};
 ghost use Rattle.stepping.specs.Invariant.{Ok};
 ghost use Rattle.reading.specs.Scan.{ReadsOnIn, Scans};
+ghost use Rattle.classes.specs.Classes.{ClassTable};
 ghost use Rattle.fast_turns.specs.Steps.{Rows};
 
 use classes::classes;
@@ -22,8 +23,8 @@ use scan::{full, stuck};
 use signs::signs;
 use state::{Change, State};
 
-// Reads on from a state, into the list from record `first` on.
-fn read_on(
+// Reads on from a state, into the list from record `first` on, with the signs at hand.
+fn read_on_by(
     layout: Layout,
     source: &[u8],
     table: &[u32],
@@ -81,12 +82,32 @@ fn read_on(
     }
 }
 
+// The same, with no signs at hand.
+fn read_on(
+    layout: Layout,
+    source: &[u8],
+    table: &[u32],
+    edition: u32,
+    classes: &[u8; 256],
+    start: State,
+    list: &mut [u32],
+    first: usize,
+) -> Scanned
+    requires ok { Ok source.now start × FitTable table.now × (first ≤ room_in layout list.old) }
+    requires class_table { ClassTable classes.now }
+    ensures { ReadsOnIn layout (properties_at table.now) edition source.now start first list.old result list.new }
+{
+    let signs = signs();
+    read_on_by(
+        layout, source, table, edition, classes, &signs, start, list, first,
+    )
+}
+
 // Writes the records of a source at the start of the list, as `scan::scan` does: the same answer and the same words, on every input.
 pub fn scan_fast(source: &[u8], table: &[u32], edition: u32, list: &mut [u32]) -> Scanned
     ensures { Scans source.now table.now edition list.old result list.new }
 {
     let classes = classes();
-    let signs = signs();
     match input::check_input(source, table, edition, SOURCE_MOST) {
         Input::Refused(refusal) => Scanned::Refused(refusal),
         Input::Fine => read_on(
@@ -95,7 +116,6 @@ pub fn scan_fast(source: &[u8], table: &[u32], edition: u32, list: &mut [u32]) -
             table,
             edition,
             &classes,
-            &signs,
             State::new(),
             list,
             0,

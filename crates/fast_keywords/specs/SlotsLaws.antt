@@ -5,6 +5,7 @@
 --     by_slot         a name is the keyword at its place where number and length are its, and else none
 --     by_none         no keyword has a place that the code's `match` leaves over
 --     by_word         what the code asks of a name at a place of the bytes tells which keyword it is
+--     no_number, no_length, found     the same by each answer, of a name of up to eight bytes
 -- Assumes nothing.
 use Rattle.std.specs.Prelude.{ℕ, zero, suc, ◌+◌, ◌*◌, ◌-◌, ◌/◌, ◌%◌, ◌^◌, ◌≤◌, ◌<◌, ◌≡◌, Bool, true, false, ◌&&◌, leb, length, get_or, take, drop}
 use Rattle.std.proofs.Common.{mod-lt, mod-eq_of_lt, mul_assoc, add-zero, arith, add-one, ap, subst, ◌∙◌, length-take, length-drop, pow-add, pow_pos, drop-cons, take-take, get_or-take, get_or-drop, length-take-le, eqb-true, eq-eqb, ne_eqb, leb-true}
@@ -210,3 +211,19 @@ module _ (s : List ℕ) (at len : ℕ) (bytes : (i : ℕ) → get_or s i 0 < 256
 
   pub by_word : (8 < len → id ≡ keyword_of name) → answer ≡ keyword_of name
   by_word none = split_lt 8 len (λ h. too_long_lem h ∙ none h) (λ h. compared h)
+
+-- the same of a name that is no longer than they, by what is asked of it: another number, another length, or the keyword
+module _ (s : List ℕ) (at len : ℕ) (bytes : (i : ℕ) → get_or s i 0 < 256) (room : at + 9 ≤ length s) (some : 2 ≤ len) (few : len ≤ 8) {p word mask : ℕ}
+    {slot : Slot} (there : p ≡ place_by len (get_or s at 0) (get_or s (at + (len - 1)) 0)) (is : slot ≡ slot_at p) (eight : word ≡ number (take 8 (drop at s)))
+    (cut : mask ≡ 2 ^ (8 * len) - 1) where
+  told_here : pick (eqb (bit_and word mask) slot.number && eqb len slot.len) slot.kind id ≡ keyword_of (take len (drop at s))
+  told_here = compared s at len bytes room (omega arith) (omega arith) there is eight (λ _. cut) few
+
+  pub no_number : (bit_and word mask ≡ slot.number → ⊥) → id ≡ keyword_of (take len (drop at s))
+  no_number n = rw (ne_eqb (bit_and word mask) slot.number n) at told_here
+
+  pub no_length : bit_and word mask ≡ slot.number → (len ≡ slot.len → ⊥) → id ≡ keyword_of (take len (drop at s))
+  no_length e n = rw (eq-eqb (bit_and word mask) slot.number e, ne_eqb len slot.len n) at told_here
+
+  pub found : bit_and word mask ≡ slot.number → len ≡ slot.len → slot.kind ≡ keyword_of (take len (drop at s))
+  found e f = rw (eq-eqb (bit_and word mask) slot.number e, eq-eqb len slot.len f) at told_here

@@ -13,7 +13,8 @@ ghost use Rattle.skip.specs.Skip.{Counts};
 ghost use Rattle.names.specs.ConsumeIdOrKeyword.{name_end};
 ghost use Rattle.fast_names.specs.NameRun.{NameRun};
 
-use name_runs::{Ended, end_of_parts, is_part, run_by};
+pub use name_runs::Ended;
+use name_runs::{end_of_parts, is_part, run_by};
 use position::Reach;
 use skip::{place_out, smaller};
 use state::Lexer;

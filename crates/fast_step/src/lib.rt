@@ -190,7 +190,7 @@ pub fn long_half(source: &[u8], table: &[u32], edition: u32, lexer: Lexer, near:
 }
 
 // The same, where the token may be any.
-pub fn fast_half(
+pub fn fast_half_near(
     source: &[u8],
     table: &[u32],
     edition: u32,
@@ -207,4 +207,19 @@ pub fn fast_half(
         return found_half(lexer, short);
     }
     long_half(source, table, edition, lexer, near)
+}
+
+// The same with no run to try first.
+pub fn fast_half(
+    source: &[u8],
+    table: &[u32],
+    edition: u32,
+    classes: &[u8; 256],
+    lexer: Lexer,
+) -> Half
+    requires { Fine source.now lexer × FitTable table.now × ClassTable classes.now }
+    ensures { result ≡ half (properties_at table.now) edition source.now lexer }
+{
+    let mut near = 0;
+    fast_half_near(source, table, edition, classes, lexer, &mut near)
 }

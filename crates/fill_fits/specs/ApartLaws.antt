@@ -18,7 +18,7 @@ use Rattle.cluster.specs.First.{go_on, first_size}
 use Rattle.cluster.specs.FirstLaws.{plain}
 use Rattle.format_options.specs.Letters.{less}
 use Rattle.wanted.specs.TailLaws.{and_no}
-use Rattle.wanted.specs.StartLaws.{goes_prefix}
+use Rattle.wanted.proofs.StartLaws.{goes_prefix}
 use Rattle.fill_fits.specs.Apart.{last_of, joins_sign}
 
 -- the second of two tests that do not both hold, told by an answer of three cases

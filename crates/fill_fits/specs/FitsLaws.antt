@@ -32,7 +32,7 @@ use Rattle.asked.specs.declared.Fields.{Fields}
 use Rattle.wanted.specs.Wanted.{Unfilled}
 use Rattle.wanted.specs.Candidate.{wanted_by, sign_part, is_default, is_bare, is_taken, one_fits, chars_fit}
 use Rattle.wanted.specs.TailLaws.{and_yes}
-use Rattle.wanted.specs.StartLaws.{many_bytes}
+use Rattle.wanted.proofs.StartLaws.{many_bytes}
 use Rattle.fill_fits.specs.Apart.{joins_sign, Begins}
 use Rattle.fill_fits.specs.ApartLaws.{apart_by}
 

@@ -159,11 +159,12 @@ module _ (s : List ℕ) where
           keeps.by_fill min_width o.fill pool _ (subst (λ (q : ℕ). I q o.fill pool) t.1 i) (part_one at c cs r) (omega arith)
       after at p o pool c cs r i arm.Align t = keeps.by_other p min_width o.fill pool i (omega arith)
       after at p o pool c cs r i arm.ZeroFill t = keeps.by_zero p min_width o.fill pool _ i (zero_one at c cs t r) (omega arith)
-      after at p o pool c cs r i arm.MinWidth t = go (consume_u32 c cs)
+      after at p o pool c cs r i arm.MinWidth t = go _ (λ n. refl) (consume_u32 c cs)
         where
-          go : (x : Consumed) → After pool (on_consumed x (λ n k. Goes (with_width n o) precision k NoFill))
-          go (Value n k) = keeps.by_other p precision o.fill pool i (omega arith)
-          go (Wrong e) = tt
+          go : (f : ℕ → Options) → ((n : ℕ) → o.fill ≡ (f n).fill) → (x : Consumed) → After pool (on_consumed x (λ n k. Goes (f n) precision k NoFill))
+          go f same (Value n k) =
+              subst (λ (fill : Fill). I precision fill pool) (same n) (keeps.by_other p precision o.fill pool i (omega arith))
+          go f same (Wrong e) = tt
       after at p o pool c cs r i arm.Precision t = go (consume_u32 (peeked cs) (drop 1 cs))
         where
           go : (x : Consumed) → After pool (on_consumed x (λ n k. Goes (with_precision n o) type (suc k) NoFill))

@@ -77,24 +77,39 @@ len_there {s} {q} {r} {n} e d = subst (λ (x : Reach). LenIs s x.byte.0 n) e d
 pub ascii_len : {s : List ℕ} {i : ℕ} (d : ℕ) → WellFormed (drop i s) → byte_at s i ≡ d → d < 128 → LenIs s i 1
 ascii_len {s} {i} d w e h = record { code = d; at = ascii_head s i d e h; well = rest_at s i d 1 w (ascii_read s i d e h) }
 
+-- an end of a name as `name_end` has it
+abbrev pub Ends : (ℕ → ℕ) → Lexer → (List ℕ → Reach) → Type 0
+Ends look l end = (c : ℕ) (cs : List ℕ) → end (c ∷ cs) ≡ run_test look 1 (along_by (len_utf8 c) 1 (reach_of l)) cs
+
 -- the run after the first character, from where it ends
-pub name_end_at : (look : ℕ → ℕ) (s : List ℕ) (l : Lexer) {q r : Reach} {c n : ℕ} → q ≡ reach_of l → At s q.byte.0 c n → r ≡ along_by n 1 q
-    → run_test look 1 r (chars (drop r.byte.0 s)) ≡ name_end look (chars_from s (reach_of l)) l
-unfolding name_end
-name_end_at look s l {q} {r} {c} {n} e a f =
+end_at : (look : ℕ → ℕ) (s : List ℕ) (l : Lexer) (end : List ℕ → Reach) {q r : Reach} {c n : ℕ} → Ends look l end
+    → q ≡ reach_of l → At s q.byte.0 c n → r ≡ along_by n 1 q
+    → run_test look 1 r (chars (drop r.byte.0 s)) ≡ end (chars_from s (reach_of l))
+end_at look s l end {q} {r} {c} {n} is e a f =
     ap (λ (x : Reach). run_test look 1 x (chars (drop x.byte.0 s))) f
     ∙ ap (λ (k : ℕ). run_test look 1 (along_by k 1 q) (chars (drop (q.byte.0 + n) s))) (sym a.width)
     ∙ ap (λ (x : Reach). run_test look 1 (along_by (len_utf8 c) 1 x) (chars (drop (q.byte.0 + n) s))) e
-    ∙ ap (λ (cs : List ℕ). name_end look cs l) (sym a.step ∙ ap (chars_from s) e)
+    ∙ sym (is c _)
+    ∙ ap end (sym a.step ∙ ap (chars_from s) e)
 
-pub name_goes : (look : ℕ → ℕ) (s : List ℕ) (l : Lexer) → Stands s (reach_of l) → (reach_of l).byte.0 < length s
-    → GoesOn s (reach_of l) (name_end look (chars_from s (reach_of l)) l)
-name_goes look s l o h =
+pub name_end_at : (look : ℕ → ℕ) (s : List ℕ) (l : Lexer) {q r : Reach} {c n : ℕ} → q ≡ reach_of l → At s q.byte.0 c n → r ≡ along_by n 1 q
+    → run_test look 1 r (chars (drop r.byte.0 s)) ≡ name_end look (chars_from s (reach_of l)) l
+unfolding name_end
+name_end_at look s l = end_at look s l (λ cs. name_end look cs l) (λ c cs. search refl)
+
+pub end_goes : (look : ℕ → ℕ) (s : List ℕ) (l : Lexer) (end : List ℕ → Reach) → Ends look l end
+    → Stands s (reach_of l) → (reach_of l).byte.0 < length s → GoesOn s (reach_of l) (end (chars_from s (reach_of l)))
+end_goes look s l end is o h =
     let c = here s (reach_of l).byte.0 o.well h in
     let first = along_by c.len 1 (reach_of l) in
     let g = run_stands look (test_utf8_of look 1) s first (along_stands s (reach_of l) c.code c.len 1 o c.at c.well (omega arith)) in
-    subst (GoesOn s (reach_of l)) (name_end_at look s l {r = first} refl c.at refl)
+    subst (GoesOn s (reach_of l)) (end_at look s l end {r = first} is refl c.at refl)
     (record { stands = g.stands; on = omega (arith, g.on, c.at.some) })
+
+pub name_goes : (look : ℕ → ℕ) (s : List ℕ) (l : Lexer) → Stands s (reach_of l) → (reach_of l).byte.0 < length s
+    → GoesOn s (reach_of l) (name_end look (chars_from s (reach_of l)) l)
+unfolding name_end
+name_goes look s l = end_goes look s l (λ cs. name_end look cs l) (λ c cs. search refl)
 
 -- ---- keywords
 

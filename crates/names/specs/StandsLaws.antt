@@ -2,7 +2,7 @@
 -- further on.
 --     id_or_keyword_goes, ignored_goes
 -- Assumes nothing.
-use Rattle.std.specs.Prelude.{ℕ, ◌+◌, ◌-◌, ◌≤◌, ◌<◌, ◌≡◌, refl, true, List, [], ◌∷◌, ltb, eqb, length, take, drop}
+use Rattle.std.specs.Prelude.{ℕ, ◌+◌, ◌-◌, ◌<◌, ◌≡◌, refl, true, List, [], ◌∷◌, ltb, eqb, length, take, drop}
 use Rattle.std.proofs.Common.{arith, sym, subst, ltb-true}
 use Rattle.std.proofs.Math.Bool.{and-eq-true_iff}
 use Rattle.base.specs.PickLaws.{by_test, by_eq}
@@ -23,7 +23,7 @@ use Rattle.numbers.specs.Places.{PlaceIn, GoesOn}
 use Rattle.numbers.specs.PlaceLaws.{place_of_lem, next_place, run_place, run_end}
 use Rattle.numbers.specs.StandsLaws.{along_goes}
 use Rattle.names.specs.ConsumeIdOrKeyword.{name_end, remaining, name_bytes, parse_raw_string_start, keyword_or_id, raw_or_name, name_token, consume_id_or_keyword, consume_ignored}
-use Rattle.names.specs.NameLaws.{raw_start_at, name_goes, name_token_at, raw_opens, raw_not, r_stands, word_starts, starts_next}
+use Rattle.names.specs.NameLaws.{raw_start_at, end_goes, name_token_at, raw_opens, raw_not, r_stands, word_starts, starts_next}
 use Rattle.names.specs.declared.RawStart.{RawStart}
 use Rattle.names.specs.declared.RawStart.TheVariants.{Opens, Nothing}
 
@@ -85,7 +85,9 @@ module _ (s : List ℕ) (l : Lexer) (end : Reach) (o : Stands s (reach_of l)) (g
 
 module _ (look : ℕ → ℕ) (s : List ℕ) (l : Lexer) (o : Stands s (reach_of l)) (h : (reach_of l).byte.0 < length s) where
   pub id_or_keyword_goes : GoesOn s (reach_of l) (reach_of (consume_id_or_keyword look (chars_from s (reach_of l)) l).lexer)
-  id_or_keyword_goes = name_leads s l (name_end look (chars_from s (reach_of l)) l) o (name_goes look s l o h)
+  unfolding name_end
+  id_or_keyword_goes = name_leads s l (name_end look (chars_from s (reach_of l)) l) o (end_goes look s l (λ cs. name_end look cs l) (λ c cs. search refl) o h)
 
   pub ignored_goes : GoesOn s (reach_of l) (reach_of (consume_ignored look (chars_from s (reach_of l)) l).lexer)
-  ignored_goes = name_goes look s l o h
+  unfolding name_end
+  ignored_goes = end_goes look s l (λ cs. name_end look cs l) (λ c cs. search refl) o h

@@ -31,6 +31,7 @@ pub enum RawStart {
 }
 
 // lexer.rs `parse_raw_string_start`: up to 255 hashes and a quote, at `at`.
+#[tactic(auto, using(crate::proofs::Hashes::too_many))]
 fn parse_raw_string_start(source: &[u8], at: usize) -> RawStart
     requires { PlaceIn source.now at }
     ensures { result ≡ parse_raw_string_start (chars (drop at source.now)) }

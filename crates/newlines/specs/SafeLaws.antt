@@ -2,7 +2,7 @@
 --     plain_safe     what `FollowLaws` asks of a loop's turn, of the arms in common
 --     two, pair      two ASCII characters that are passed
 -- Assumes nothing.
-use Rattle.std.specs.Prelude.{ℕ, ◌+◌, ◌<◌, ◌≡◌, true, List, length, drop}
+use Rattle.std.specs.Prelude.{ℕ, ◌+◌, ◌<◌, ◌≡◌, refl, true, List, length, drop}
 use Rattle.std.proofs.Common.{arith, sym, subst, eqb-true}
 use Rattle.base.specs.PickLaws.{by_eq}
 use Rattle.utf8.specs.Encode.{WellFormed}
@@ -12,14 +12,15 @@ use Rattle.text.specs.CountLaws.{width_most_lem}
 use Rattle.text.specs.Stands.{Passes, Within, Safe}
 use Rattle.text.specs.FollowLaws.{here, one_char, one_more_lem, one_ascii}
 use Rattle.newlines.specs.PlainTurn.{plain_turn}
-use Rattle.newlines.specs.TurnLaws.{is_pair, both, len_one, plain_at}
+use Rattle.newlines.specs.TurnLaws.{is_pair, both, len_one, arms_at}
 
 pub plain_safe : (look : ℕ → ℕ) (s : List ℕ) → Safe (plain_turn look) s
+unfolding plain_turn
 plain_safe look s i h w =
     let c = here s i w h in
     let p = one_char s i c.code c.len c.at c.well in
     let one : c.code < 128 → Passes s i 1 = λ k. subst (Passes s i) (len_one c.at k) p in
-    subst (Within s i) (sym (plain_at look s i c.code c.len c.at c.well))
+    subst (Within s i) (sym (arms_at look s i (plain_turn look) (λ _ rest. search refl) c.code c.len c.at c.well))
     (by_eq (Within s i) c.code cr
     (λ e. by_eq (Within s i) (byte_at s (i + 1)) lf (λ f. one_more_lem s i 1 lf (one (omega arith)) f (omega arith)) (λ _. tt))
     (λ _. by_eq (Within s i) c.code lf (λ e. one (omega arith)) (λ _. (p, omega (arith, width_most_lem (look c.code), p.some)))))

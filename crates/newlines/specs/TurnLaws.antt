@@ -1,7 +1,7 @@
 -- Laws of the turns, at a place of the bytes.
 --     when, and_when, both             what a test that passed gives
 --     is_byte, behind, is_pair_lem         the character at a place, and two of them, by their bytes
---     plain_at, printable_at           the arms in common by tests of the bytes there, and at a printable ASCII character
+--     arms_at, plain_at, printable_at  the arms in common by tests of the bytes there, and at a printable ASCII character
 --     newline_at                       the same of `consume_newline`
 -- Assumes nothing.
 use Rattle.std.specs.Prelude.{ℕ, ◌+◌, ◌<◌, ◌≡◌, refl, Bool, true, false, ◌&&◌, List, length, drop}
@@ -29,6 +29,7 @@ use Rattle.text.specs.CountLaws.{skip_one}
 use Rattle.text.specs.Follow.{next_is, turn_at}
 use Rattle.text.specs.Stands.{chars_from}
 use Rattle.text.specs.FollowLaws.{here, ascii_head, head_is, next_is_lem, turn_char}
+use Rattle.text.specs.declared.Turn.{Turn}
 use Rattle.text.specs.declared.Turn.TheVariants.{Pass, Line, Stuck}
 use Rattle.state.specs.Lexer.{reach_of, token_to, stuck_at}
 use Rattle.state.specs.declared.Lexer.{Lexer}
@@ -63,19 +64,28 @@ pub len_one : {s : List ℕ} {i c n : ℕ} → At s i c n → c < 128 → n ≡ 
 len_one {s} {i} {c} a h = sym a.width ∙ ap length (encode1 c h)
 
 module _ (look : ℕ → ℕ) (s : List ℕ) (i : ℕ) where
-  -- lexer.rs, the arms that all loops have in common
-  pub plain_at : (c n : ℕ) → At s i c n → WellFormed (drop (i + n) s)
-      → turn_at (plain_turn look) (chars (drop i s))
+  -- a turn of these arms, by tests of the bytes there
+  pub arms_at : (turn : ℕ → List ℕ → Turn)
+      → ((c : ℕ) (rest : List ℕ) → turn c rest ≡ pick (eqb c cr) (pick (next_is lf rest) (Line 2) Stuck) (pick (eqb c lf) (Line 1) (Pass (len_utf8 c) (width_of (look c)))))
+      → (c n : ℕ) → At s i c n → WellFormed (drop (i + n) s)
+      → turn_at turn (chars (drop i s))
       ≡ pick (eqb c cr) (pick (eqb (byte_at s (i + 1)) lf) (Line 2) Stuck) (pick (eqb c lf) (Line 1) (Pass n (width_of (look c))))
-  unfolding plain_turn
-  plain_at c n a w =
-      turn_char (plain_turn look) s i c n a
+  arms_at turn arms c n a w =
+      turn_char turn s i c n a
+      ∙ arms c _
       ∙ when (eqb c cr) (pick (eqb c lf) (Line 1) (Pass (len_utf8 c) (width_of (look c))))
       (λ e. ap (λ (t : Bool). pick t (Line 2) Stuck)
       (next_is_lem s (i + n) lf w (omega arith)
       ∙ ap (λ (k : ℕ). eqb (byte_at s (i + k)) lf) (len_one a (omega (arith, eqb-true c cr e)))))
       ∙ ap (λ (b : ℕ). pick (eqb c cr) (pick (eqb (byte_at s (i + 1)) lf) (Line 2) Stuck) (pick (eqb c lf) (Line 1) (Pass b (width_of (look c)))))
       a.width
+
+  -- lexer.rs, the arms that all loops have in common
+  pub plain_at : (c n : ℕ) → At s i c n → WellFormed (drop (i + n) s)
+      → turn_at (plain_turn look) (chars (drop i s))
+      ≡ pick (eqb c cr) (pick (eqb (byte_at s (i + 1)) lf) (Line 2) Stuck) (pick (eqb c lf) (Line 1) (Pass n (width_of (look c))))
+  unfolding plain_turn
+  plain_at = arms_at (plain_turn look) (λ c rest. search refl)
 
 module _ (s : List ℕ) (i : ℕ) (w : WellFormed (drop i s)) (h : i < length s) where
   -- the character at i, by its byte
@@ -97,11 +107,12 @@ module _ (s : List ℕ) (i : ℕ) (w : WellFormed (drop i s)) (h : i < length s)
   module _ (table : List ℕ) (fit : FitTable table) where
     -- lexer.rs, the arms in common, at a printable ASCII character
     pub printable_at : (b : ℕ) → byte_at s i ≡ b → is_printable b ≡ true → turn_at (plain_turn (properties_at table)) (chars (drop i s)) ≡ Pass 1 1
+    unfolding plain_turn
     printable_at b e p =
         let q = inside_is b space tilde p in
         let k : b < 128 = omega (arith, q.1) in
         let wide : width_of (properties_at table b) ≡ 1 = ascii_width table fit b k ∙ ap (λ (t : Bool). pick t 1 0) p in
-        plain_at (properties_at table) s i b 1 (ascii_head s i b e k) (skip_one s i b w e k).well
+        arms_at (properties_at table) s i (plain_turn (properties_at table)) (λ c rest. search refl) b 1 (ascii_head s i b e k) (skip_one s i b w e k).well
         ∙ rw (ne_eqb b cr (λ x. omega (arith, q.0)), ne_eqb b lf (λ x. omega (arith, q.0)), wide)
 
 -- ---- tokens by their bytes, where reading has come to r

@@ -15,7 +15,7 @@ ghost use Rattle.short.specs.Short.{TokenFinds};
 ghost use Rattle.fast_step.specs.FastStep.{StepFinds};
 ghost use Rattle.plain_step.specs.PlainStep.{CodeMode, FoundInCode};
 
-use fast_step::{fast_half, found_half};
+use fast_step::{fast_half_near, found_half};
 use found::{Found, along, nothing};
 use lexer::Half;
 use plain_code::code_plain;
@@ -84,7 +84,7 @@ fn find_plain(
     found_by_mode(source, table, classes, signs, lexer.settle())
 }
 
-// The lexer's half of the read step, as `fast_step::fast_half` answers it. The run of the table to try first for a character above 127 is `near`, which may
+// The lexer's half of the read step, as `fast_step::fast_half_near` answers it. The run of the table to try first for a character above 127 is `near`, which may
 // be any number.
 pub fn plain_half(
     source: &[u8],
@@ -104,5 +104,5 @@ pub fn plain_half(
     if kind != kinds::ERROR {
         return found_half(lexer, plain);
     }
-    fast_half(source, table, edition, classes, lexer, near)
+    fast_half_near(source, table, edition, classes, lexer, near)
 }

@@ -155,7 +155,7 @@ reading_is_whole s table edition h w fit =
       few = omega (arith, r.paid);
       chain = r.chain;
       covers = λ e. covered s _ w (r.cut e) (r.ends e);
-      one_more = λ e. omega (arith, r.paid, ap lacking e);
+      one_more_lem = λ e. omega (arith, r.paid, ap lacking e);
     }
 
 -- ---- the corollary
@@ -165,7 +165,7 @@ module _ (s : List ℕ) (n : ℕ) (r : Reading) (w : Whole s r) (h : most_record
   stops_otherwise ended e = λ q. omega arith
   stops_otherwise stuck e = λ q. omega arith
   stops_otherwise deep e =
-      by_lt (λ (x : Scanned). number_of x ≡ list_full → ⊥) (0 + length r.rows) n (λ _ q. omega arith) (λ k q. omega (arith, w.one_more e))
+      by_lt (λ (x : Scanned). number_of x ≡ list_full → ⊥) (0 + length r.rows) n (λ _ q. omega arith) (λ k q. omega (arith, w.one_more_lem e))
 
   has_room : number_of (by_room n 0 0 r) ≡ list_full → ⊥
   has_room =

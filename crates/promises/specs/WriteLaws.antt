@@ -37,7 +37,7 @@ use Rattle.parse.specs.declared.Parsed.TheVariants.{Read, BadState, PoolFull}
 use Rattle.parse.specs.declared.Parsed.TheVariants as wrong
 use Rattle.wanted.specs.Wanted.{Asked, asked_of, ReadsBack, First, NoSuch}
 use Rattle.wanted.specs.Candidate.{can_write}
-use Rattle.wanted.specs.WriteLaws.{first, no_such, one_first}
+use Rattle.wanted.proofs.WriteLaws.{first, no_such, one_first}
 use Rattle.writer.specs.Call.{answer_if, buffer_after, format_for, Writes, number_of, len_of}
 use Rattle.writer.specs.CallLaws.{one_answer, kept}
 use Rattle.writer.specs.declared.Written.{Written}

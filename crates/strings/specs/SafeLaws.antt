@@ -13,7 +13,6 @@ use Rattle.text.specs.Stands.{Within, Safe}
 use Rattle.text.specs.FollowLaws.{one_more_lem, one_ascii, no_char_lem}
 use Rattle.text.specs.declared.Turn.TheVariants.{Pass, Close}
 use Rattle.state.specs.Modes.{quote_of, hash_count_of}
-use Rattle.newlines.specs.PlainTurn.{plain_turn}
 use Rattle.strings.specs.ConsumeStringLiteral.{escape_turn, literal_turn}
 use Rattle.strings.specs.ConsumeRawString.{hashes, quote_turn, raw_turn}
 use Rattle.newlines.specs.SafeLaws.{plain_safe, two}

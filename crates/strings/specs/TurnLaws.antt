@@ -1,8 +1,8 @@
 -- Laws of the turns, at a place of the bytes.
 --     escape_at, literal_at, raw_at     the turn by tests of the bytes there, in the order of the code
 -- Assumes nothing.
-use Rattle.std.specs.Prelude.{ℕ, ◌+◌, ◌%◌, ◌<◌, ◌≡◌, refl, Bool, true, List, eqb, length, drop}
-use Rattle.std.proofs.Common.{arith, sym, ◌∙◌, eqb-true}
+use Rattle.std.specs.Prelude.{ℕ, ◌+◌, ◌%◌, ◌<◌, ◌≡◌, Bool, true, List, eqb, length, drop}
+use Rattle.std.proofs.Common.{arith, ◌∙◌, eqb-true}
 use Rattle.std.proofs.Math.Path.{ap}
 use Rattle.base.specs.Pick.{pick}
 use Rattle.base.specs.PickLaws.{by_eq}

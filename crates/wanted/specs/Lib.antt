@@ -2,6 +2,4 @@ pub mod Wanted
 pub mod Candidate
 pub mod SmallLaws
 pub mod TailLaws
-pub mod StartLaws
 pub mod BackLaws
-pub mod WriteLaws

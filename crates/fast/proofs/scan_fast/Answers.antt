@@ -17,7 +17,7 @@ read_on-requires c =
         fit_of _ g.fit,
         omega arith,
       );
-      rows = record { by_class = c.classes-classes.ensures; by_sign = c.signs-signs.ensures };
+      class_table = c.classes-classes.ensures;
     }
 
 pub returns-in-Refused : goal.returns-in-Refused

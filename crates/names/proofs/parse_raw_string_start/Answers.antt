@@ -5,9 +5,6 @@ use Rattle.base.specs.CasesLaws.{cases}
 use Rattle.names.specs.NameLaws.{raw_start_at}
 use Rattle.names.proofs.parse_raw_string_start.Goals as goal
 
-pub returns-then-hash_count-gt255 : goal.returns-then-hash_count-gt255
-returns-then-hash_count-gt255 c = sym (raw_start_at c.requires c.run_end-quote_at.ensures ∙ search cases)
-
 pub returns-then-quote-eq-DOUBLE_QUOTE : goal.returns-then-quote-eq-DOUBLE_QUOTE
 returns-then-quote-eq-DOUBLE_QUOTE c = sym (raw_start_at c.requires c.run_end-quote_at.ensures ∙ search cases)
 

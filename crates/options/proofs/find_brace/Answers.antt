@@ -1,6 +1,5 @@
 -- `options::find_brace` meets its contract. The loop's invariant is `Searching`: what is found from here is what was to be found from the
 -- start. Assumes nothing.
-use Prim.Native.Nat.{◌-◌}
 use Rattle.options.proofs.Search.{searching, searches_on, found, nowhere}
 use Rattle.options.proofs.find_brace.Goals as goal
 

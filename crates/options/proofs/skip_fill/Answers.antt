@@ -2,6 +2,7 @@
 -- Assumes nothing.
 use native.Mathlib.Omega.{arith}
 use Prim.Native.Nat.{ℕ}
+use Rattle.std.proofs.Common.{rules}
 use mathlib.Core.Path.{◌≡◌, sym, ◌∙◌}
 use mathlib.Core.List.{List}
 use mathlib.Core.Bool.{Bool, true, false}
@@ -34,8 +35,9 @@ overflow_add-fill c = omega (arith, (behind (filled (goal.at.overflow_add-fill c
 
 pub returns-then-cluster_end-fill : goal.returns-then-cluster_end-fill
 returns-then-cluster_end-fill c =
-    aligned (filled (goal.at.returns-then-cluster_end-fill c).After-cluster_end-fill) (tested (goal.at.returns-then-cluster_end-fill c).After-is_alignment true c.if-not-is_alignment.false) (sym c.cluster_end.ensures ∙ c.if-cluster_end-fill.true)
+    let e = aligned (filled (goal.at.returns-then-cluster_end-fill c).After-cluster_end-fill) (tested (goal.at.returns-then-cluster_end-fill c).After-is_alignment true c.if-not-is_alignment.false) (search rules) in
+    search (rules, e)
 
 pub returns : goal.returns
 returns c =
-    longer (filled (goal.at.returns c).After-cluster_end-fill) (tested (goal.at.returns c).After-is_alignment true c.if-not-is_alignment.false) (λ e. c.if-cluster_end-fill.false (c.cluster_end.ensures ∙ e))
+    longer (filled (goal.at.returns c).After-cluster_end-fill) (tested (goal.at.returns c).After-is_alignment true c.if-not-is_alignment.false) (λ e. c.if-cluster_end-fill.false (search (rules, e)))

@@ -14,4 +14,4 @@ returns-then-kind-ne-ERROR c =
     ∙ sym (c.find_plain-plain.ensures.is (ne_eqb c.find_plain-plain.result.kind error c.if-kind-ne-ERROR.true) c.args.edition)
 
 pub returns : goal.returns
-returns c = c.fast_half.ensures
+returns c = c.fast_half_near.ensures

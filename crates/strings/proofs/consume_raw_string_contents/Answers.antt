@@ -2,7 +2,8 @@
 -- hash is the turn that passes the quote and the hashes before it, all of them the turn that closes; the other arms cite their laws of
 -- `Loops`. Assumes nothing.
 use native.Mathlib.Omega.{arith}
-use Prim.Native.Nat.{ℕ, ◌+◌, ◌-◌}
+use Prim.Native.Nat.{ℕ, ◌+◌}
+use Rattle.std.proofs.Common.{rules}
 use mathlib.Core.Path.{refl, sym, ap, ◌∙◌}
 use Rattle.position.specs.declared.Reach.{Reach}
 use Rattle.property.specs.Table.{properties_at}
@@ -42,8 +43,10 @@ outer-init c = begun c.reach-reach.ensures c.requires.stands.0
 
 pub loop-k-init : goal.loop-k-init
 loop-k-init c =
+    let e =
     begins_count c.outer.invariant c.quote_of-quote.ensures c.hash_count_of-hash_count.ensures
-    (sym c.byte_at.ensures ∙ c.if-byte_at-quote.true)
+    (sym c.byte_at.ensures ∙ c.if-byte_at-quote.true) in
+    search (rules, e)
 
 pub overflow_add-i : goal.overflow_add-i
 overflow_add-i c = omega (arith, c.loop-k.invariant.counted.inside)

@@ -1,6 +1,5 @@
 -- `strings::consume_string_literal` meets its contract. The loop's invariant is `Going`, and each arm cites its law of `Loops`.
 -- Assumes nothing.
-use Prim.Native.Nat.{◌-◌}
 use mathlib.Core.Path.{sym, ap, ◌∙◌}
 use Rattle.property.specs.Table.{properties_at}
 use Rattle.text.specs.FollowLaws.{ends}

@@ -1,8 +1,8 @@
--- `fast_step::fast_half` meets its contract: a token that is found is the one that the step takes; where none is, it is the long half. Assumes nothing.
+-- `fast_step::fast_half_near` meets its contract: a token that is found is the one that the step takes; where none is, it is the long half. Assumes nothing.
 use borrow.Author.Tests.{ne_eqb}
 use mathlib.Core.Path.{sym, ◌∙◌}
 use Rattle.token.specs.Kind.{error}
-use Rattle.fast_step.proofs.fast_half.Goals as goal
+use Rattle.fast_step.proofs.fast_half_near.Goals as goal
 
 pub found_half-requires : goal.found_half-requires
 found_half-requires c = ne_eqb c.find_short-short.result.kind error c.if-short_kind-ne-ERROR.true

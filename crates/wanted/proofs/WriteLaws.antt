@@ -52,7 +52,7 @@ use Rattle.wanted.specs.Candidate.{Wanted, wanted_by, wanted_for, letter_part, p
 use Rattle.wanted.specs.Candidate.{is_given, is_shown, has_tail, is_taken, chars_fit, fill_fits, writable, can_write}
 use Rattle.wanted.specs.TailLaws.{and_no, turn, arm_start, arm_alignment}
 use Rattle.wanted.specs.SmallLaws.{parse_small}
-use Rattle.wanted.specs.StartLaws.{wanted_of, ReadsAs, one_low, tail_low, letter_low, own_chars, Sign, sign_is, least}
+use Rattle.wanted.proofs.StartLaws.{wanted_of, ReadsAs, one_low, tail_low, letter_low, own_chars, Sign, sign_is, least}
 use Rattle.wanted.specs.BackLaws.{options_of, stop_dot, digit_sign, start_widths, width_widths, tail_reads}
 
 -- ---- characters of one byte are scalar values
