@@ -1,8 +1,8 @@
 -- Worked examples of breaks, counts and clusters, each computed. `props` stands for a table: a character is its own properties.
 -- Assumes nothing.
-use Prim.Native.Nat.{ℕ, ◌+◌}
+use Prim.Native.Nat.{ℕ}
 use mathlib.Core.Path.{◌≡◌, refl}
-use mathlib.Core.List.{List, [], ◌∷◌}
+use mathlib.Core.List.{[], ◌∷◌}
 use lib.ListN.{drop}
 use Rattle.uax29.specs.Uax29.{is_control, gb3, gb6, gb7, gb8, gb9, pair_rule, ends_pict, ends_pict_zwj, ends_odd, ends_consonant, ends_linked, gb9c, gb11, gb12}
 use Rattle.cluster_count.specs.Count.{breaks_from, breaks, cluster_count, cut_at, clusters_of}

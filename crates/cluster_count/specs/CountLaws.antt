@@ -18,7 +18,7 @@ use borrow.Author.Tests.{lt-ltb, le-ltb}
 use Rattle.base.specs.Pick.{pick}
 use Rattle.base.specs.PickLaws.{by_test, split_lt}
 use Rattle.uax29.specs.Uax29.{joined}
-use Rattle.cluster.specs.First.{before, break_after, Shortest, first_size}
+use Rattle.cluster.specs.First.{before, break_after, first_size}
 use Rattle.cluster.specs.FirstLaws.{first_is_shortest}
 use Rattle.cluster_count.specs.Count.{breaks_from, breaks, cluster_count, begun_in}
 

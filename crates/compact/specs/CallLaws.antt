@@ -12,7 +12,7 @@ use Rattle.pool_rows.specs.Rows.{string_at, byte_room, entry_room}
 use Rattle.pool_rows.specs.FitLaws as pool
 use Rattle.pool_rows.specs.declared.Counts.{Counts}
 use Rattle.desks.specs.Desks.{Shared, shared, owner_of, held_by, fit_desks}
-use Rattle.desks.specs.FitLaws.{Fit, fit_of}
+use Rattle.desks.specs.FitLaws.{Fit}
 use Rattle.desks.specs.SpentLaws.{spent, all_spent}
 use Rattle.desks.specs.declared.Desks.{Desks}
 use Rattle.desks.specs.declared.Which.TheVariants.{First, Second}

@@ -23,7 +23,7 @@ use Rattle.pool_rows.specs.declared.Counts.{Counts}
 use Rattle.desks.specs.Desks.{owner_of, held_by, desk_of, beyond, common_room, Shared}
 use Rattle.desks.specs.RoomLaws.{Out, out_of, out_by, swap, frees}
 use Rattle.desk_add.specs.Add.{free_entries, free_bytes}
-use Rattle.desks.specs.FitLaws.{Fit, fit_of, fit_by_lem}
+use Rattle.desks.specs.FitLaws.{Fit}
 use Rattle.desks.specs.declared.Which.{Which}
 use Rattle.desks.specs.declared.Which.TheVariants.{First, Second}
 use Rattle.compact.specs.Compact.{compacted}

@@ -9,7 +9,7 @@
 --     settled                 a return of `add_string`, from its answer
 --     one_answer              no second answer, and no second rows and desks, fit `AddsFor`
 -- Assumes nothing.
-use Rattle.std.specs.Prelude.{ℕ, ◌+◌, ◌*◌, ◌-◌, ◌/◌, ◌<◌, ◌≤◌, ◌≡◌, refl, true, false, List, ◌++◌, length, take, drop}
+use Rattle.std.specs.Prelude.{ℕ, ◌+◌, ◌*◌, ◌/◌, ◌<◌, ◌≤◌, ◌≡◌, refl, true, false, List, ◌++◌, length, take, drop}
 use Rattle.std.proofs.Common.{arith, sym, ap, subst, ◌∙◌, eqb-true, eq-eqb}
 use Rattle.base.specs.PickLaws.{by_lt}
 use Rattle.utf8.specs.Chars.{check_from}

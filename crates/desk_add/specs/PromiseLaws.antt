@@ -9,7 +9,7 @@
 --     within_guarantee    a desk that stays within its guarantee is not refused with 13
 --     alone               where the other desk is guaranteed nothing, the pool alone answers so
 -- Assumes nothing.
-use Rattle.std.specs.Prelude.{ℕ, ◌+◌, ◌*◌, ◌-◌, ◌<◌, ◌≤◌, refl, true, false, List, [], eqb, length, get_or, set}
+use Rattle.std.specs.Prelude.{ℕ, ◌+◌, ◌*◌, ◌<◌, ◌≤◌, refl, true, false, List, [], eqb, length, get_or, set}
 use Rattle.std.proofs.Common.{arith, add-one, sym, ap, subst, ◌∙◌, length-set, length-append, length-drop, get_or-set_same, get_or-set_other, length-take-le, eq-eqb, ne_eqb}
 use Rattle.std.proofs.Math.Path.{◌≡◌}
 use Rattle.base.specs.Pick.{pick}

@@ -10,7 +10,7 @@
 --     fills_within     no more fills than the greatest width
 --     one_behind       one fill more behind the others
 -- Assumes nothing.
-use Rattle.std.specs.Prelude.{ℕ, zero, suc, ◌+◌, ◌-◌, ◌*◌, ◌/◌, ◌<◌, ◌≤◌, ◌≡◌, refl, List, [], ◌∷◌, ◌++◌, true, ltb, eqb, length}
+use Rattle.std.specs.Prelude.{ℕ, zero, suc, ◌+◌, ◌-◌, ◌*◌, ◌≤◌, ◌≡◌, refl, List, ◌++◌, true, ltb, length}
 use Rattle.std.proofs.Common.{arith, zero-mul, suc-mul, add-mul, sym, ap, ◌∙◌, append_assoc, append-nil, length-append, ne_eqb, leb-true}
 use Rattle.base.specs.Pick.{pick}
 use Rattle.base.specs.PickLaws.{by_lt, by_eq}

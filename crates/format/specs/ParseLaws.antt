@@ -16,7 +16,7 @@ use Rattle.utf8.specs.EncodeLaws.{all_append}
 use Rattle.utf8.specs.Chars.{chars}
 use Rattle.utf8.specs.CharsLaws.{chars_well}
 use Rattle.cluster.specs.First.{first_size, first_end}
-use Rattle.format_options.specs.Options.{no_options, with_width, with_precision}
+use Rattle.format_options.specs.Options.{no_options, with_precision}
 use Rattle.format_options.specs.Letters.{zero_digit}
 use Rattle.format_options.specs.declared.Part.{Part}
 use Rattle.format_options.specs.declared.Fill.{Fill}

@@ -2,9 +2,9 @@
 // in C, an array a pointer.
 #![tactic(auto)]
 
-mod desks;
 mod lists;
+mod one_pool;
 mod padding;
-mod pool;
-mod text;
+mod texts;
+mod two_desks;
 mod walks;

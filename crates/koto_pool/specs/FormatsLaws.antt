@@ -1,6 +1,6 @@
 -- How the contract of `koto_parse` comes of the inner call's and of what is told of its answer.
 -- Assumes nothing.
-use Rattle.std.specs.Prelude.{ℕ, ◌≡◌, List}
+use Rattle.std.specs.Prelude.{ℕ, List}
 use Rattle.std.proofs.Common.{subst}
 use Rattle.pool_rows.specs.declared.Counts.{Counts}
 use Rattle.parse.specs.declared.Parsed.{Parsed}

@@ -1,6 +1,6 @@
 -- How the contract of `koto_add_string` comes of the inner call's and of what is told of its answer.
 -- Assumes nothing.
-use Rattle.std.specs.Prelude.{ℕ, ◌≡◌, List}
+use Rattle.std.specs.Prelude.{ℕ, List}
 use Rattle.std.proofs.Common.{ap, subst, ◌∙◌}
 use Rattle.pool.specs.Pool.{counts_after}
 use Rattle.pool_rows.specs.declared.Counts.{Counts}

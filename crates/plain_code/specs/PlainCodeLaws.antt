@@ -7,7 +7,6 @@ use Rattle.std.specs.Prelude.{ℕ, ◌+◌, ◌-◌, ◌<◌, ◌≡◌, true, f
 use Rattle.std.proofs.Common.{arith, sym, ap, ◌∙◌, ne_eqb, lt-ltb}
 use Rattle.std.proofs.Math.Path.{refl}
 use Rattle.std.proofs.lemmas.Bool.{false≢true}
-use Rattle.base.specs.Pick.{pick}
 use Rattle.base.specs.PickLaws.{by_test}
 use Rattle.base.specs.Range.{inside}
 use Rattle.utf8.specs.Chars.{chars}

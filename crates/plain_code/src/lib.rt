@@ -65,6 +65,7 @@ fn colon(source: &[u8], lexer: Lexer) -> Plain
 }
 
 // "}", but not in a template, which it closes, nor in a map there.
+#[tactic(auto, using(plain::specs::PlainLaws::plain_none))]
 fn curly_close(source: &[u8], lexer: Lexer) -> Plain
     requires { Stands source.now (reach_of lexer) × (byte_at source.now (reach_of lexer).byte.0 ≡ 125) }
     ensures { FindsPlain Keep (consume_symbol (chars_from source.now (reach_of lexer)) lexer) lexer result }

@@ -3,7 +3,7 @@
 --     found_plain     by its parts it is found too
 --     found_blank     at a space it is whitespace
 -- Assumes nothing.
-use Rattle.std.specs.Prelude.{ℕ, ◌≤◌, ◌<◌, ◌≡◌, refl, false, List, eqb, length, get_or}
+use Rattle.std.specs.Prelude.{ℕ, ◌≤◌, ◌<◌, ◌≡◌, false, List, eqb, length, get_or}
 use Rattle.std.proofs.Common.{arith, sym, ap, subst, ◌∙◌}
 use Rattle.base.specs.Range.{inside}
 use Rattle.base.specs.Refusal.{source_most}

@@ -66,6 +66,7 @@ fn found_by_mode(
 }
 
 // The same, if its first byte is ASCII.
+#[tactic(auto, using(fast_step::specs::FastStepLaws::step_none))]
 fn find_plain(
     source: &[u8],
     table: &[u32],

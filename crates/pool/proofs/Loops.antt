@@ -1,7 +1,7 @@
 -- What the loop of `copy_in` keeps, over lists and numbers: how it starts, goes on and ends.
 --     Copied: copy_none, copy_one, copy_all    the first i bytes stand in the row, and it is as long as it was
 -- Assumes nothing.
-use Prim.Native.Nat.{ℕ, ◌+◌, ◌-◌, ◌<◌, ◌≤◌}
+use Prim.Native.Nat.{ℕ, ◌+◌, ◌<◌, ◌≤◌}
 use native.Mathlib.Omega.{arith}
 use native.Mathlib.Numerals.{add-one}
 use mathlib.Core.Path.{◌≡◌, refl, ◌∙◌}

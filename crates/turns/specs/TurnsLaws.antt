@@ -6,12 +6,10 @@
 --     ran_none, ran_turn, ran_ran    no turn, one turn more, and as many more
 --     turns_none, turns_one, turns_after    a step that makes no turn, one that makes one, and one after a run
 -- Assumes nothing.
-use Rattle.std.specs.Prelude.{ℕ, ◌+◌, ◌≤◌, ◌<◌, ◌≡◌, refl, true, false, List, eqb, length, get_or, drop}
-use Rattle.std.proofs.Common.{arith, sym, ap, subst, ◌∙◌, lt-ltb}
-use Rattle.base.specs.CasesLaws.{pick_no, and_no}
+use Rattle.std.specs.Prelude.{ℕ, ◌+◌, ◌≤◌, ◌<◌, ◌≡◌, refl, true, false, List, eqb, length, get_or}
+use Rattle.std.proofs.Common.{arith, sym, ap, subst, ◌∙◌}
 use Rattle.base.specs.RangeLaws.{under}
 use Rattle.base.specs.Refusal.{source_most}
-use Rattle.utf8.specs.Encode.{WellFormed}
 use Rattle.utf8.specs.Read.{is_tail}
 use Rattle.property.specs.Table.{properties_at}
 use Rattle.fitness.specs.Fit.{FitTable}
@@ -37,10 +35,10 @@ use Rattle.lexer.specs.ArmLaws.{half_some}
 use Rattle.lexer.specs.Fine.{Fine}
 use Rattle.lexer.specs.declared.Half.{Half}
 use Rattle.lexer.specs.declared.What.TheVariants as what
-use Rattle.stepping.specs.Invariant.{Ok, measure}
+use Rattle.stepping.specs.Invariant.{Ok}
 use Rattle.reading.specs.Reading.{row_of}
 use Rattle.reading.specs.HeadLaws.{Head, found_by, changes_is, made, low, bounds, packs, falls, head_again}
-use Rattle.reading.specs.GoingLaws.{Going, again}
+use Rattle.reading.specs.GoingLaws.{again}
 use Rattle.turns.specs.Turns.{Takes, after_of, Ready, Writable, Written, Turned, Ran, TurnsIs}
 use Rattle.turns.specs.declared.Turns.{Turns}
 

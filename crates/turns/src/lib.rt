@@ -97,6 +97,7 @@ pub fn line_feed(layout: Layout, list: &mut [u32], count: usize, lexer: Lexer) -
 }
 
 // A token of one byte that pushes a mode, if there is room for the mode.
+#[tactic(auto, using(crate::specs::TurnsLaws::turns_none))]
 pub fn opened(
     layout: Layout,
     source: &[u8],

@@ -29,7 +29,7 @@ use Rattle.cluster.specs.FirstLaws.{first_within}
 use Rattle.format_options.specs.Options.{no_options, with_alignment, with_fill}
 use Rattle.format_options.specs.Letters.{no_char, less, caret, greater, zero_digit, is_sign, is_digit, char_to_alignment, representation_of}
 use Rattle.format_number.specs.Number.{peeked}
-use Rattle.format_arms.specs.Arms.{start, alignment, precision, dot, on_shown, arm_of}
+use Rattle.format_arms.specs.Arms.{start, alignment, dot, on_shown, arm_of}
 use Rattle.format.specs.Parse.{len_utf8, OnePass, parse, append, string_of}
 use Rattle.format_options.specs.declared.Alignment.{Alignment}
 use Rattle.format_options.specs.declared.Alignment.TheVariants as align

@@ -4,7 +4,7 @@
 --     PrecisionEnd, precision_end           from Precision
 --     WidthEnd, width_end                   from MinWidth, where zeros in front make a fill
 -- Assumes nothing.
-use Prim.Native.Nat.{ℕ, zero, suc, ◌+◌, ◌-◌, ◌<◌}
+use Prim.Native.Nat.{ℕ, zero, suc, ◌+◌, ◌<◌}
 use Rattle.std.proofs.Common.{arith, add-zero, ◌∙◌, take-append-drop, drop-drop, eqb-true, ltb-true}
 use Rattle.std.specs.Prelude.{◌≡◌, true, false, ◌&&◌, eqb, ltb, length, take}
 use Rattle.std.proofs.Math.Path.{refl, sym, ap, subst}

@@ -1,7 +1,6 @@
 -- `cluster_count::count_clusters` meets its contract. The loop's invariant: the state is that of the characters passed, and the count with what
 -- begins from here on is the answer. Assumes nothing.
 use native.Mathlib.Omega.{arith}
-use Prim.Native.Nat.{◌-◌}
 use Rattle.base.specs.PickLaws.{split_lt}
 use Rattle.cluster_count.proofs.Counting.{first, nothing, at_end, counts, one_more_lem}
 use Rattle.cluster_count.proofs.count_clusters.Goals as goal

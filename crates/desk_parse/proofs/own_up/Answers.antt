@@ -1,5 +1,4 @@
 -- `desk_parse::own_up` meets its contract: `Owning` is what the loop keeps. Assumes nothing.
-use Prim.Native.Nat.{◌-◌}
 use native.Mathlib.Omega.{arith}
 use Rattle.desk_parse.specs.OwnLaws.{own_none, own_one, own_all_lem}
 use Rattle.desk_parse.proofs.own_up.Goals as goal

@@ -1,5 +1,4 @@
 -- `desks::held_by` meets its contract. Assumes nothing.
-use Prim.Native.Nat.{◌-◌}
 use native.Mathlib.Omega.{arith}
 use mathlib.Core.Path.{◌≡◌, refl}
 use Rattle.desks.specs.Desks.{held_by}

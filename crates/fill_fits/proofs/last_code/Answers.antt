@@ -1,5 +1,5 @@
 -- `fill_fits::last_code` meets its contract: `Last` is what the loop keeps, and how many bytes are left its measure. Assumes nothing.
-use Prim.Native.Nat.{◌+◌, ◌-◌, ◌<◌}
+use Prim.Native.Nat.{◌+◌, ◌<◌}
 use native.Mathlib.Omega.{arith}
 use mathlib.Core.Path.{sym, subst, ◌∙◌}
 use Rattle.utf8.specs.CharsLaws.{Stops}

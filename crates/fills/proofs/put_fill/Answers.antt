@@ -1,5 +1,4 @@
 -- `fills::put_fill` meets its contract: `Filled` is what the loop keeps, and how many fills are left is its measure. Assumes nothing.
-use Prim.Native.Nat.{◌-◌}
 use native.Mathlib.Omega.{arith}
 use Rattle.fills.proofs.Filling.{fill_none, fill_room, fill_one, fill_all}
 use Rattle.fills.proofs.put_fill.Goals as goal

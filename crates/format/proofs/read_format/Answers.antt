@@ -1,7 +1,7 @@
 -- `format::read_format` meets its contract. The loop's invariant is `Going`: nothing has failed, and the reading from here on is the whole
 -- reading. Assumes nothing.
 use native.Mathlib.Omega.{arith}
-use Prim.Native.Nat.{ℕ, ◌-◌}
+use Prim.Native.Nat.{ℕ}
 use mathlib.Core.Path.{◌≡◌, sym, subst, ◌∙◌}
 use mathlib.Core.Bool.{Bool, true, false}
 use mathlib.Core.List.{List}

@@ -1,7 +1,6 @@
 -- `format_number::digits_from` meets its contract. The loop's invariant is `Digits`: what the digits from here on come to is what they came to from
 -- the start. Assumes nothing.
 use native.Mathlib.Omega.{arith}
-use Prim.Native.Nat.{◌-◌}
 use mathlib.Core.Path.{◌≡◌, sym, ◌∙◌}
 use mathlib.Core.Bool.{true}
 use Rattle.format_options.specs.Letters.{is_digit}

@@ -1,5 +1,4 @@
 -- `marks::are_given` meets its contract: what is left from i on is given exactly where all are. Assumes nothing.
-use Prim.Native.Nat.{◌-◌}
 use mathlib.Core.Path.{refl, sym, ◌∙◌}
 use native.Mathlib.Omega.{arith}
 use Rattle.marks.specs.MarksLaws.{given_none, given_bad, given_on}

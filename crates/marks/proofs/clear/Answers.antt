@@ -1,5 +1,4 @@
 -- `marks::clear` meets its contract: the first i words say gone. Assumes nothing.
-use Prim.Native.Nat.{◌-◌}
 use mathlib.Core.Path.{◌≡◌, refl}
 use native.Mathlib.Omega.{arith}
 use lib.ListN.{length-set}

@@ -1,5 +1,4 @@
 -- `marks::mark` meets its contract: what the marks from i on do to the row is what all of them do to the row as it was. Assumes nothing.
-use Prim.Native.Nat.{◌-◌}
 use mathlib.Core.Path.{refl, sym, ◌∙◌}
 use native.Mathlib.Omega.{arith}
 use lib.ListN.{length-set}

@@ -7,7 +7,6 @@ use Rattle.words.specs.Words.{starts_with}
 use Rattle.symbols.specs.SymbolsLaws.{curly_close_is}
 use Rattle.state.specs.declared.Change.TheVariants.{Keep}
 use Rattle.symbol_tokens.specs.ConsumeSymbol.{symbol_change}
-use Rattle.plain.specs.PlainLaws.{plain_none}
 use Rattle.plain_code.specs.PlainCodeLaws.{finds_byte}
 use Rattle.plain_code.proofs.curly_close.Goals as goal
 
@@ -15,10 +14,7 @@ closes_none : {mode : ℕ} → mode ≡ 0 → symbol_change mode curly_close ≡
 unfolding symbol_change
 closes_none e = rw e
 
-pub returns-then-lexer-ne0 : goal.returns-then-lexer-ne0
-returns-then-lexer-ne0 c = plain_none c.none.ensures
-
 pub returns : goal.returns
 unfolding starts_with
 returns c =
-    finds_byte _ c.args.lexer c.requires.0 125 curly_close c.requires.1 (omega arith) (curly_close_is.is _ refl) (closes_none c.if-lexer-ne0.false) refl
+    finds_byte _ c.args.lexer c.requires.0 125 curly_close c.requires.1 (omega arith) (curly_close_is.is _ refl) (closes_none (omega arith)) refl

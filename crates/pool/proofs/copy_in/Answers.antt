@@ -1,5 +1,4 @@
 -- `pool::copy_in` meets its contract: `Copied` is what the loop keeps, and what is left of the string is its measure. Assumes nothing.
-use Prim.Native.Nat.{◌-◌}
 use native.Mathlib.Omega.{arith}
 use Rattle.pool.proofs.Loops.{copy_none, copy_one, copy_all}
 use Rattle.pool.proofs.copy_in.Goals as goal

@@ -1,6 +1,5 @@
 -- `pool_lent::add_to_fit_row` meets its contract; `Adds.antt` has what the calls come to. Assumes nothing.
-use Rattle.std.proofs.Common.{◌≡◌, true, false, ◌<◌, ◌^◌, length, sym, ◌∙◌, arith}
-use Rattle.pool.specs.Pool.{is_new}
+use Rattle.std.proofs.Common.{◌≡◌, true, ◌<◌, ◌^◌, length, sym, ◌∙◌, arith}
 use Rattle.pool_lent.proofs.Adds.{in_bytes, in_row, is_free, fit_old, fit_new}
 use Rattle.pool_lent.proofs.add_to_fit_row.Goals as goal
 use Rattle.pool_lent.proofs.add_to_fit_row.Goals.{After-is_new}

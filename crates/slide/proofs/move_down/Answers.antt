@@ -1,5 +1,4 @@
 -- `slide::move_down` meets its contract: `Moving` is what the loop keeps. What is read lies behind what was written. Assumes nothing.
-use Prim.Native.Nat.{◌-◌}
 use native.Mathlib.Omega.{arith}
 use Rattle.slide.proofs.Moving.{move_none, moved_long, move_one, move_all}
 use Rattle.slide.proofs.move_down.Goals as goal

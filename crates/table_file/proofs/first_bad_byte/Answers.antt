@@ -1,6 +1,5 @@
 -- `property::first_bad_byte` meets its contract. The loop's invariant: the first bad byte from i on is the first bad byte, and the local
 -- has the mark; the measure is what is left of the mark. Assumes nothing.
-use Prim.Native.Nat.{◌-◌}
 use mathlib.Core.Path.{refl}
 use Rattle.table_file.specs.File.{mark}
 use Rattle.fitness.specs.FirstLaws.{start, next, here, done}
