@@ -1,6 +1,6 @@
 -- C-14, of whole sources: look-ups that agree on the code points of a source give the same reading.
 --     inside_tail, own_chars    the bytes of a character behind its first; the characters of what was encoded
---     remaining_agrees          what is left at any place has no other code points
+--     left_agrees, remaining_agrees    what is left at any place has no other code points
 --     read_agrees               reading on from a state
 --     reading_agrees            the reading
 -- Assumes nothing.
@@ -86,10 +86,14 @@ module _ (f g : ℕ → ℕ) where
       subst (λ (j : ℕ). Agree f g (left j)) e
       (subst (Agree f g) (sym (remaining_past (encode c) (encode_all cs) (i - n))) (points_agree cs v.1 a.1 (i - n))))
 
-  pub remaining_agrees : (s : List ℕ) → WellFormed s → Agree f g (chars s) → (i : ℕ) → Agree f g (remaining_at s i)
-  remaining_agrees s w a i =
+  -- what is left, where the characters are these
+  pub left_agrees : (s cs : List ℕ) → chars s ≡ cs → WellFormed s → Agree f g cs → (i : ℕ) → Agree f g (remaining_at s i)
+  left_agrees s cs e w a i =
       let v = chars_well s w in
-      subst (λ (t : List ℕ). Agree f g (remaining_at t i)) (sym v.0) (points_agree (chars s) v.1 a i)
+      subst (λ (t : List ℕ). Agree f g (remaining_at t i)) (sym v.0) (points_agree (chars s) v.1 (subst (Agree f g) (sym e) a) i)
+
+  pub remaining_agrees : (s : List ℕ) → WellFormed s → Agree f g (chars s) → (i : ℕ) → Agree f g (remaining_at s i)
+  remaining_agrees s w a = left_agrees s (chars s) refl w (search a)
 
   -- ---- the reading
 
@@ -106,4 +110,4 @@ module _ (f g : ℕ → ℕ) where
     read_agrees st = in_agrees (suc (measure s st)) st
 
   pub reading_agrees : (edition : ℕ) (s : List ℕ) → WellFormed s → Agree f g (chars s) → reading f edition s ≡ reading g edition s
-  reading_agrees edition s w a = read_agrees edition s (remaining_agrees s w a) start_state
+  reading_agrees edition s w a = read_agrees edition s (left_agrees s (chars s) refl w a) start_state

@@ -28,7 +28,7 @@ use Rattle.reading.specs.Reading.{Reading, read_from}
 use Rattle.reading.specs.Scan.{marked_rows, by_room, reading_of, scanned, written_by, written, written_marked, writes_in, ScansIn}
 use Rattle.reading.specs.declared.Scanned.{Scanned}
 use Rattle.reading.specs.declared.Scanned.TheVariants.{Refused}
-use Rattle.agree.specs.ReadingLaws.{remaining_agrees, read_agrees}
+use Rattle.agree.specs.ReadingLaws.{left_agrees, read_agrees}
 
 -- of a table the refusals ask only whether it is fit
 pub inputs_agree : (most : ℕ) (bytes t u : List ℕ) (edition : ℕ) → table_check t ≡ Fit → table_check u ≡ Fit
@@ -46,7 +46,7 @@ module _ (source t u : List ℕ) (edition : ℕ) (fit : table_check t ≡ Fit) (
       → read_from (properties_at t) edition source st ≡ read_from (properties_at u) edition source st
   rests e st =
       let well = (fine_of source_most source t edition e).well in
-      read_agrees (properties_at t) (properties_at u) edition source (remaining_agrees (properties_at t) (properties_at u) source well agree) st
+      read_agrees (properties_at t) (properties_at u) edition source (left_agrees (properties_at t) (properties_at u) source (chars source) refl well agree) st
 
   pub on_rest_agrees : {A : Type 0} (f : Refusal → A) (st : State) (g : Reading → A)
       → on_input f (input_check source_most source t edition) (g (read_from (properties_at t) edition source st))

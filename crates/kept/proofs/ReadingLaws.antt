@@ -140,12 +140,12 @@ module _ (table : List ℕ) (fit : FitTable table) (edition : ℕ) (a x y : List
   shares (one ∷ []) rest st ok also h k e =
       ⊎_elim
       (λ b. subst (λ (r : Row). Common st (r ∷ [])) (sym b.row)
-      (last_one st ok also b.token b.found (same_step st ok also h one rest b (inr k)) (sym (ap (λ (r : Row). r.kind) b.row) ∙ k)))
+      (last_one st ok also b.token b.found (same_step st ok also h one rest b (inr (search k))) (sym (ap (λ (r : Row). r.kind) b.row) ∙ k)))
       (λ b. absurd (omega (arith, b.0)))
       (begins st one rest ok e)
   shares (one ∷ next ∷ rows) rest st ok also h k e =
       ⊎_elim
-      (λ b. let same = same_step st ok also h one (next ∷ (rows ++ rest)) b (inl k.0) in
+      (λ b. let same = same_step st ok also h one (next ∷ (rows ++ rest)) b (inl (omega (arith, k.0))) in
       let end : one.end ≡ (reach_of (step look edition S st).state.lexer).byte.0 = ap (λ (r : Row). r.end) b.row in
       subst (λ (r : Row). Common st (r ∷ next ∷ rows)) (sym b.row)
       (one_more_lem st ok also b.token b.found same

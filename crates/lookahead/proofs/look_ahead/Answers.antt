@@ -1,4 +1,5 @@
 -- `lookahead::look_ahead` meets its contract: the code takes the tests of `look_ahead_of` in its order. Assumes nothing.
+use Rattle.std.proofs.Common.{rules}
 use mathlib.Core.Path.{◌≡◌, sym, ◌∙◌}
 use mathlib.Core.Bool.{true}
 use borrow.Author.Tests.{ltb-false}
@@ -33,4 +34,4 @@ see-requires c = (fits_of _ _ (fit (goal.at.see-requires c).Else-not-is_fit)).co
 pub returns : goal.returns
 returns c =
     look_is _ _ _ _ (fit (goal.at.returns c).Else-not-is_fit) (sym c.overfills.ensures ∙ c.if-overfills.false) c.queued_for-after.ensures
-    c.see.ensures c.show.ensures
+    c.see.ensures (search rules)

@@ -1,4 +1,5 @@
 -- `lookahead::peek` meets its contract: the code takes the tests of `peek_of` in its order. Assumes nothing.
+use Rattle.std.proofs.Common.{rules}
 use Prim.Native.Nat.{ℕ}
 use native.Mathlib.Omega.{arith}
 use mathlib.Core.Path.{◌≡◌, sym, ap, ◌∙◌}
@@ -26,7 +27,12 @@ pub overflow_add-cursor : goal.overflow_add-cursor
 overflow_add-cursor c = omega (arith, (fits_of _ _ (fit (goal.at.overflow_add-cursor c).Else-not-is_fit)).queued)
 
 pub returns-then-cursor-n : goal.returns-then-cursor-n
-returns-then-cursor-n c = peek_far _ _ _ _ (fit (goal.at.returns-then-cursor-n c).Else-not-is_fit) c.if-cursor-n.true
+returns-then-cursor-n c =
+    let a = c.args in
+    let e =
+    peek_far (room_in a.layout a.list.now) (shown_in a.layout a.list.now a.cursor.count) a.cursor a.n
+    (fit (goal.at.returns-then-cursor-n c).Else-not-is_fit) c.if-cursor-n.true in
+    search (rules, e)
 
 pub returns-then-is_full : goal.returns-then-is_full
 returns-then-is_full c =

@@ -1,5 +1,6 @@
 -- `scan::scan_in` meets its contract: a refusal of `check_input` is the answer, and where there is none it reads on from the start.
 -- Assumes nothing.
+use Rattle.std.proofs.Common.{rules}
 use mathlib.Core.Path.{sym, subst, ◌∙◌}
 use native.Mathlib.Omega.{arith}
 use Rattle.fitness.specs.FitLaws.{fit_of}
@@ -22,4 +23,4 @@ returns-in-Refused c = scans_refused (sym c.check_input.ensures ∙ c.in-Refused
 
 pub returns-in-Fine : goal.returns-in-Fine
 returns-in-Fine c =
-    scans_fine (sym c.check_input.ensures ∙ c.in-Fine.is) c.new.ensures c.read_on.ensures
+    scans_fine (sym c.check_input.ensures ∙ c.in-Fine.is) c.new.ensures (search rules)

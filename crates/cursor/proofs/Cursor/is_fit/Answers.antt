@@ -1,4 +1,5 @@
 -- `Cursor::is_fit` meets its contract: the code takes the tests of `is_fit` in its order. Assumes nothing.
+use Rattle.std.proofs.Common.{rules}
 use mathlib.Core.Path.{◌≡◌, sym}
 use Rattle.base.specs.CasesLaws.{cases}
 use Rattle.cursor.specs.Cursor.{fit_by, is_fit}
@@ -32,4 +33,5 @@ returns-in-End c =
 
 pub returns-in-Stuck : goal.returns-in-Stuck
 returns-in-Stuck c =
-    last_test (goal.at.returns-in-Stuck c).Else-self-gt-QUEUE_MOST Stuck c.in-Stuck.is
+    let e = last_test (goal.at.returns-in-Stuck c).Else-self-gt-QUEUE_MOST Stuck c.in-Stuck.is in
+    search (rules, e)

@@ -16,5 +16,4 @@ returns-else-n-left c =
     there_left c.args.self c.args.n c.in-End.is c.if-n-left.false
 
 pub returns-in-Stuck : goal.returns-in-Stuck
-returns-in-Stuck c =
-    there_stuck c.args.self c.args.n c.in-Stuck.is
+returns-in-Stuck c = omega (arith, there_stuck c.args.self c.args.n c.in-Stuck.is)
