@@ -1,8 +1,7 @@
 // The two public calls for C that change a pool (include/koto_lexer.h); the crate `koto_lexer` has the others.
 //
 // As there, each takes every input, calls the inner function of its name, and hands its answer out as numbers. The pool is a row of bytes, a
-// row of entries and the counts of what is in use, all lent by the caller. The borrow checker does not cover a reference to such a record, so
-// the two are walked by hand: each only calls the inner function, and then `tell`.
+// row of entries and the counts of what is in use, all lent by the caller. Each of the two only calls the inner function, and then `tell`.
 #![tactic(auto)]
 
 mod formats;

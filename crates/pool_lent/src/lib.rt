@@ -1,6 +1,6 @@
 // The pool's long forms: `pool` with a record for each entry in place of two numbers, and with the counts lent. The answers, the bytes and
 // the numbers of the entries are those of the flat pool (constant_pool.rs, `add_string`). What is decided is decided on bytes and numbers;
-// the functions over `&[Entry]`, `&mut [Entry]` and `&mut Counts`, which are proved by hand, only read, call and store.
+// the functions over `&[Entry]`, `&mut [Entry]` and `&mut Counts` only read, call and store.
 #![tactic(auto)]
 
 ghost use Rattle.std.specs.Prelude.{◌≡◌, true, ◌≤◌, ◌<◌, length, set, take, drop};
