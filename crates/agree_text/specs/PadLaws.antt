@@ -41,27 +41,33 @@ module _ (f g : ℕ → ℕ) (edition : ℕ) where
 
 -- ---- padding
 
+module _ (f g : ℕ → ℕ) (alignment width : ℕ) (fill : List ℕ) (edition : ℕ) where
+  fill_agrees : Agree f g (chars fill) → fill_check f edition alignment width fill ≡ fill_check g edition alignment width fill
+  unfolding fill_check
+  fill_agrees a =
+      λ i. on_input FillRefused (on_utf8 (check_from 0 fill))
+      (pick (eqb (count_agrees f g edition (chars fill) a i) 1) (format_check alignment width) NoSuchFormat)
+
+  given_agrees : (b : Bool) → (b ≡ true → Agree f g (chars fill)) → pick b (fill_check f edition alignment width fill) (format_check alignment width)
+      ≡ pick b (fill_check g edition alignment width fill) (format_check alignment width)
+  given_agrees true a = fill_agrees (a refl)
+  given_agrees false a = refl
+
+-- the checks, of a fill that the tables agree on if it is given
+checks_agree : (text : List ℕ) (alignment width : ℕ) (given : Bool) (fill t u : List ℕ) (edition : ℕ) → table_check t ≡ Fit → table_check u ≡ Fit
+    → (given ≡ true → Agree (properties_at t) (properties_at u) (chars fill))
+    → pad_check text alignment width given fill t edition ≡ pad_check text alignment width given fill u edition
+unfolding pad_check
+checks_agree text alignment width given fill t u edition fit also a =
+    λ i. pick (long_fill given fill) (Refused TooLong)
+    (on_input Refused (inputs_agree text_most text t u edition fit also i)
+    (given_agrees (properties_at t) (properties_at u) alignment width fill edition given a i))
+
 module _ (text : List ℕ) (alignment width : ℕ) (given : Bool) (fill t u : List ℕ) (edition : ℕ) (fit : table_check t ≡ Fit)
     (also : table_check u ≡ Fit) (agree : Agree (properties_at t) (properties_at u) (chars text))
     (of-fill : given ≡ true → Agree (properties_at t) (properties_at u) (chars fill)) where
-  fill_agrees : given ≡ true
-      → fill_check (properties_at t) edition alignment width fill ≡ fill_check (properties_at u) edition alignment width fill
-  unfolding fill_check
-  fill_agrees e =
-      λ i. on_input FillRefused (on_utf8 (check_from 0 fill))
-      (pick (eqb (count_agrees (properties_at t) (properties_at u) edition (chars fill) (of-fill e) i) 1) (format_check alignment width)
-      NoSuchFormat)
-
-  given_agrees : (b : Bool) → given ≡ b → pick b (fill_check (properties_at t) edition alignment width fill) (format_check alignment width)
-      ≡ pick b (fill_check (properties_at u) edition alignment width fill) (format_check alignment width)
-  given_agrees true e = fill_agrees e
-  given_agrees false e = refl
-
   pub check_agrees : pad_check text alignment width given fill t edition ≡ pad_check text alignment width given fill u edition
-  unfolding pad_check
-  check_agrees =
-      λ i. pick (long_fill given fill) (Refused TooLong)
-      (on_input Refused (inputs_agree text_most text t u edition fit also i) (given_agrees given refl i))
+  check_agrees = checks_agree text alignment width given fill t u edition fit also of-fill
 
   text_agrees : padded_text text alignment width given fill t edition ≡ padded_text text alignment width given fill u edition
   text_agrees =
@@ -71,5 +77,5 @@ module _ (text : List ℕ) (alignment width : ℕ) (given : Bool) (fill t u : Li
       → Pads text alignment width given fill u edition old new r
   pads_agree {old} {new} p =
       let same : pad_answer text alignment width given fill t edition (length old) ≡ pad_answer text alignment width given fill u edition (length old) =
-      λ i. on_check (check_agrees i) (in_room (length old) (length (text_agrees i))) in
+      λ i. on_check (checks_agree text alignment width given fill t u edition fit also of-fill i) (in_room (length old) (length (text_agrees i))) in
       record { answer = p.answer ∙ same; contents = p.contents ∙ (λ i. buffer_after (same i) (text_agrees i) old) }
