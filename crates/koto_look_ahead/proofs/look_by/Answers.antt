@@ -4,7 +4,7 @@ use Rattle.koto_look_ahead.proofs.look_by.Goals as goal
 
 pub returns-in-As : goal.returns-in-As
 returns-in-As c =
-    rw (c.look_ahead.ensures, c.cursor_of.ensures, sym c.names.ensures ∙ c.in-As.is)
+    rw (sym c.names.ensures ∙ c.in-As.is) (cc)
 
 pub returns-in-Nothing : goal.returns-in-Nothing
 returns-in-Nothing c = rw (sym c.names.ensures ∙ c.in-Nothing.is)
