@@ -41,23 +41,46 @@ module _ (look : ℕ → ℕ) (edition : ℕ) where
   counted true k l = omega arith
   counted false k l = omega arith
 
+  module _ (cs : List ℕ) where
+    count_from : (m k : ℕ) → k + m ≡ length cs
+        → length (breaks_from look edition cs k (suc m)) ≡ suc (begun_in look edition (before look [] k cs) (drop k cs))
+    unfolding breaks_from begun_in
+    count_from zero k e =
+        let l : k ≡ length cs = omega arith in
+        rw (l, le-ltb (length cs) (length cs) (omega arith), drop-length cs)
+    count_from (suc m) k e =
+        let h : k < length cs = omega arith in
+        let t : Bool = joined edition (before look [] k cs) (look (get_or cs k 0)) in
+        let ih = count_from m (suc k) (omega arith) in
+        rw (lt-ltb k (length cs) h, drop-cons cs k 0 h)
+        (counted t k (breaks_from look edition cs (suc k) (suc m))
+        ∙ ap (λ (n : ℕ). pick t 0 1 + n) ih
+        ∙ rw (one_before look [] k cs h) (omega arith))
+
   pub count_begun : (c : ℕ) (cs : List ℕ) → cluster_count look edition (c ∷ cs) ≡ suc (begun_in look edition (look c ∷ []) cs)
   unfolding breaks_from begun_in
-  count_begun c cs = count_from (c ∷ cs) (length cs) 1 (omega arith)
+  count_begun c cs = from_here (c ∷ cs) (length cs) 1 (omega arith)
     where
-      count_from : (l : List ℕ) (m k : ℕ) → k + m ≡ length l
+      from_here : (l : List ℕ) (m k : ℕ) → k + m ≡ length l
           → length (breaks_from look edition l k (suc m)) ≡ suc (begun_in look edition (before look [] k l) (drop k l))
-      count_from l zero k e =
+      from_here l zero k e =
           let d : k ≡ length l = omega arith in
           rw (d, le-ltb (length l) (length l) (omega arith), drop-length l)
-      count_from l (suc m) k e =
+      from_here l (suc m) k e =
           let h : k < length l = omega arith in
           let t : Bool = joined edition (before look [] k l) (look (get_or l k 0)) in
-          let ih = count_from l m (suc k) (omega arith) in
+          let ih = from_here l m (suc k) (omega arith) in
           rw (lt-ltb k (length l) h, drop-cons l k 0 h)
           (counted t k (breaks_from look edition l (suc k) (suc m))
           ∙ ap (λ (n : ℕ). pick t 0 1 + n) ih
           ∙ rw (one_before look [] k l h) (omega arith))
+
+  begun_within : (left cs : List ℕ) → begun_in look edition left cs ≤ length cs
+  unfolding begun_in
+  begun_within left [] = omega arith
+  begun_within left (c ∷ cs) =
+      by_test (λ (n : ℕ). n + begun_in look edition (look c ∷ left) cs ≤ suc (length cs)) (joined edition left (look c))
+      (λ t. omega (arith, begun_within (look c ∷ left) cs)) (λ t. omega (arith, begun_within (look c ∷ left) cs))
 
   within_from : (cs : List ℕ) (n k : ℕ) → length (breaks_from look edition cs k n) ≤ n
   unfolding breaks_from

@@ -244,6 +244,10 @@ module _ (which : Which) (s : Shared) (string : List ℕ) (f : Fit s) where
   abbrev FitAfter : Added → Type 0
   FitAfter r = Fit (shared_after which s string r)
 
+  quiet_fit : (r : Added) → is_new s.counts r ≡ false → counts_after s.counts r ≡ s.counts → FitAfter r
+  quiet_fit r e q =
+      rw (old_bytes string s.counts r e s.bytes, old_entries string s.counts r e s.entries, e, q) f
+
   -- with one entry more for a desk, the desks share the room again
   more_entries : (w : Which) → n + 1 ≤ entries_for (entry_room s.entries) w s.desks
       → entries_shared (entry_room s.entries) (one_more s.counts (length string)) (with_more w s.desks (length string)) ≡ true

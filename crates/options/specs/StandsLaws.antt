@@ -164,6 +164,22 @@ module _ (look : ℕ → ℕ) (edition : ℕ) (s : List ℕ) where
       let b = brace_found s _ e a.within a.well p in
       record { on = omega (arith, b.on); within = b.within; well = b.well; brace = b.brace }
 
+  ended : (l : Lexer) (e : ℕ) → Stands s (reach_of l) → Braced s (reach_of l).byte.0 e → Reaches s l (options_token l (At e))
+  ended l e o b =
+      let i = (reach_of l).byte.0 in
+      let q : e ≡ i + (e - i) = omega (arith, b.on) in
+      record {
+        stands = record {
+          small = o.small;
+          inside = omega (arith, b.within);
+          well = subst (λ (j : ℕ). WellFormed (drop j s)) q b.well;
+          lines = omega (arith, o.lines);
+          columns = omega (arith, o.columns);
+        };
+        on = omega arith;
+        brace = λ _. ap (byte_at s) (sym q) ∙ b.brace;
+      }
+
   stood : (l : Lexer) → Stands s (reach_of l) → Reaches s l (options_token l Nowhere)
   stood l o = record { stands = o; on = omega arith; brace = λ e. absurd (let z : ◌≡◌ {A = ℕ} 0 1 = cc in omega arith) }
 

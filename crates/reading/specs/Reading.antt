@@ -67,7 +67,7 @@ after_step go before after what.Stuck = stuck_reading before after.lexer
 after_step go before after what.ModesFull = stopped deep
 after_step go before after what.End = stopped ended
 
--- the reading from a state, in so many steps. `read_from` gives it one more than can be taken: `ReadingLaws.Reading-step` is its equation,
+-- the reading from a state, in so many steps. `read_from` gives it one more than can be taken: `ReadingLaws.reading_step` is its equation,
 -- in which no steps are counted
 unfoldable pub read_in : ℕ → (ℕ → ℕ) → ℕ → List ℕ → State → Reading
 read_in zero look edition s st = stopped ended

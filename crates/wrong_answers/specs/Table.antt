@@ -48,13 +48,16 @@ abbrev unfit_file : List ℕ
 unfit_file = file_of (0 ∷ [])
 
 -- the small table's code points 0 to 127, and above them characters of two bytes, C2 80 and up: U+0080 other, U+0081 a Regional_Indicator,
--- U+0082 ZWJ, U+0083 Extended_Pictographic, U+0084 a consonant of GB9c, U+0085 an Extend that is no linker, U+0086 a SpacingMark, U+0087 a linker,
--- U+0088 a consonant that is Prepend
+-- U+0082 ZWJ, U+0083 Extended_Pictographic, U+0084 a consonant of GB9c, U+0085 an Extend that is no linker, U+0086 and up a SpacingMark
 abbrev rich : List ℕ
 rich =
     ascii_table
     ++ (run 0x80 4 ∷ run 0x81 (4 + 6 * 16) ∷ run 0x82 (2 * 512 + 5 * 16) ∷ run 0x83 (4 + 256) ∷ run 0x84 (4 + 512)
-    ∷ run 0x85 (2 * 512 + 4 * 16) ∷ run 0x86 (4 + 8 * 16) ∷ run 0x87 (3 * 512 + 4 * 16) ∷ run 0x88 (4 + 512 + 7 * 16) ∷ [])
+    ∷ run 0x85 (2 * 512 + 4 * 16) ∷ run 0x86 (4 + 8 * 16) ∷ [])
+
+-- the same, and U+0087 a linker, U+0088 a consonant that is Prepend
+abbrev richer : List ℕ
+richer = rich ++ (run 0x87 (3 * 512 + 4 * 16) ∷ run 0x88 (4 + 512 + 7 * 16) ∷ [])
 
 -- the bytes of U+0080 and so many more
 abbrev two : ℕ → List ℕ
@@ -287,7 +290,7 @@ of_scans =
     (to_options ++ row kind.string_literal 0 3 4 4 ++ row kind.number 0 2 4 5 ++ row kind.curly_close 0 2 5 6 ++ row kind.string_end 0 1 6 7)
     end_number 8 7 0
     -- the edition is the caller's: by GB9c the fill would reach over the first "}" here, and edition 1 is without it
-    ∷ scan joined_brace rich without_gb9c (zeros 8)
+    ∷ scan joined_brace richer without_gb9c (zeros 8)
     (to_options ++ row kind.string_literal 0 3 4 12 ++ row kind.curly_close 0 2 12 13 ++ row kind.string_end 0 1 13 14 ++ zeros 1) end_number 7 14 0
     ∷ []
 
@@ -402,7 +405,7 @@ of_half_scans =
     ∷ scan_half (bytes "a") small_table with_gb9c (half_zeros 1) (half_row kind.id 1) end_half_number 1 0 0
     ∷ scan_half bad_at_one small_table with_gb9c [] [] refused_number 0 0 3
     -- the edition is the caller's here too
-    ∷ scan_half joined_brace rich without_gb9c (half_zeros 8)
+    ∷ scan_half joined_brace richer without_gb9c (half_zeros 8)
     (half_row (kind.string_start + 128) 1 ++ half_deep kind.curly_open 1 2 ++ half_deep kind.id 2 3 ++ half_deep kind.colon 2 4
     ++ half_deep kind.string_literal 3 12 ++ half_deep kind.curly_close 2 13 ++ half_deep kind.string_end 1 14 ++ half_zeros 1) end_half_number 7 14 0
     ∷ []
@@ -591,7 +594,7 @@ of_pools =
     ∷ parse (bytes "4294967296") small_table with_gb9c [] [] (counts 0 0) [] [] (counts 0 0) no_options 0 11
     ∷ parse (bytes "<!") small_table with_gb9c [] [] (counts 0 0) [] [] (counts 0 0) no_options 0 12
     -- the edition is the caller's: by GB9c this would be one fill before a sign, and edition 1 is without it
-    ∷ parse (conjunct ++ bytes "<") rich without_gb9c (replicate 6 0) (entry_of 0 0 ∷ []) (counts 0 0) conjunct (entry_of 0 6 ∷ []) (counts 1 6)
+    ∷ parse (conjunct ++ bytes "<") richer without_gb9c (replicate 6 0) (entry_of 0 0 ∷ []) (counts 0 0) conjunct (entry_of 0 6 ∷ []) (counts 1 6)
     (1 ∷ no_number ∷ no_number ∷ no_number ∷ 0 ∷ 6 ∷ 0 ∷ []) 0 0
     ∷ []
 
