@@ -1,3 +1,4 @@
+-- `replay_step::steps_agree` meets its contract: each step keeps the invariant of the state that the loop goes by. Assumes nothing.
 use Rattle.std.proofs.Common.{◌≡◌, ℕ, List, sym, subst}
 use Rattle.property.specs.Table.{properties_at}
 use Rattle.fitness.specs.Fit.{FitTable}
