@@ -60,12 +60,12 @@ table_check table =
 
 -- the answer's number
 abbrev pub number_of : Result (Unit {0}) TableError → ℕ
-number_of (Ok tt) = refusal.none
+number_of (Ok _) = refusal.none
 number_of (Err (BadTable place)) = refusal.bad_table
 
 -- its place; 0 where there is none
 abbrev pub place_of : Result (Unit {0}) TableError → ℕ
-place_of (Ok tt) = 0
+place_of (Ok _) = 0
 place_of (Err (BadTable place)) = place
 
 -- ---- a fit table

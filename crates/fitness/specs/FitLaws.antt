@@ -74,8 +74,8 @@ module _ (table : List ℕ) where
   fit_of e =
       let count = length table in
       let p = passed (count_ok count) _ _ e in
-      let q = is_second (ltb (first_bad (run_ok table) 0 count) count) _ _ (Ok tt) (λ z. omega (arith, ap number_of z)) p.1 in
-      let a = is_second (ltb (first_bad (ascii_ok table) 0 128) 128) _ _ (Ok tt) (λ z. omega (arith, ap number_of z)) q.1 in
+      let q = is_second {A = Result (Unit {0}) TableError} (ltb (first_bad (run_ok table) 0 count) count) _ _ (Ok tt) (λ z. omega (arith, ap number_of z)) p.1 in
+      let a = is_second {A = Result (Unit {0}) TableError} (ltb (first_bad (ascii_ok table) 0 128) 128) _ _ (Ok tt) (λ z. omega (arith, ap number_of z)) q.1 in
       let all : 128 ≤ first_bad (ascii_ok table) 0 128 = ltb-false _ _ a.0 in
       let runs : RunsOk table = runs_done table (ltb-false _ _ q.0) in
       record {

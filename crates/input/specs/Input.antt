@@ -31,16 +31,24 @@ is_edition edition = inside edition without_gb9c with_gb9c
 
 -- ---- the checks
 
--- r, where the table is fit
-abbrev pub on_table : Result (Unit {0}) TableError → Result (Unit {0}) Refusal → Result (Unit {0}) Refusal
-on_table (Ok tt) r = r
-on_table (Err (fitness.BadTable i)) r = Err (BadTable i)
+-- the refusal that a table's fault is
+abbrev pub of_table : TableError → Refusal
+of_table (fitness.BadTable i) = BadTable i
 
 -- wrong bytes are 3, and bytes that the end cuts are 15
+abbrev pub of_utf8 : Utf8Error → Refusal
+of_utf8 (utf8.BadAt i) = BadUtf8 i
+of_utf8 (utf8.CutAt i) = CutUtf8 i
+
+-- r, where the table is fit
+abbrev pub on_table : Result (Unit {0}) TableError → Result (Unit {0}) Refusal → Result (Unit {0}) Refusal
+on_table (Ok _) r = r
+on_table (Err e) r = Err (of_table e)
+
+-- the answer of the check of the bytes
 abbrev pub on_utf8 : Result (Unit {0}) Utf8Error → Result (Unit {0}) Refusal
-on_utf8 (Ok tt) = Ok tt
-on_utf8 (Err (utf8.BadAt i)) = Err (BadUtf8 i)
-on_utf8 (Err (utf8.CutAt i)) = Err (CutUtf8 i)
+on_utf8 (Ok _) = Ok tt
+on_utf8 (Err e) = Err (of_utf8 e)
 
 -- the answer for a call that takes at most so many bytes, these bytes, the numbers of this table, and this edition
 unfoldable pub input_check : ℕ → List ℕ → List ℕ → ℕ → Result (Unit {0}) Refusal
@@ -59,7 +67,7 @@ pub record Readable (most : ℕ) (bytes table : List ℕ) (edition : ℕ) : Type
 
 -- a refusal as f carries it, or r
 abbrev pub on_input : {A : Type 0} → (Refusal → A) → Result (Unit {0}) Refusal → A → A
-on_input f (Ok tt) r = r
+on_input f (Ok _) r = r
 on_input f (Err x) r = f x
 
 -- ---- the documents' numbers of a refusal

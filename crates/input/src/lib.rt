@@ -8,7 +8,7 @@ pub mod answer;
 ghost use Rattle.std.specs.Prelude.{◌≡◌};
 ghost use Rattle.utf8.specs.Chars.{check_from};
 ghost use Rattle.fitness.specs.Fit.{table_check};
-ghost use Rattle.input.specs.Input.{on_table, on_utf8, input_check};
+ghost use Rattle.input.specs.Input.{of_table, of_utf8, on_table, on_utf8, input_check};
 
 use fitness::TableError;
 use utf8::Utf8Error;
@@ -39,18 +39,34 @@ pub enum Refusal {
     CutUtf8(usize),
 }
 
+impl From<TableError> for Refusal {
+    ghost from_gives = { λ e r. r ≡ of_table e };
+
+    fn from(e: TableError) -> Refusal {
+        match e {
+            TableError::BadTable(i) => Refusal::BadTable(i),
+        }
+    }
+}
+
+impl From<Utf8Error> for Refusal {
+    ghost from_gives = { λ e r. r ≡ of_utf8 e };
+
+    fn from(e: Utf8Error) -> Refusal {
+        match e {
+            Utf8Error::BadAt(i) => Refusal::BadUtf8(i),
+            Utf8Error::CutAt(i) => Refusal::CutUtf8(i),
+        }
+    }
+}
+
 // The checks of a table and of bytes that are not too many.
 fn check_table_and_bytes(bytes: &[u8], table: &[u32]) -> Result<(), Refusal>
     ensures { result ≡ on_table (table_check table.now) (on_utf8 (check_from 0 bytes.now)) }
 {
-    match fitness::check_table(table) {
-        Err(TableError::BadTable(i)) => Err(Refusal::BadTable(i)),
-        Ok(()) => match utf8::check_utf8(bytes) {
-            Err(Utf8Error::BadAt(i)) => Err(Refusal::BadUtf8(i)),
-            Err(Utf8Error::CutAt(i)) => Err(Refusal::CutUtf8(i)),
-            Ok(()) => Ok(()),
-        },
-    }
+    fitness::check_table(table)?;
+    utf8::check_utf8(bytes)?;
+    Ok(())
 }
 
 // Whether a call that takes at most so many bytes may work on these bytes, this table and this edition.

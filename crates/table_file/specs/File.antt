@@ -77,10 +77,14 @@ end_of file = 8 + 4 * count_of file
 
 -- ---- reading it into a row
 
+-- the refusal that a table's fault is
+abbrev pub of_table : TableError → TableFileError
+of_table (table.BadTable place) = BadTable place
+
 -- the check of the numbers, and the answer where they are a fit table
 abbrev pub on_fit : Result (Unit {0}) TableError → Result ℕ TableFileError → Result ℕ TableFileError
-on_fit (Ok tt) answer = answer
-on_fit (Err (table.BadTable place)) answer = Err (BadTable place)
+on_fit (Ok _) answer = answer
+on_fit (Err e) answer = Err (of_table e)
 
 -- refusal 14 in the mark, and where bytes lack for the count, for the numbers, or are left over; refusal 4; refusal 2
 unfoldable pub read_table : List ℕ → ℕ → Result ℕ TableFileError

@@ -139,7 +139,7 @@ bytes_back (suc n) (a ∷ b ∷ c ∷ d ∷ l) small e =
     ∙ ap (λ (k : List ℕ). a ∷ b ∷ c ∷ d ∷ k) (bytes_back n l (λ i. small (suc (suc (suc (suc i))))) (omega arith))
 
 read_fit : (a : Result (Unit {0}) TableError) (m n : ℕ) → on_fit a (Ok m) ≡ Ok n → (a ≡ Ok tt) × (m ≡ n)
-read_fit (Ok tt) m n e = (refl, cc)
+read_fit (Ok _) m n e = (refl, cc)
 read_fit (Err (table.BadTable i)) m n e = absurd (let z : ◌≡◌ {A = ℕ} 0 1 = cc in omega arith)
 
 pub record FileRead (file : List ℕ) (room n : ℕ) : Type 0 where
@@ -175,11 +175,11 @@ module _ (file : List ℕ) (small : Bytes file) where
   pub file_of_read : (room n : ℕ) → read_table file room ≡ Ok n → FileRead file room n
   unfolding read_table
   file_of_read room n e =
-      let p = is_second (ltb (first_bad (mark_ok file) 0 6) 6) _ _ (Ok n) (λ z. omega (arith, ap number_of z)) e in
-      let q = is_second (ltb (length file) 8) _ _ (Ok n) (λ z. omega (arith, ap number_of z)) p.1 in
-      let r = is_second (ltb (length file) (end_of file)) _ _ (Ok n) (λ z. omega (arith, ap number_of z)) q.1 in
-      let s = is_second (ltb (end_of file) (length file)) _ _ (Ok n) (λ z. omega (arith, ap number_of z)) r.1 in
-      let t = is_second (ltb room (count_of file)) _ _ (Ok n) (λ z. omega (arith, ap number_of z)) s.1 in
+      let p = is_second {A = Result ℕ TableFileError} (ltb (first_bad (mark_ok file) 0 6) 6) _ _ (Ok n) (λ z. omega (arith, ap number_of z)) e in
+      let q = is_second {A = Result ℕ TableFileError} (ltb (length file) 8) _ _ (Ok n) (λ z. omega (arith, ap number_of z)) p.1 in
+      let r = is_second {A = Result ℕ TableFileError} (ltb (length file) (end_of file)) _ _ (Ok n) (λ z. omega (arith, ap number_of z)) q.1 in
+      let s = is_second {A = Result ℕ TableFileError} (ltb (end_of file) (length file)) _ _ (Ok n) (λ z. omega (arith, ap number_of z)) r.1 in
+      let t = is_second {A = Result ℕ TableFileError} (ltb room (count_of file)) _ _ (Ok n) (λ z. omega (arith, ap number_of z)) s.1 in
       let u = read_fit (table_check (numbers_of file)) _ n t.1 in
       let low : end_of file ≤ length file = ltb-false _ _ r.0 in
       let high : length file ≤ end_of file = ltb-false _ _ s.0 in

@@ -7,7 +7,7 @@ pub mod answer;
 ghost use Rattle.std.specs.Prelude.{◌≡◌, ◌++◌, ◌+◌, ◌*◌, ◌≤◌, length, drop};
 ghost use Rattle.fitness.specs.First.{first_bad};
 ghost use Rattle.fitness.specs.Fit.{table_check};
-ghost use Rattle.table_file.specs.File.{mark_ok, number16, number32, numbers_in, ReadTableIs};
+ghost use Rattle.table_file.specs.File.{mark_ok, number16, number32, numbers_in, of_table, ReadTableIs};
 
 use fitness::{MOST, TableError, check_table};
 
@@ -20,6 +20,16 @@ pub enum TableFileError {
     ListFull,
     // Refusal 2, with the place that the check of a table gives it.
     BadTable(usize),
+}
+
+impl From<TableError> for TableFileError {
+    ghost from_gives = { λ e r. r ≡ of_table e };
+
+    fn from(e: TableError) -> TableFileError {
+        match e {
+            TableError::BadTable(i) => TableFileError::BadTable(i),
+        }
+    }
 }
 
 // "KPT", the version, the zero byte.
@@ -107,11 +117,7 @@ pub fn read_table(file: &[u8], row: &mut [u32]) -> Result<usize, TableFileError>
     if row.len() < count {
         return Err(TableFileError::ListFull);
     }
-    match check_numbers(file, count) {
-        Err(TableError::BadTable(place)) => Err(TableFileError::BadTable(place)),
-        Ok(()) => {
-            read_numbers(file, count, row);
-            Ok(count)
-        }
-    }
+    check_numbers(file, count)?;
+    read_numbers(file, count, row);
+    Ok(count)
 }

@@ -26,12 +26,12 @@ code_of Cut = 0
 
 -- the number
 abbrev pub number_of : Result (Unit {0}) Utf8Error → ℕ
-number_of (Ok tt) = none
+number_of (Ok _) = none
 number_of (Err (BadAt i)) = bad_utf8
 number_of (Err (CutAt i)) = cut_utf8
 
 -- the place: the offset of the first ill-formed sequence; 0 where there is none
 abbrev pub place_of : Result (Unit {0}) Utf8Error → ℕ
-place_of (Ok tt) = 0
+place_of (Ok _) = 0
 place_of (Err (BadAt i)) = i
 place_of (Err (CutAt i)) = i

@@ -38,6 +38,6 @@ pub record Damaged (s : List ℕ) (n : ℕ) : Type 0 where
 
 -- r says whether s is well formed; if not, where it is not, and whether it is wrong there or still arriving
 abbrev pub CheckIs : List ℕ → Result (Unit {0}) Utf8Error → Type 0
-CheckIs s (Ok tt) = WellFormed s
+CheckIs s (Ok _) = WellFormed s
 CheckIs s (Err (BadAt n)) = Damaged s n
 CheckIs s (Err (CutAt n)) = Arriving s n

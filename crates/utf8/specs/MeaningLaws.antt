@@ -125,7 +125,7 @@ module _ (s : List ℕ) where
       g.none_longer (n + k) (omega (arith, a.some)) a.fits (longer_by_char s n c k g.well e)
 
   pub is_check : (r : Result (Unit {0}) Utf8Error) → CheckIs s r → check_from 0 s ≡ r
-  is_check (Ok tt) w = fine_of_well 0 s w
+  is_check (Ok _) w = fine_of_well 0 s w
   is_check (Err (CutAt n)) w =
       let g = w.before in
       check_behind s n (omega (arith, g.short)) g.well ∙ cut_at s n g.short (begins_cut (drop n s) w.begins)
