@@ -10,15 +10,8 @@ ghost use Rattle.property.specs.Table.{properties_at, Rises};
 ghost use Rattle.cluster.specs.First.{first_end};
 ghost use Rattle.cluster.specs.Call.{first_cluster};
 
-use input::{Input, Refusal, SOURCE_MOST};
+use input::{Refusal, SOURCE_MOST};
 use uax29::Left;
-
-// The answer of `first_cluster`: the cluster's length in bytes, or a refusal that came before any work.
-#[derive(Clone, Copy)]
-pub enum Cluster {
-    Length(usize),
-    Refused(Refusal),
-}
 
 // The byte after the first cluster of what stands from `at` on, in edition 1 (without GB9c) or 2 (with it); `at` itself where nothing does.
 pub fn cluster_end(source: &[u8], table: &[u32], edition: u32, at: usize) -> usize
@@ -47,11 +40,9 @@ pub fn cluster_end(source: &[u8], table: &[u32], edition: u32, at: usize) -> usi
 // The length in bytes of the first cluster of a source, in edition 1 (without GB9c) or 2 (with it); no bytes give 0. Refused are a source that
 // is too long, then a number that is no edition, then a table that is unfit, with the place of its fault, then bytes that are wrong or cut,
 // with their offset.
-pub fn first_cluster(source: &[u8], table: &[u32], edition: u32) -> Cluster
+pub fn first_cluster(source: &[u8], table: &[u32], edition: u32) -> Result<usize, Refusal>
     ensures { result ≡ first_cluster source.now table.now edition }
 {
-    match input::check_input(source, table, edition, SOURCE_MOST) {
-        Input::Refused(refusal) => Cluster::Refused(refusal),
-        Input::Fine => Cluster::Length(cluster_end(source, table, edition, 0)),
-    }
+    input::check_input(source, table, edition, SOURCE_MOST)?;
+    Ok(cluster_end(source, table, edition, 0))
 }

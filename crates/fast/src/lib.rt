@@ -15,7 +15,7 @@ use classes::classes;
 use fast_step::long_half;
 use fast_turns::fast_run;
 use found::copied;
-use input::{Input, SOURCE_MOST};
+use input::SOURCE_MOST;
 use layout::Layout;
 use lexer::What;
 use reading::{Scanned, row_of};
@@ -109,8 +109,8 @@ pub fn scan_fast(source: &[u8], table: &[u32], edition: u32, list: &mut [u32]) -
 {
     let classes = classes();
     match input::check_input(source, table, edition, SOURCE_MOST) {
-        Input::Refused(refusal) => Scanned::Refused(refusal),
-        Input::Fine => read_on(
+        Err(refusal) => Scanned::Refused(refusal),
+        Ok(()) => read_on(
             Layout::Whole,
             source,
             table,

@@ -1,14 +1,14 @@
 -- Document 01, "The property table": the run rules and code points 0 to 127; "Refusal numbers": refusal 2 with its place.
 -- Assumes nothing.
-use Rattle.std.specs.Prelude.{ℕ, ◌-◌, ◌<◌, ◌≤◌, ◌≡◌, List, Bool, true, ◌&&◌, ltb, leb, eqb, length, get_or}
+use Rattle.std.specs.Prelude.{ℕ, ◌-◌, ◌<◌, ◌≤◌, ◌≡◌, List, Bool, true, ◌&&◌, ltb, leb, eqb, length, get_or, Result, Ok, Err}
 use Rattle.base.specs.Pick.{pick}
 use Rattle.base.specs.Refusal as refusal
 use Rattle.property.specs.Parts.{properties_of, xid_start, xid_continue, class_of}
 use Rattle.property.specs.Table.{properties_at, start_at, Rises}
 use Rattle.fitness.specs.Small.{small_table}
 use Rattle.fitness.specs.First.{first_bad}
-use Rattle.fitness.specs.declared.TableCheck.{TableCheck}
-use Rattle.fitness.specs.declared.TableCheck.TheVariants.{Fit, BadTable}
+use Rattle.fitness.specs.declared.TableError.{TableError}
+use Rattle.fitness.specs.declared.TableError.TheVariants.{BadTable}
 
 -- a row of 1 to 8,000 numbers
 abbrev pub count_most : ℕ
@@ -49,24 +49,24 @@ abbrev pub count_ok : ℕ → Bool
 count_ok count = leb 1 count && leb count count_most
 
 -- 0 for a bad count; else first bad run, from 0; else, if only 0 to 127 differ, the count
-unfoldable pub table_check : List ℕ → TableCheck
+unfoldable pub table_check : List ℕ → Result (Unit {0}) TableError
 table_check table =
     let count = length table in
     let run = first_bad (run_ok table) 0 count in
     pick (count_ok count)
-    (pick (ltb run count) (BadTable run)
-    (pick (ltb (first_bad (ascii_ok table) 0 ascii_count) ascii_count) (BadTable count) Fit))
-    (BadTable 0)
+    (pick (ltb run count) (Err (BadTable run))
+    (pick (ltb (first_bad (ascii_ok table) 0 ascii_count) ascii_count) (Err (BadTable count)) (Ok tt)))
+    (Err (BadTable 0))
 
 -- the answer's number
-abbrev pub number_of : TableCheck → ℕ
-number_of Fit = refusal.none
-number_of (BadTable place) = refusal.bad_table
+abbrev pub number_of : Result (Unit {0}) TableError → ℕ
+number_of (Ok _) = refusal.none
+number_of (Err (BadTable place)) = refusal.bad_table
 
 -- its place; 0 where there is none
-abbrev pub place_of : TableCheck → ℕ
-place_of Fit = 0
-place_of (BadTable place) = place
+abbrev pub place_of : Result (Unit {0}) TableError → ℕ
+place_of (Ok _) = 0
+place_of (Err (BadTable place)) = place
 
 -- ---- a fit table
 

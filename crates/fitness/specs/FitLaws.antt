@@ -7,7 +7,7 @@
 -- Assumes nothing.
 use Prim.Native.Nat.{ℕ, zero, suc, ◌-◌, ◌<◌, ◌≤◌}
 use native.Mathlib.Omega.{arith}
-use Rattle.std.specs.Prelude.{◌≡◌, List, Bool, true, false, ltb, leb, get_or}
+use Rattle.std.specs.Prelude.{◌≡◌, List, Bool, true, false, ltb, leb, get_or, Result, Ok, Err}
 use Rattle.std.proofs.Math.Path.{refl, ap}
 use Rattle.std.proofs.Common.{◌∙◌}
 use Rattle.std.proofs.Math.Dec.{eqb-suc-zero}
@@ -23,12 +23,12 @@ use Rattle.fitness.specs.Small.{small_table}
 use Rattle.fitness.specs.First.{first_bad}
 use Rattle.fitness.specs.FirstLaws.{good_before, none_bad, some_bad, is_first}
 use Rattle.fitness.specs.Fit.{start_ok, properties_ok, run_ok, ascii_ok, count_ok, table_check, number_of, RunsOk, FitTable}
-use Rattle.fitness.specs.declared.TableCheck.{TableCheck}
-use Rattle.fitness.specs.declared.TableCheck.TheVariants.{Fit, BadTable}
+use Rattle.fitness.specs.declared.TableError.{TableError}
+use Rattle.fitness.specs.declared.TableError.TheVariants.{BadTable}
 
 -- ---- tests that passed
 
-passed : (t : Bool) (r : TableCheck) (i : ℕ) → pick t r (BadTable i) ≡ Fit → (t ≡ true) × (r ≡ Fit)
+passed : (t : Bool) (r : Result (Unit {0}) TableError) (i : ℕ) → pick t r (Err (BadTable i)) ≡ Ok tt → (t ≡ true) × (r ≡ Ok tt)
 passed true r i e = (refl, e)
 passed false r i e = absurd (let z : ◌≡◌ {A = ℕ} 0 1 = cc in omega arith)
 
@@ -69,13 +69,13 @@ module _ (table : List ℕ) where
 -- ---- a fit table
 
 module _ (table : List ℕ) where
-  pub fit_of : table_check table ≡ Fit → FitTable table
+  pub fit_of : table_check table ≡ Ok tt → FitTable table
   unfolding table_check
   fit_of e =
       let count = length table in
       let p = passed (count_ok count) _ _ e in
-      let q = is_second (ltb (first_bad (run_ok table) 0 count) count) _ _ Fit (λ z. omega (arith, ap number_of z)) p.1 in
-      let a = is_second (ltb (first_bad (ascii_ok table) 0 128) 128) _ _ Fit (λ z. omega (arith, ap number_of z)) q.1 in
+      let q = is_second {A = Result (Unit {0}) TableError} (ltb (first_bad (run_ok table) 0 count) count) _ _ (Ok tt) (λ z. omega (arith, ap number_of z)) p.1 in
+      let a = is_second {A = Result (Unit {0}) TableError} (ltb (first_bad (ascii_ok table) 0 128) 128) _ _ (Ok tt) (λ z. omega (arith, ap number_of z)) q.1 in
       let all : 128 ≤ first_bad (ascii_ok table) 0 128 = ltb-false _ _ a.0 in
       let runs : RunsOk table = runs_done table (ltb-false _ _ q.0) in
       record {
@@ -87,13 +87,13 @@ module _ (table : List ℕ) where
 
   -- ---- the answer in each case
 
-  pub bad_count : count_ok (length table) ≡ false → table_check table ≡ BadTable 0
+  pub bad_count : count_ok (length table) ≡ false → table_check table ≡ Err (BadTable 0)
   unfolding table_check
   bad_count e = rw e
 
   module _ (many : count_ok (length table) ≡ true) where
     pub bad_run :
-        (i : ℕ) → i < length table → ((j : ℕ) → j < i → run_ok table j ≡ true) → run_ok table i ≡ false → table_check table ≡ BadTable i
+        (i : ℕ) → i < length table → ((j : ℕ) → j < i → run_ok table j ≡ true) → run_ok table i ≡ false → table_check table ≡ Err (BadTable i)
     unfolding table_check
     bad_run i h good bad =
         let f : first_bad (run_ok table) 0 (length table) ≡ i =
@@ -105,13 +105,13 @@ module _ (table : List ℕ) where
       no_bad_run = none_bad (run_ok table) 0 _ (λ i _ m. runs i (omega arith)) ∙ omega arith
 
       pub bad_ascii :
-          (c : ℕ) → c < 128 → (properties_at table c ≡ properties_at small_table c → ⊥) → table_check table ≡ BadTable (length table)
+          (c : ℕ) → c < 128 → (properties_at table c ≡ properties_at small_table c → ⊥) → table_check table ≡ Err (BadTable (length table))
       unfolding table_check
       bad_ascii c h bad =
           let f : first_bad (ascii_ok table) 0 128 < 128 = some_bad (ascii_ok table) 0 128 c (omega arith) h (ne_eqb _ _ bad) in
           rw (many, no_bad_run, le-ltb (length table) (length table) (omega arith), lt-ltb _ _ f)
 
-      pub fit_by_lem : ((c : ℕ) → c < 128 → properties_at table c ≡ properties_at small_table c) → table_check table ≡ Fit
+      pub fit_by_lem : ((c : ℕ) → c < 128 → properties_at table c ≡ properties_at small_table c) → table_check table ≡ Ok tt
       unfolding table_check
       fit_by_lem same =
           let f : first_bad (ascii_ok table) 0 128 ≡ 128 = none_bad (ascii_ok table) 0 128 (λ c _ m. eq-eqb _ _ (same c (omega arith))) in

@@ -5,7 +5,7 @@
 --     ascii_not_pict, ascii_no_incb
 -- Each is a computed test over the small table, by `ascii_rule`. A caller's own rule of these code points goes the same way.
 -- Assumes nothing.
-use Rattle.std.specs.Prelude.{ℕ, ◌<◌, ◌≡◌, List, Bool, true, false, not}
+use Rattle.std.specs.Prelude.{ℕ, ◌<◌, ◌≡◌, List, Bool, true, false, not, Ok}
 use Rattle.std.proofs.Math.Path.{refl}
 use Rattle.std.proofs.Math.Dec.{eqb}
 use borrow.Author.Tests.{eqb-true}
@@ -18,9 +18,8 @@ use Rattle.fitness.specs.Ascii.{is_letter, is_name_part, is_printable, ascii_cla
 use Rattle.fitness.specs.First.{first_bad}
 use Rattle.fitness.specs.Fit.{start_ok, properties_ok, run_ok, table_check, FitTable}
 use Rattle.fitness.specs.FitLaws.{fit_of, ascii_rule}
-use Rattle.fitness.specs.declared.TableCheck.TheVariants.{Fit}
 
-pub small_fit : table_check small_table ≡ Fit
+pub small_fit : table_check small_table ≡ Ok tt
 unfolding table_check first_bad run_ok start_ok properties_ok last_from small_table
 small_fit = refl
 

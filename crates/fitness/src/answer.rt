@@ -2,25 +2,25 @@
 ghost use Rattle.std.specs.Prelude.{◌≡◌};
 ghost use Rattle.fitness.specs.Fit.{number_of, place_of};
 
-use crate::TableCheck;
+use crate::TableError;
 use base::refusals::{BAD_TABLE, NO_REFUSAL};
 
 // The number of a check's refusal; 0 where there is none.
-pub fn number_of(check: TableCheck) -> u32
+pub fn number_of(check: Result<(), TableError>) -> u32
     ensures { result ≡ number_of check }
 {
     match check {
-        TableCheck::Fit => NO_REFUSAL,
-        TableCheck::BadTable(_) => BAD_TABLE,
+        Ok(()) => NO_REFUSAL,
+        Err(TableError::BadTable(_)) => BAD_TABLE,
     }
 }
 
 // Its place; 0 where there is none.
-pub fn place_of(check: TableCheck) -> usize
+pub fn place_of(check: Result<(), TableError>) -> usize
     ensures { result ≡ place_of check }
 {
     match check {
-        TableCheck::Fit => 0,
-        TableCheck::BadTable(i) => i,
+        Ok(()) => 0,
+        Err(TableError::BadTable(i)) => i,
     }
 }

@@ -21,10 +21,9 @@ pub const MOST: usize = 8000;
 // The last code point, U+10FFFF.
 const LAST: u32 = 1114111;
 
-// Whether a table is fit.
-#[derive(Clone, Copy)]
-pub enum TableCheck {
-    Fit,
+// Why a table is unfit.
+#[derive(Clone, Copy, Debug, PartialEq, Eq)]
+pub enum TableError {
     // Refusal 2, with its place: 0 for a bad count; else the first bad run, from 0; else, if only 0 to 127 differ, the count.
     BadTable(usize),
 }
@@ -175,23 +174,23 @@ fn first_bad_ascii(table: &[u32], small: &[u32]) -> u32
 }
 
 // Whether a table is fit, in the order of refusal 2's places: its count, its runs, code points 0 to 127.
-pub fn check_table(table: &[u32]) -> TableCheck
+pub fn check_table(table: &[u32]) -> Result<(), TableError>
     ensures { result ≡ table_check table.now }
 {
     let count = table.len();
     if count < 1 {
-        return TableCheck::BadTable(0);
+        return Err(TableError::BadTable(0));
     }
     if MOST < count {
-        return TableCheck::BadTable(0);
+        return Err(TableError::BadTable(0));
     }
     let run = first_bad_run(table);
     if run < count {
-        return TableCheck::BadTable(run);
+        return Err(TableError::BadTable(run));
     }
     let small = small_table();
     if first_bad_ascii(table, &small) < 128 {
-        return TableCheck::BadTable(count);
+        return Err(TableError::BadTable(count));
     }
-    TableCheck::Fit
+    Ok(())
 }

@@ -7,7 +7,8 @@
 -- and of the whole check:
 --     is_refused, is_short, is_compared    its answer, where it is given
 -- Assumes nothing.
-use Rattle.std.specs.Prelude.{ℕ, ◌+◌, ◌*◌, ◌≤◌, ◌<◌, ◌≡◌, refl, Bool, true, false, List, [], ◌∷◌, ltb, leb}
+use Rattle.std.specs.Prelude.{ℕ, ◌+◌, ◌*◌, ◌≤◌, ◌<◌, ◌≡◌, refl, Bool, true, false, List, [], ◌∷◌, ltb, leb, Err}
+use Rattle.std.specs.declared.result.Result.TheVariants as result
 use Rattle.std.proofs.Common.{add-zero, ap, subst, ◌∙◌}
 use native.Mathlib.Omega.{arith}
 use Rattle.std.proofs.Math.Path.{sym}
@@ -21,7 +22,6 @@ use Rattle.property.specs.Table.{properties_at}
 use Rattle.fitness.specs.Fit.{FitTable}
 use Rattle.input.specs.Input.{input_check}
 use Rattle.input.specs.declared.Refusal.{Refusal}
-use Rattle.input.specs.declared.Input.TheVariants as input
 use Rattle.token.specs.Kind.{error}
 use Rattle.token.specs.Token.{token_of}
 use Rattle.token.specs.declared.Token.{Token}
@@ -183,12 +183,12 @@ module _ {s table : List ℕ} {edition : ℕ} {list : List ℕ} {count status : 
 -- ---- the whole check
 
 module _ (source table : List ℕ) (edition : ℕ) (list : List ℕ) (count status : ℕ) where
-  pub is_refused : {x : Refusal} → input_check source_most source table edition ≡ input.Refused x
+  pub is_refused : {x : Refusal} → input_check source_most source table edition ≡ Err x
       → Refused x ≡ list_checked source table edition list count status
   unfolding list_checked
   is_refused e = sym (rw e)
 
-  module _ (e : input_check source_most source table edition ≡ input.Fine) where
+  module _ (e : input_check source_most source table edition ≡ result.Ok tt) where
     pub is_short : room list < count → BadState ≡ list_checked source table edition list count status
     unfolding list_checked
     is_short h = sym (rw (e, lt-ltb (room list) count h))

@@ -20,7 +20,7 @@ ghost use Rattle.foreign.specs.Check.{apart_after, is_right, compared, by_readin
 
 use classes::classes;
 use held::is_row;
-use input::{Input, Refusal, SOURCE_MOST};
+use input::{Refusal, SOURCE_MOST};
 use lexer::What;
 use plain_step::plain_half;
 use reading::answer::{END, STUCK};
@@ -166,8 +166,8 @@ pub fn check_list(
     ensures { result ≡ list_checked source.now table.now edition list.now count status }
 {
     match input::check_input(source, table, edition, SOURCE_MOST) {
-        Input::Refused(refusal) => Checked::Refused(refusal),
-        Input::Fine => {
+        Err(refusal) => Checked::Refused(refusal),
+        Ok(()) => {
             if rows::room(list) < count {
                 return Checked::BadState;
             }

@@ -8,7 +8,10 @@ pub mod answer;
 ghost use Rattle.std.specs.Prelude.{◌≡◌};
 ghost use Rattle.utf8.specs.Chars.{check_from};
 ghost use Rattle.fitness.specs.Fit.{table_check};
-ghost use Rattle.input.specs.Input.{on_table, on_utf8, input_check};
+ghost use Rattle.input.specs.Input.{of_table, of_utf8, on_table, on_utf8, input_check};
+
+use fitness::TableError;
+use utf8::Utf8Error;
 
 // A source has at most this many bytes.
 pub const SOURCE_MOST: usize = 1_048_576;
@@ -22,7 +25,7 @@ pub const WITHOUT_GB9C: u32 = 1;
 pub const WITH_GB9C: u32 = 2;
 
 // A refusal that comes before any work, under its document's name. An answer that may be one of these carries it as one case.
-#[derive(Clone, Copy)]
+#[derive(Clone, Copy, Debug, PartialEq, Eq)]
 pub enum Refusal {
     // 1: more bytes than the call takes. Its place is 0.
     TooLong,
@@ -36,36 +39,45 @@ pub enum Refusal {
     CutUtf8(usize),
 }
 
-// What the checks answer.
-#[derive(Clone, Copy)]
-pub enum Input {
-    Fine,
-    Refused(Refusal),
-}
+impl From<TableError> for Refusal {
+    ghost from_gives = { λ e r. r ≡ of_table e };
 
-// The checks of a table and of bytes that are not too many.
-fn check_table_and_bytes(bytes: &[u8], table: &[u32]) -> Input
-    ensures { result ≡ on_table (table_check table.now) (on_utf8 (check_from 0 bytes.now)) }
-{
-    match fitness::check_table(table) {
-        fitness::TableCheck::BadTable(i) => Input::Refused(Refusal::BadTable(i)),
-        fitness::TableCheck::Fit => match utf8::check_utf8(bytes) {
-            utf8::Utf8Check::BadAt(i) => Input::Refused(Refusal::BadUtf8(i)),
-            utf8::Utf8Check::CutAt(i) => Input::Refused(Refusal::CutUtf8(i)),
-            utf8::Utf8Check::Fine => Input::Fine,
-        },
+    fn from(e: TableError) -> Refusal {
+        match e {
+            TableError::BadTable(i) => Refusal::BadTable(i),
+        }
     }
 }
 
+impl From<Utf8Error> for Refusal {
+    ghost from_gives = { λ e r. r ≡ of_utf8 e };
+
+    fn from(e: Utf8Error) -> Refusal {
+        match e {
+            Utf8Error::BadAt(i) => Refusal::BadUtf8(i),
+            Utf8Error::CutAt(i) => Refusal::CutUtf8(i),
+        }
+    }
+}
+
+// The checks of a table and of bytes that are not too many.
+fn check_table_and_bytes(bytes: &[u8], table: &[u32]) -> Result<(), Refusal>
+    ensures { result ≡ on_table (table_check table.now) (on_utf8 (check_from 0 bytes.now)) }
+{
+    fitness::check_table(table)?;
+    utf8::check_utf8(bytes)?;
+    Ok(())
+}
+
 // Whether a call that takes at most so many bytes may work on these bytes, this table and this edition.
-pub fn check_input(bytes: &[u8], table: &[u32], edition: u32, most: usize) -> Input
+pub fn check_input(bytes: &[u8], table: &[u32], edition: u32, most: usize) -> Result<(), Refusal>
     ensures { result ≡ input_check most bytes.now table.now edition }
 {
     if most < bytes.len() {
-        return Input::Refused(Refusal::TooLong);
+        return Err(Refusal::TooLong);
     }
     if base::code_between(edition, WITHOUT_GB9C, WITH_GB9C) {
         return check_table_and_bytes(bytes, table);
     }
-    Input::Refused(Refusal::BadEdition)
+    Err(Refusal::BadEdition)
 }

@@ -1,12 +1,12 @@
 -- Document 01, "Format options and pool" and "Refusal numbers" (3, 8, 13): the string side of koto's constant pool, `add_string` of
 -- constant_pool.rs, over the rows of the crate `pool_rows`.
 -- Assumes nothing.
-use Rattle.std.specs.Prelude.{ℕ, ◌+◌, ◌*◌, ◌≡◌, List, ◌++◌, Bool, true, false, eqb, ltb, length, set, take, drop}
+use Rattle.std.specs.Prelude.{ℕ, ◌+◌, ◌*◌, ◌≡◌, List, ◌++◌, Bool, true, false, eqb, ltb, length, set, take, drop, Result, Ok, Err}
 use Rattle.base.specs.Pick.{pick}
 use Rattle.base.specs.Refusal.{none, bad_utf8, cut_utf8, bad_state, pool_full}
 use Rattle.utf8.specs.Chars.{check_from}
-use Rattle.utf8.specs.declared.Utf8Check.{Utf8Check}
-use Rattle.utf8.specs.declared.Utf8Check.TheVariants as utf8
+use Rattle.utf8.specs.declared.Utf8Error.{Utf8Error}
+use Rattle.utf8.specs.declared.Utf8Error.TheVariants as utf8
 use Rattle.pool_rows.specs.Rows.{with_string, index_of, strings_of, byte_room, entry_room, fit_pool}
 use Rattle.pool_rows.specs.declared.Counts.{Counts}
 use Rattle.pool.specs.declared.Added.{Added}
@@ -27,10 +27,10 @@ placed long found counts forEntries forBytes =
     (Index counts.entries (one_more counts long))))
 
 -- the answer where the bytes are well formed; wrong bytes are 3, and bytes that the end cuts are 15
-abbrev pub on_utf8 : Utf8Check → Added → Added
-on_utf8 utf8.Fine r = r
-on_utf8 (utf8.BadAt i) r = BadUtf8 i
-on_utf8 (utf8.CutAt i) r = CutUtf8 i
+abbrev pub on_utf8 : Result (Unit {0}) Utf8Error → Added → Added
+on_utf8 (Ok _) r = r
+on_utf8 (Err (utf8.BadAt i)) r = BadUtf8 i
+on_utf8 (Err (utf8.CutAt i)) r = CutUtf8 i
 
 -- the answer for a string and a pool that is fit
 abbrev pub added_to_fit : List ℕ → List ℕ → List ℕ → Counts → Added

@@ -10,7 +10,7 @@
 --     added_again                 a string that was added is there: adding it again answers the same
 --     one_answer                  no second answer and no second rows fit `AddsString`
 -- Assumes nothing.
-use Rattle.std.specs.Prelude.{ℕ, suc, ◌+◌, ◌*◌, ◌<◌, ◌≤◌, ◌≡◌, true, false, List, [], ◌++◌, get_or, set, take, drop}
+use Rattle.std.specs.Prelude.{ℕ, suc, ◌+◌, ◌*◌, ◌<◌, ◌≤◌, ◌≡◌, true, false, List, [], ◌++◌, get_or, set, take, drop, Result, Ok, Err}
 use Rattle.std.proofs.Common.{arith, add-one, sym, ap, subst, ◌∙◌, length-append, length-drop, length-set, take-append-drop, take_at, drop_at, get_or-set_same, get_or-set_other, length-take-le}
 use Rattle.std.proofs.Math.Path.{refl}
 use Rattle.std.proofs.Math.ListN.{length}
@@ -22,8 +22,8 @@ use Rattle.base.specs.Refusal.{none}
 use Rattle.utf8.specs.Encode.{WellFormed}
 use Rattle.utf8.specs.Chars.{check_from}
 use Rattle.utf8.specs.CharsLaws.{fine_of_well}
-use Rattle.utf8.specs.declared.Utf8Check.{Utf8Check}
-use Rattle.utf8.specs.declared.Utf8Check.TheVariants as utf8
+use Rattle.utf8.specs.declared.Utf8Error.{Utf8Error}
+use Rattle.utf8.specs.declared.Utf8Error.TheVariants as utf8
 use Rattle.pool_rows.specs.Rows.{start_of, length_of, string_at, strings_of, index_of, room_most, byte_room, entry_room, runs_to, fit_pool}
 use Rattle.pool.specs.Pool.{one_more, placed, on_utf8, added_to_fit, added, is_new, written, entered, bytes_after, entries_after}
 use Rattle.pool.specs.Pool.{AddsToFit, AddsString, Grown, number_of}
@@ -228,19 +228,19 @@ module _ (string bytes entries : List ℕ) (counts : Counts) where
   found = index_of string (strings_of bytes entries counts.entries)
 
   -- the answer, from what the check of the string says and from whether the pool is fit
-  pub wrong : (i : ℕ) → check_from 0 string ≡ utf8.BadAt i → added string bytes entries counts ≡ BadUtf8 i
+  pub wrong : (i : ℕ) → check_from 0 string ≡ Err (utf8.BadAt i) → added string bytes entries counts ≡ BadUtf8 i
   unfolding added
   wrong i e = rw e
 
-  pub cut : (i : ℕ) → check_from 0 string ≡ utf8.CutAt i → added string bytes entries counts ≡ CutUtf8 i
+  pub cut : (i : ℕ) → check_from 0 string ≡ Err (utf8.CutAt i) → added string bytes entries counts ≡ CutUtf8 i
   unfolding added
   cut i e = rw e
 
-  pub unfit : check_from 0 string ≡ utf8.Fine → fit_pool bytes entries counts ≡ false → added string bytes entries counts ≡ BadState
+  pub unfit : check_from 0 string ≡ Ok tt → fit_pool bytes entries counts ≡ false → added string bytes entries counts ≡ BadState
   unfolding added
   unfit e f = rw (e, f)
 
-  pub unrefused : check_from 0 string ≡ utf8.Fine → fit_pool bytes entries counts ≡ true
+  pub unrefused : check_from 0 string ≡ Ok tt → fit_pool bytes entries counts ≡ true
       → added string bytes entries counts ≡ added_to_fit string bytes entries counts
   unfolding added
   unrefused e f = rw (e, f)
@@ -250,7 +250,7 @@ module _ (string bytes entries : List ℕ) (counts : Counts) where
       → new_entries ≡ entries_after string counts r entries → AddsString string counts bytes entries new_bytes new_entries r
   settled e f g = record { answer = e; bytes_left = rw (sym e) f; entries_left = rw (sym e) g }
 
-  pub adds_fine : check_from 0 string ≡ utf8.Fine → fit_pool bytes entries counts ≡ true → {new_bytes new_entries : List ℕ} {r : Added}
+  pub adds_fine : check_from 0 string ≡ Ok tt → fit_pool bytes entries counts ≡ true → {new_bytes new_entries : List ℕ} {r : Added}
       → AddsToFit string counts bytes entries new_bytes new_entries r → AddsString string counts bytes entries new_bytes new_entries r
   adds_fine w f a = settled (a.answer ∙ sym (unrefused w f)) a.bytes_left a.entries_left
 
@@ -285,13 +285,13 @@ module _ (string bytes entries : List ℕ) (counts : Counts) where
   unfolding added
   leaves = go (check_from 0 string)
     where
-      go : (u : Utf8Check) → Leaves (on_utf8 u (pick (fit_pool bytes entries counts) (added_to_fit string bytes entries counts) BadState))
-      go utf8.Fine =
+      go : (u : Result (Unit {0}) Utf8Error) → Leaves (on_utf8 u (pick (fit_pool bytes entries counts) (added_to_fit string bytes entries counts) BadState))
+      go (Ok _) =
           by_test Leaves (fit_pool bytes entries counts)
           (λ e. leaves_placed (fit_of entries counts (entry_room entries) (byte_room bytes) e))
           (λ e. tt)
-      go (utf8.BadAt i) = tt
-      go (utf8.CutAt i) = tt
+      go (Err (utf8.BadAt i)) = tt
+      go (Err (utf8.CutAt i)) = tt
 
   module _ (new_bytes new_entries : List ℕ) (r : Added) (p : AddsString string counts bytes entries new_bytes new_entries r) where
     -- an index answered: the pool is fit again, and its strings are those before, with this one at their end where it was absent
@@ -343,14 +343,14 @@ module _
 
 -- a string with an index is well formed
 index_fine : (string bytes entries : List ℕ) (counts : Counts) {i : ℕ} {after : Counts} → added string bytes entries counts ≡ Index i after
-    → check_from 0 string ≡ utf8.Fine
+    → check_from 0 string ≡ Ok tt
 unfolding added
 index_fine string bytes entries counts {i} {after} = go (check_from 0 string)
   where
-    go : (u : Utf8Check) → on_utf8 u (pick (fit_pool bytes entries counts) (added_to_fit string bytes entries counts) BadState) ≡ Index i after → u ≡ utf8.Fine
-    go utf8.Fine e = refl
-    go (utf8.BadAt n) e = absurd (let z : ◌≡◌ {A = ℕ} 0 1 = cc in omega arith)
-    go (utf8.CutAt n) e = absurd (let z : ◌≡◌ {A = ℕ} 0 1 = cc in omega arith)
+    go : (u : Result (Unit {0}) Utf8Error) → on_utf8 u (pick (fit_pool bytes entries counts) (added_to_fit string bytes entries counts) BadState) ≡ Index i after → u ≡ Ok tt
+    go (Ok _) e = refl
+    go (Err (utf8.BadAt n)) e = absurd (let z : ◌≡◌ {A = ℕ} 0 1 = cc in omega arith)
+    go (Err (utf8.CutAt n)) e = absurd (let z : ◌≡◌ {A = ℕ} 0 1 = cc in omega arith)
 
 -- a string that was added is there: adding it again answers the same
 pub added_again : (string bytes entries : List ℕ) (counts : Counts) (new_bytes new_entries : List ℕ) (i : ℕ) (after : Counts)

@@ -114,9 +114,9 @@ pub fn refusal_of(string: &[u8]) -> Added
     ensures { result ≡ refusal_at string.now }
 {
     match utf8::check_utf8(string) {
-        utf8::Utf8Check::BadAt(i) => Added::BadUtf8(i),
-        utf8::Utf8Check::CutAt(i) => Added::CutUtf8(i),
-        utf8::Utf8Check::Fine => Added::BadState,
+        Err(utf8::Utf8Error::BadAt(i)) => Added::BadUtf8(i),
+        Err(utf8::Utf8Error::CutAt(i)) => Added::CutUtf8(i),
+        Ok(()) => Added::BadState,
     }
 }
 
@@ -128,9 +128,9 @@ pub fn add_string(string: &[u8], bytes: &mut [u8], entries: &mut [u32], counts: 
         bytes.new entries.new result }
 {
     match utf8::check_utf8(string) {
-        utf8::Utf8Check::BadAt(i) => Added::BadUtf8(i),
-        utf8::Utf8Check::CutAt(i) => Added::CutUtf8(i),
-        utf8::Utf8Check::Fine => {
+        Err(utf8::Utf8Error::BadAt(i)) => Added::BadUtf8(i),
+        Err(utf8::Utf8Error::CutAt(i)) => Added::CutUtf8(i),
+        Ok(()) => {
             if !is_pool_fit(bytes, entries, counts) {
                 return Added::BadState;
             }

@@ -9,7 +9,7 @@
 use Prim.Native.Nat.{ℕ, zero, suc, ◌+◌, ◌-◌, ◌≤◌, ◌<◌}
 use native.Mathlib.Omega.{arith}
 use Rattle.std.proofs.Common.{add-zero, ◌∙◌}
-use Rattle.std.specs.Prelude.{◌≡◌, refl, ltb}
+use Rattle.std.specs.Prelude.{◌≡◌, refl, ltb, Ok, Err}
 use Rattle.std.proofs.Math.Path.{sym, ap, subst}
 use mathlib.Core.List.{List, [], ◌∷◌}
 use Rattle.std.proofs.Math.ListN.{length, take}
@@ -20,7 +20,6 @@ use Rattle.property.specs.Table.{properties_at}
 use Rattle.input.specs.Input.{input_check}
 use Rattle.input.specs.InputLaws.{by_input_lem}
 use Rattle.input.specs.declared.Refusal.{Refusal}
-use Rattle.input.specs.declared.Input.TheVariants as input
 use Rattle.rows.specs.Row.{put_rows, put_rows_at}
 use Rattle.rows.specs.RowLaws as rows
 use Rattle.rows.specs.declared.Row.{Row}
@@ -139,7 +138,7 @@ module _ (old source table : List ℕ) (edition n : ℕ) where
 
 module _ {layout : Layout} {source table : List ℕ} {edition : ℕ} {old : List ℕ} where
   -- a refusal that writes nothing
-  pub scans_refused : {x : Refusal} → input_check source_most source table edition ≡ input.Refused x
+  pub scans_refused : {x : Refusal} → input_check source_most source table edition ≡ Err x
       → ScansIn layout source table edition old (Refused x) old
   unfolding scanned
   scans_refused {x} c =
@@ -147,7 +146,7 @@ module _ {layout : Layout} {source table : List ℕ} {edition : ℕ} {old : List
       record { answer = sym e; words = sym (writes_none old source table edition (room_in layout old) layout e) }
 
   -- no refusal before any work: the records are read from the start
-  pub scans_fine : {st : State} {r : Scanned} {new : List ℕ} → input_check source_most source table edition ≡ input.Fine → st ≡ start_state
+  pub scans_fine : {st : State} {r : Scanned} {new : List ℕ} → input_check source_most source table edition ≡ Ok tt → st ≡ start_state
       → ReadsOnIn layout (properties_at table) edition source st 0 old r new → ScansIn layout source table edition old r new
   unfolding scanned
   scans_fine {st} {r} {new} c q g =

@@ -1,15 +1,14 @@
 -- A scan that is not refused has read the whole source: its bytes and its table are fit, every record has room, and each is written.
 --     end_whole, stuck_whole    of a scan that says End, and of one that says Stuck
 -- Assumes nothing.
-use Rattle.std.specs.Prelude.{ℕ, ◌+◌, ◌≤◌, ◌≡◌, List, ltb, length, take}
+use Rattle.std.specs.Prelude.{ℕ, ◌+◌, ◌≤◌, ◌≡◌, List, ltb, length, take, Result, Ok, Err}
 use Rattle.std.proofs.Common.{arith, sym, subst, ◌∙◌, take_all}
 use Rattle.std.proofs.Math.Path.{refl, ap}
 use Rattle.base.specs.PickLaws.{by_test, by_lt}
 use Rattle.base.specs.Refusal.{source_most}
 use Rattle.input.specs.Input.{input_check, Readable, on_input}
 use Rattle.input.specs.InputLaws.{fine_of}
-use Rattle.input.specs.declared.Input.{Input}
-use Rattle.input.specs.declared.Input.TheVariants as input
+use Rattle.input.specs.declared.Refusal.{Refusal}
 use Rattle.rows.specs.Row.{put_rows}
 use Rattle.half_rows.specs.Half.{put_halves}
 use Rattle.layout.specs.Layout.{room_in}
@@ -54,10 +53,10 @@ module _ (source table : List ℕ) (edition room : ℕ) where
   unfolding scanned
   scanned_means = by_check_lem (input_check source_most source table edition) refl
     where
-      by_check_lem : (c : Input) → input_check source_most source table edition ≡ c
+      by_check_lem : (c : Result (Unit {0}) Refusal) → input_check source_most source table edition ≡ c
           → Means source table edition room (on_input Refused c (by_room room 0 0 (reading_of source table edition)))
-      by_check_lem input.Fine e = read_means (fine_of source_most source table edition e)
-      by_check_lem (input.Refused x) e = tt
+      by_check_lem (Ok _) e = read_means (fine_of source_most source table edition e)
+      by_check_lem (Err x) e = tt
 
 -- all records are written
 module _ (old source table : List ℕ) (edition n : ℕ) (h : length (reading_of source table edition).rows ≤ n) {r : Scanned}

@@ -16,7 +16,7 @@ ghost use Rattle.stepping.specs.Invariant.{Ok};
 ghost use Rattle.reading.specs.Scan.{whole, FillsIn, ReadsOnIn, Scans, ScansIn};
 ghost use Rattle.reading.specs.Reading.{deep, stuck_reading};
 
-use input::{Input, SOURCE_MOST};
+use input::SOURCE_MOST;
 use layout::Layout;
 use lexer::{What, read_half};
 use reading::{Scanned, row_of};
@@ -107,8 +107,8 @@ fn scan_in(layout: Layout, source: &[u8], table: &[u32], edition: u32, list: &mu
     ensures { ScansIn layout source.now table.now edition list.old result list.new }
 {
     match input::check_input(source, table, edition, SOURCE_MOST) {
-        Input::Refused(refusal) => Scanned::Refused(refusal),
-        Input::Fine => read_on(layout, source, table, edition, State::new(), list, 0),
+        Err(refusal) => Scanned::Refused(refusal),
+        Ok(()) => read_on(layout, source, table, edition, State::new(), list, 0),
     }
 }
 

@@ -3,8 +3,9 @@
 --     Filled                     what the loop that fills a row keeps. `nothing_filled`, `one_more`, `all_filled`: start, a turn, the end
 --     filled_start               the numbers, in a row that was filled
 --     too_many                   a count that needs no reading
---     settled, reading           a return of `read_table`: its answer, by the rules for `search`, and its row
+--     settled                    a return of `read_table`: its answer, and its row
 -- Assumes nothing.
+use Rattle.std.specs.Prelude.{Result, Err}
 use Prim.Native.Nat.{ℕ, ◌+◌, ◌*◌, ◌<◌, ◌≤◌}
 use native.Mathlib.Omega.{arith}
 use native.Mathlib.Nat.{zero-add}
@@ -16,14 +17,12 @@ use lib.ListN.{length, get_or, set, take, drop, length-set}
 use lib.Seq.{paste, paste-zero, paste-suc, take_all, take_at}
 use borrow.Author.Tests.{le-leb, lt-leb}
 use Rattle.base.specs.CasesLaws.{cases}
-use Rattle.table_file.specs.File.{mark, mark_ok, number32, numbers_in, on_fit, read_table, row_after, ReadTableIs}
+use Rattle.table_file.specs.File.{mark, mark_ok, number32, numbers_in, read_table, row_after, ReadTableIs}
 use Rattle.table_file.specs.FileLaws.{length_numbers, number_at, later}
 use Rattle.fitness.specs.Fit.{table_check}
 use Rattle.fitness.specs.FitLaws.{bad_count}
-use Rattle.fitness.specs.declared.TableCheck.{TableCheck}
-use Rattle.fitness.specs.declared.TableCheck.TheVariants as table
-use Rattle.table_file.specs.declared.TableFile.{TableFile}
-use Rattle.table_file.specs.declared.TableFile.TheVariants.{BadTable}
+use Rattle.fitness.specs.declared.TableError.TheVariants as table
+use Rattle.table_file.specs.declared.TableFileError.{TableFileError}
 
 -- ---- the mark
 
@@ -75,20 +74,12 @@ module _ (file : List ℕ) (count : ℕ) (old : List ℕ) where
 pub filled_start : (count : ℕ) (bytes row rest : List ℕ) → row ≡ numbers_in count bytes ++ rest → take count row ≡ numbers_in count bytes
 filled_start count bytes row rest e = rw e (take_at (numbers_in count bytes) rest count (length_numbers count bytes))
 
-pub too_many : (count : ℕ) (bytes : List ℕ) → 8000 < count → table.BadTable 0 ≡ table_check (numbers_in count bytes)
+pub too_many : (count : ℕ) (bytes : List ℕ) → 8000 < count → Err (table.BadTable 0) ≡ table_check (numbers_in count bytes)
 too_many count bytes h =
     sym (bad_count (numbers_in count bytes) (rw (length_numbers count bytes, le-leb 1 count (omega arith), lt-leb count 8000 h)))
 
 -- ---- a return
 
-pub on_fit_lem : (r a : TableCheck) (b v : TableFile) → r ≡ a → r ≡ table.Fit → b ≡ v → on_fit a b ≡ v
-on_fit_lem r a b v e f g = let h : a ≡ table.Fit = sym e ∙ f in rw h g
-
-pub on_bad : (r a : TableCheck) (b : TableFile) (i : ℕ) → r ≡ a → r ≡ table.BadTable i → on_fit a b ≡ BadTable i
-on_bad r a b i e f = let h : a ≡ table.BadTable i = sym e ∙ f in rw h
-
-pub ruleset reading = (cases, on_fit_lem, on_bad)
-
 pub settled :
-    (file old new : List ℕ) (r : TableFile) → r ≡ read_table file (length old) → new ≡ row_after r file old → ReadTableIs file old new r
+    (file old new : List ℕ) (r : Result ℕ TableFileError) → r ≡ read_table file (length old) → new ≡ row_after r file old → ReadTableIs file old new r
 settled file old new r e k = record { answer = e; row = rw (sym e) k }

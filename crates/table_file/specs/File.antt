@@ -3,7 +3,7 @@
 -- last number is wrong; where no byte is wrong and some lack, it is the file's length. A count of 0 or over 8,000 in a file that is as long
 -- as it says is refusal 2 with place 0, after 4.
 -- Assumes nothing.
-use Rattle.std.specs.Prelude.{ℕ, zero, suc, ◌+◌, ◌*◌, ◌/◌, ◌%◌, ◌≡◌, List, [], ◌∷◌, ◌++◌, Bool, ◌&&◌, ltb, eqb, length, get_or, drop}
+use Rattle.std.specs.Prelude.{ℕ, zero, suc, ◌+◌, ◌*◌, ◌/◌, ◌%◌, ◌≡◌, List, [], ◌∷◌, ◌++◌, Bool, ◌&&◌, ltb, eqb, length, get_or, drop, Result, Ok, Err}
 use Prim.Native.Char.{code}
 use Prim.Native.String.{String}
 use Prim.Native.String as Text
@@ -11,10 +11,10 @@ use Rattle.base.specs.Pick.{pick}
 use Rattle.base.specs.Refusal as refusal
 use Rattle.fitness.specs.First.{first_bad}
 use Rattle.fitness.specs.Fit.{table_check}
-use Rattle.fitness.specs.declared.TableCheck.{TableCheck}
-use Rattle.fitness.specs.declared.TableCheck.TheVariants as table
-use Rattle.table_file.specs.declared.TableFile.{TableFile}
-use Rattle.table_file.specs.declared.TableFile.TheVariants.{Read, BadFile, ListFull, BadTable}
+use Rattle.fitness.specs.declared.TableError.{TableError}
+use Rattle.fitness.specs.declared.TableError.TheVariants as table
+use Rattle.table_file.specs.declared.TableFileError.{TableFileError}
+use Rattle.table_file.specs.declared.TableFileError.TheVariants.{BadFile, ListFull, BadTable}
 
 -- ---- the file of a table
 
@@ -77,51 +77,55 @@ end_of file = 8 + 4 * count_of file
 
 -- ---- reading it into a row
 
+-- the refusal that a table's fault is
+abbrev pub of_table : TableError → TableFileError
+of_table (table.BadTable place) = BadTable place
+
 -- the check of the numbers, and the answer where they are a fit table
-abbrev pub on_fit : TableCheck → TableFile → TableFile
-on_fit table.Fit answer = answer
-on_fit (table.BadTable place) answer = BadTable place
+abbrev pub on_fit : Result (Unit {0}) TableError → Result ℕ TableFileError → Result ℕ TableFileError
+on_fit (Ok _) answer = answer
+on_fit (Err e) answer = Err (of_table e)
 
 -- refusal 14 in the mark, and where bytes lack for the count, for the numbers, or are left over; refusal 4; refusal 2
-unfoldable pub read_table : List ℕ → ℕ → TableFile
+unfoldable pub read_table : List ℕ → ℕ → Result ℕ TableFileError
 read_table file room =
     let bad = first_bad (mark_ok file) 0 6 in
-    pick (ltb bad 6) (BadFile bad)
-    (pick (ltb (length file) 8) (BadFile (length file))
-    (pick (ltb (length file) (end_of file)) (BadFile (length file))
-    (pick (ltb (end_of file) (length file)) (BadFile (end_of file))
-    (pick (ltb room (count_of file)) ListFull
-    (on_fit (table_check (numbers_of file)) (Read (count_of file)))))))
+    pick (ltb bad 6) (Err (BadFile bad))
+    (pick (ltb (length file) 8) (Err (BadFile (length file)))
+    (pick (ltb (length file) (end_of file)) (Err (BadFile (length file)))
+    (pick (ltb (end_of file) (length file)) (Err (BadFile (end_of file)))
+    (pick (ltb room (count_of file)) (Err ListFull)
+    (on_fit (table_check (numbers_of file)) (Ok (count_of file)))))))
 
 -- the row after an answer: its start is filled, the rest stays; a refusal writes nothing
-abbrev pub row_after : TableFile → List ℕ → List ℕ → List ℕ
-row_after (Read count) file row = numbers_of file ++ drop count row
-row_after (BadFile place) file row = row
-row_after ListFull file row = row
-row_after (BadTable place) file row = row
+abbrev pub row_after : Result ℕ TableFileError → List ℕ → List ℕ → List ℕ
+row_after (Ok count) file row = numbers_of file ++ drop count row
+row_after (Err (BadFile place)) file row = row
+row_after (Err ListFull) file row = row
+row_after (Err (BadTable place)) file row = row
 
 -- what `read_table` ensures: its answer r, and the row `new` that it leaves of the row `old`
-pub record ReadTableIs (file old new : List ℕ) (r : TableFile) : Type 0 where
+pub record ReadTableIs (file old new : List ℕ) (r : Result ℕ TableFileError) : Type 0 where
   pub answer : r ≡ read_table file (length old)
   pub row : new ≡ row_after (read_table file (length old)) file old
 
 -- the answer's number
-abbrev pub number_of : TableFile → ℕ
-number_of (Read count) = refusal.none
-number_of (BadFile place) = refusal.bad_file
-number_of ListFull = refusal.list_full
-number_of (BadTable place) = refusal.bad_table
+abbrev pub number_of : Result ℕ TableFileError → ℕ
+number_of (Ok count) = refusal.none
+number_of (Err (BadFile place)) = refusal.bad_file
+number_of (Err ListFull) = refusal.list_full
+number_of (Err (BadTable place)) = refusal.bad_table
 
 -- its place: that of 4 is 0 for a file; 0 where there is none
-abbrev pub place_of : TableFile → ℕ
-place_of (Read count) = 0
-place_of (BadFile place) = place
-place_of ListFull = 0
-place_of (BadTable place) = place
+abbrev pub place_of : Result ℕ TableFileError → ℕ
+place_of (Ok count) = 0
+place_of (Err (BadFile place)) = place
+place_of (Err ListFull) = 0
+place_of (Err (BadTable place)) = place
 
 -- how many numbers were read; 0 on a refusal
-abbrev pub read_count : TableFile → ℕ
-read_count (Read count) = count
-read_count (BadFile place) = 0
-read_count ListFull = 0
-read_count (BadTable place) = 0
+abbrev pub read_count : Result ℕ TableFileError → ℕ
+read_count (Ok count) = count
+read_count (Err (BadFile place)) = 0
+read_count (Err ListFull) = 0
+read_count (Err (BadTable place)) = 0

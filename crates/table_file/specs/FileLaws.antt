@@ -7,7 +7,7 @@
 use Prim.Native.Nat.{ℕ, zero, suc, ◌+◌, ◌*◌, ◌/◌, ◌%◌, ◌<◌, ◌≤◌}
 use native.Mathlib.Omega.{arith}
 use Rattle.std.proofs.Common.{add_assoc, ◌∙◌, length-drop, take-append-drop, get_or-drop, drop-cons}
-use Rattle.std.specs.Prelude.{◌≡◌, refl, ltb, get_or, take}
+use Rattle.std.specs.Prelude.{◌≡◌, refl, ltb, get_or, take, Result, Ok, Err}
 use Rattle.std.proofs.Math.Path.{sym, ap}
 use mathlib.Core.List.{List, [], ◌∷◌, ◌++◌}
 use Rattle.std.proofs.Math.ListN.{length, drop, get_or-append}
@@ -19,13 +19,12 @@ use Rattle.fitness.specs.First.{first_bad}
 use Rattle.fitness.specs.FirstLaws.{none_bad, good_before}
 use Rattle.fitness.specs.Fit.{table_check}
 use Rattle.table_file.specs.File.{mark, bytes16, bytes32, number_bytes, file_of, mark_ok, number32, count_of, numbers_in, numbers_of, end_of, on_fit, read_table, ReadTableIs, number_of}
-use Rattle.fitness.specs.declared.TableCheck.{TableCheck}
-use Rattle.fitness.specs.declared.TableCheck.TheVariants as table
-use Rattle.table_file.specs.declared.TableFile.{TableFile}
-use Rattle.table_file.specs.declared.TableFile.TheVariants.{Read}
+use Rattle.fitness.specs.declared.TableError.{TableError}
+use Rattle.fitness.specs.declared.TableError.TheVariants as table
+use Rattle.table_file.specs.declared.TableFileError.{TableFileError}
 
 pub one_answer :
-    (file old new new' : List ℕ) (r r' : TableFile) → ReadTableIs file old new r → ReadTableIs file old new' r' → (r ≡ r') × (new ≡ new')
+    (file old new new' : List ℕ) (r r' : Result ℕ TableFileError) → ReadTableIs file old new r → ReadTableIs file old new' r' → (r ≡ r') × (new ≡ new')
 one_answer file old new new' r r' p q = (p.answer ∙ sym q.answer, p.row ∙ sym q.row)
 
 -- ---- the numbers of a file
@@ -87,7 +86,7 @@ module _ (numbers : List ℕ) where
       (eq-eqb (get_or mark i 0) (get_or mark i 0) refl))
 
   pub read_of_file :
-      (room : ℕ) → table_check numbers ≡ table.Fit → length numbers ≤ room → read_table (file_of numbers) room ≡ Read (length numbers)
+      (room : ℕ) → table_check numbers ≡ Ok tt → length numbers ≤ room → read_table (file_of numbers) room ≡ Ok (length numbers)
   unfolding read_table
   read_of_file room fit h =
       rw (
@@ -102,8 +101,8 @@ module _ (numbers : List ℕ) where
       )
 
   pub row_of_file :
-      (old new : List ℕ) (r : TableFile) → table_check numbers ≡ table.Fit → length numbers ≤ length old
-      → ReadTableIs (file_of numbers) old new r → (r ≡ Read (length numbers)) × (new ≡ numbers ++ drop (length numbers) old)
+      (old new : List ℕ) (r : Result ℕ TableFileError) → table_check numbers ≡ Ok tt → length numbers ≤ length old
+      → ReadTableIs (file_of numbers) old new r → (r ≡ Ok (length numbers)) × (new ≡ numbers ++ drop (length numbers) old)
   row_of_file old new r fit h is =
       let e = read_of_file (length old) fit h in
       (is.answer ∙ e, rw (e, numbers_of_file) at is.row)
@@ -139,13 +138,13 @@ bytes_back (suc n) (a ∷ b ∷ c ∷ d ∷ l) small e =
     ap (λ (k : List ℕ). k ++ number_bytes (numbers_in n l)) (four a b c d (small 0) (small 1) (small 2))
     ∙ ap (λ (k : List ℕ). a ∷ b ∷ c ∷ d ∷ k) (bytes_back n l (λ i. small (suc (suc (suc (suc i))))) (omega arith))
 
-read_fit : (a : TableCheck) (m n : ℕ) → on_fit a (Read m) ≡ Read n → (a ≡ table.Fit) × (m ≡ n)
-read_fit table.Fit m n e = (refl, cc)
-read_fit (table.BadTable i) m n e = absurd (let z : ◌≡◌ {A = ℕ} 0 1 = cc in omega arith)
+read_fit : (a : Result (Unit {0}) TableError) (m n : ℕ) → on_fit a (Ok m) ≡ Ok n → (a ≡ Ok tt) × (m ≡ n)
+read_fit (Ok _) m n e = (refl, cc)
+read_fit (Err (table.BadTable i)) m n e = absurd (let z : ◌≡◌ {A = ℕ} 0 1 = cc in omega arith)
 
 pub record FileRead (file : List ℕ) (room n : ℕ) : Type 0 where
   pub is : file ≡ file_of (numbers_of file)
-  pub fit : table_check (numbers_of file) ≡ table.Fit
+  pub fit : table_check (numbers_of file) ≡ Ok tt
   pub count : n ≡ length (numbers_of file)
   pub fits : n ≤ room
 
@@ -173,14 +172,14 @@ module _ (file : List ℕ) (small : Bytes file) where
       ∙ ap (λ (l : List ℕ). l ++ drop 6 file) (front m (omega arith))
       ∙ ap (λ (l : List ℕ). mark ++ l) (back e)
 
-  pub file_of_read : (room n : ℕ) → read_table file room ≡ Read n → FileRead file room n
+  pub file_of_read : (room n : ℕ) → read_table file room ≡ Ok n → FileRead file room n
   unfolding read_table
   file_of_read room n e =
-      let p = is_second (ltb (first_bad (mark_ok file) 0 6) 6) _ _ (Read n) (λ z. omega (arith, ap number_of z)) e in
-      let q = is_second (ltb (length file) 8) _ _ (Read n) (λ z. omega (arith, ap number_of z)) p.1 in
-      let r = is_second (ltb (length file) (end_of file)) _ _ (Read n) (λ z. omega (arith, ap number_of z)) q.1 in
-      let s = is_second (ltb (end_of file) (length file)) _ _ (Read n) (λ z. omega (arith, ap number_of z)) r.1 in
-      let t = is_second (ltb room (count_of file)) _ _ (Read n) (λ z. omega (arith, ap number_of z)) s.1 in
+      let p = is_second {A = Result ℕ TableFileError} (ltb (first_bad (mark_ok file) 0 6) 6) _ _ (Ok n) (λ z. omega (arith, ap number_of z)) e in
+      let q = is_second {A = Result ℕ TableFileError} (ltb (length file) 8) _ _ (Ok n) (λ z. omega (arith, ap number_of z)) p.1 in
+      let r = is_second {A = Result ℕ TableFileError} (ltb (length file) (end_of file)) _ _ (Ok n) (λ z. omega (arith, ap number_of z)) q.1 in
+      let s = is_second {A = Result ℕ TableFileError} (ltb (end_of file) (length file)) _ _ (Ok n) (λ z. omega (arith, ap number_of z)) r.1 in
+      let t = is_second {A = Result ℕ TableFileError} (ltb room (count_of file)) _ _ (Ok n) (λ z. omega (arith, ap number_of z)) s.1 in
       let u = read_fit (table_check (numbers_of file)) _ n t.1 in
       let low : end_of file ≤ length file = ltb-false _ _ r.0 in
       let high : length file ≤ end_of file = ltb-false _ _ s.0 in

@@ -2,41 +2,39 @@
 ghost use Rattle.std.specs.Prelude.{◌≡◌};
 ghost use Rattle.table_file.specs.File.{number_of, place_of, read_count};
 
-use crate::TableFile;
+use crate::TableFileError;
 use base::refusals::{BAD_FILE, BAD_TABLE, LIST_FULL, NO_REFUSAL};
 
 // The number of a reading's refusal; 0 where there is none.
-pub fn number_of(read: TableFile) -> u32
+pub fn number_of(read: Result<usize, TableFileError>) -> u32
     ensures { result ≡ number_of read }
 {
     match read {
-        TableFile::Read(_) => NO_REFUSAL,
-        TableFile::BadFile(_) => BAD_FILE,
-        TableFile::ListFull => LIST_FULL,
-        TableFile::BadTable(_) => BAD_TABLE,
+        Ok(_) => NO_REFUSAL,
+        Err(TableFileError::BadFile(_)) => BAD_FILE,
+        Err(TableFileError::ListFull) => LIST_FULL,
+        Err(TableFileError::BadTable(_)) => BAD_TABLE,
     }
 }
 
 // Its place; 0 where there is none.
-pub fn place_of(read: TableFile) -> usize
+pub fn place_of(read: Result<usize, TableFileError>) -> usize
     ensures { result ≡ place_of read }
 {
     match read {
-        TableFile::Read(_) => 0,
-        TableFile::BadFile(i) => i,
-        TableFile::ListFull => 0,
-        TableFile::BadTable(i) => i,
+        Ok(_) => 0,
+        Err(TableFileError::BadFile(i)) => i,
+        Err(TableFileError::ListFull) => 0,
+        Err(TableFileError::BadTable(i)) => i,
     }
 }
 
 // How many numbers were read; 0 on a refusal.
-pub fn count_of(read: TableFile) -> usize
+pub fn count_of(read: Result<usize, TableFileError>) -> usize
     ensures { result ≡ read_count read }
 {
     match read {
-        TableFile::Read(count) => count,
-        TableFile::BadFile(_) => 0,
-        TableFile::ListFull => 0,
-        TableFile::BadTable(_) => 0,
+        Ok(count) => count,
+        Err(_) => 0,
     }
 }

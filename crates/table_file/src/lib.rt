@@ -7,21 +7,29 @@ pub mod answer;
 ghost use Rattle.std.specs.Prelude.{◌≡◌, ◌++◌, ◌+◌, ◌*◌, ◌≤◌, length, drop};
 ghost use Rattle.fitness.specs.First.{first_bad};
 ghost use Rattle.fitness.specs.Fit.{table_check};
-ghost use Rattle.table_file.specs.File.{mark_ok, number16, number32, numbers_in, ReadTableIs};
+ghost use Rattle.table_file.specs.File.{mark_ok, number16, number32, numbers_in, of_table, ReadTableIs};
 
-use fitness::{MOST, TableCheck, check_table};
+use fitness::{MOST, TableError, check_table};
 
-// What reading a table file answers.
-#[derive(Clone, Copy)]
-pub enum TableFile {
-    // The count of numbers that now stand at the row's start.
-    Read(usize),
+// Why a table file is not read.
+#[derive(Clone, Copy, Debug, PartialEq, Eq)]
+pub enum TableFileError {
     // Refusal 14, with its place: the first bad byte, or the length where bytes lack.
     BadFile(usize),
     // Refusal 4: the row is shorter than the count. Its place is 0.
     ListFull,
     // Refusal 2, with the place that the check of a table gives it.
     BadTable(usize),
+}
+
+impl From<TableError> for TableFileError {
+    ghost from_gives = { λ e r. r ≡ of_table e };
+
+    fn from(e: TableError) -> TableFileError {
+        match e {
+            TableError::BadTable(i) => TableFileError::BadTable(i),
+        }
+    }
 }
 
 // "KPT", the version, the zero byte.
@@ -73,46 +81,43 @@ fn read_numbers(file: &[u8], count: usize, row: &mut [u32])
 
 // Whether the file's numbers are a fit table. Nothing is written on a refusal, so they are read into numbers of our own first; more than
 // 8,000 are a bad count whatever they are.
-fn check_numbers(file: &[u8], count: usize) -> TableCheck
+fn check_numbers(file: &[u8], count: usize) -> Result<(), TableError>
     requires { 8 + 4 * count ≤ length file.now }
     ensures { result ≡ table_check (numbers_in count (drop 8 file.now)) }
 {
     if MOST < count {
-        return TableCheck::BadTable(0);
+        return Err(TableError::BadTable(0));
     }
     let mut numbers = [0u32; MOST];
     read_numbers(file, count, &mut numbers);
     check_table(&numbers[..count])
 }
 
-// Reads a table file into the start of the row; the rest of the row stays. A refusal leaves the whole row as it was.
-pub fn read_table(file: &[u8], row: &mut [u32]) -> TableFile
+// Reads a table file into the start of the row, and tells how many numbers now stand there; the rest of the row stays. A refusal leaves the
+// whole row as it was.
+pub fn read_table(file: &[u8], row: &mut [u32]) -> Result<usize, TableFileError>
     ensures { ReadTableIs file.now row.old row.new result }
 {
     let bad = first_bad_byte(file);
     if bad < 6 {
-        return TableFile::BadFile(bad);
+        return Err(TableFileError::BadFile(bad));
     }
     let length = file.len();
     if length < 8 {
-        return TableFile::BadFile(length);
+        return Err(TableFileError::BadFile(length));
     }
     let count = number_16(file, 6) as usize;
     let end = 8 + 4 * count;
     if length < end {
-        return TableFile::BadFile(length);
+        return Err(TableFileError::BadFile(length));
     }
     if end < length {
-        return TableFile::BadFile(end);
+        return Err(TableFileError::BadFile(end));
     }
     if row.len() < count {
-        return TableFile::ListFull;
+        return Err(TableFileError::ListFull);
     }
-    match check_numbers(file, count) {
-        TableCheck::BadTable(place) => TableFile::BadTable(place),
-        TableCheck::Fit => {
-            read_numbers(file, count, row);
-            TableFile::Read(count)
-        }
-    }
+    check_numbers(file, count)?;
+    read_numbers(file, count, row);
+    Ok(count)
 }

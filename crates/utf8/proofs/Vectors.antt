@@ -1,11 +1,12 @@
 -- The definitions at written-out bytes: the examples of RFC 3629, section 7, and bytes that it forbids. antt computes each.
 -- Assumes nothing.
+use Rattle.std.specs.Prelude.{Err}
 use mathlib.Core.Path.{◌≡◌, refl}
 use mathlib.Core.List.{[], ◌∷◌}
 use Rattle.utf8.specs.Encode.{encode_all}
 use Rattle.utf8.specs.Chars.{chars, check_from}
 use Rattle.utf8.specs.CharsLaws.{computes}
-use Rattle.utf8.specs.declared.Utf8Check.TheVariants.{BadAt, CutAt}
+use Rattle.utf8.specs.declared.Utf8Error.TheVariants.{BadAt, CutAt}
 
 -- "A", not identical to, alpha, "."
 rfc1 : chars (0x41 ∷ 0xe2 ∷ 0x89 ∷ 0xa2 ∷ 0xce ∷ 0x91 ∷ 0x2e ∷ []) ≡ 0x41 ∷ 0x2262 ∷ 0x391 ∷ 0x2e ∷ []
@@ -32,27 +33,27 @@ unfolding computes
 rfc4 = refl
 
 -- an overlong form, a surrogate, a value past the last, a lone tail, each after an "A"
-overlong : check_from 0 (0x41 ∷ 0xc0 ∷ 0x80 ∷ []) ≡ BadAt 1
+overlong : check_from 0 (0x41 ∷ 0xc0 ∷ 0x80 ∷ []) ≡ Err (BadAt 1)
 unfolding computes
 overlong = refl
 
-surrogate : check_from 0 (0x41 ∷ 0xed ∷ 0xa1 ∷ 0x8c ∷ []) ≡ BadAt 1
+surrogate : check_from 0 (0x41 ∷ 0xed ∷ 0xa1 ∷ 0x8c ∷ []) ≡ Err (BadAt 1)
 unfolding computes
 surrogate = refl
 
-past : check_from 0 (0x41 ∷ 0xf4 ∷ 0x90 ∷ 0x80 ∷ 0x80 ∷ []) ≡ BadAt 1
+past : check_from 0 (0x41 ∷ 0xf4 ∷ 0x90 ∷ 0x80 ∷ 0x80 ∷ []) ≡ Err (BadAt 1)
 unfolding computes
 past = refl
 
-tail : check_from 0 (0x41 ∷ 0x80 ∷ []) ≡ BadAt 1
+tail : check_from 0 (0x41 ∷ 0x80 ∷ []) ≡ Err (BadAt 1)
 unfolding computes
 tail = refl
 
 -- cut by the end, against wrong before the end
-cut : check_from 0 (0x41 ∷ 0xf0 ∷ 0xa3 ∷ 0x8e ∷ []) ≡ CutAt 1
+cut : check_from 0 (0x41 ∷ 0xf0 ∷ 0xa3 ∷ 0x8e ∷ []) ≡ Err (CutAt 1)
 unfolding computes
 cut = refl
 
-bad : check_from 0 (0x41 ∷ 0xf0 ∷ 0x80 ∷ []) ≡ BadAt 1
+bad : check_from 0 (0x41 ∷ 0xf0 ∷ 0x80 ∷ []) ≡ Err (BadAt 1)
 unfolding computes
 bad = refl

@@ -1,12 +1,12 @@
 -- Document 01, "Refusal numbers", and document 02, C-3, of what `read_char` and `check_utf8` answer: wrong bytes are refusal 3, and a
 -- character that the end cuts is 15. How many bytes a character has is `len_of` (`Lengths`).
 -- Assumes nothing.
-use Rattle.std.specs.Prelude.{ℕ}
+use Rattle.std.specs.Prelude.{ℕ, Result, Ok, Err}
 use Rattle.base.specs.Refusal.{none, bad_utf8, cut_utf8}
 use Rattle.utf8.specs.declared.Read.{Read}
 use Rattle.utf8.specs.declared.Read.TheVariants.{Char, Bad, Cut}
-use Rattle.utf8.specs.declared.Utf8Check.{Utf8Check}
-use Rattle.utf8.specs.declared.Utf8Check.TheVariants.{Fine, BadAt, CutAt}
+use Rattle.utf8.specs.declared.Utf8Error.{Utf8Error}
+use Rattle.utf8.specs.declared.Utf8Error.TheVariants.{BadAt, CutAt}
 
 -- ---- one character
 
@@ -25,13 +25,13 @@ code_of Cut = 0
 -- ---- all bytes
 
 -- the number
-abbrev pub number_of : Utf8Check → ℕ
-number_of Fine = none
-number_of (BadAt i) = bad_utf8
-number_of (CutAt i) = cut_utf8
+abbrev pub number_of : Result (Unit {0}) Utf8Error → ℕ
+number_of (Ok _) = none
+number_of (Err (BadAt i)) = bad_utf8
+number_of (Err (CutAt i)) = cut_utf8
 
 -- the place: the offset of the first ill-formed sequence; 0 where there is none
-abbrev pub place_of : Utf8Check → ℕ
-place_of Fine = 0
-place_of (BadAt i) = i
-place_of (CutAt i) = i
+abbrev pub place_of : Result (Unit {0}) Utf8Error → ℕ
+place_of (Ok _) = 0
+place_of (Err (BadAt i)) = i
+place_of (Err (CutAt i)) = i

@@ -12,7 +12,7 @@
 --     After, after_chars       behind the first k characters of well-formed bytes
 --     computes                 `unfolding computes` opens every definition at once: at written-out bytes each then computes, by `refl`
 -- Assumes nothing.
-use Rattle.std.specs.Prelude.{ℕ, zero, suc, ◌+◌, ◌-◌, ◌<◌, ◌≤◌, ◌≡◌, refl, List, [], ◌∷◌, ◌++◌, length, get_or, take, drop}
+use Rattle.std.specs.Prelude.{ℕ, zero, suc, ◌+◌, ◌-◌, ◌<◌, ◌≤◌, ◌≡◌, refl, List, [], ◌∷◌, ◌++◌, length, get_or, take, drop, Ok, Err}
 use Rattle.std.proofs.Common.{arith, add-zero, sym, ap, subst, ◌∙◌, append_assoc, append-nil, length-append, length-drop, take-append-drop, drop_of_length-le, drop-drop, drop-cons, get_or-drop}
 use Rattle.std.proofs.Math.Seq.{drop-append_seam}
 use Rattle.base.specs.PickLaws.{split_lt}
@@ -25,7 +25,7 @@ use Rattle.utf8.specs.ReadLaws.{sound, complete}
 use Rattle.utf8.specs.Chars.{chars_in, chars, check_in, check_from, At}
 use Rattle.utf8.specs.declared.Read.{Read}
 use Rattle.utf8.specs.declared.Read.TheVariants.{Char, Bad, Cut}
-use Rattle.utf8.specs.declared.Utf8Check.TheVariants.{Fine, BadAt, CutAt}
+use Rattle.utf8.specs.declared.Utf8Error.TheVariants.{BadAt, CutAt}
 
 unfoldable pub computes : Unit {0}
 unfolding encode encode_all seq_len inside second_ok fourth third second head_of decode_head chars_in check_in
@@ -69,12 +69,12 @@ check_head i l c n e =
     split_head (λ l n. check_from i l ≡ check_from (i + n) (drop n l)) l c n e
     (λ b bs m p. rw p (check_skip (suc i) m bs ∙ ap (λ (j : ℕ). check_from j (drop m bs)) (omega arith)))
 
-check_bad : (i : ℕ) (l : List ℕ) → 0 < length l → decode_head l ≡ Bad → check_from i l ≡ BadAt i
+check_bad : (i : ℕ) (l : List ℕ) → 0 < length l → decode_head l ≡ Bad → check_from i l ≡ Err (BadAt i)
 unfolding check_in
 check_bad i [] h e = absurd (omega arith)
 check_bad i (b ∷ bs) h e = rw e
 
-check_cut : (i : ℕ) (l : List ℕ) → 0 < length l → decode_head l ≡ Cut → check_from i l ≡ CutAt i
+check_cut : (i : ℕ) (l : List ℕ) → 0 < length l → decode_head l ≡ Cut → check_from i l ≡ Err (CutAt i)
 unfolding check_in
 check_cut i [] h e = absurd (omega arith)
 check_cut i (b ∷ bs) h e = rw e
@@ -102,10 +102,10 @@ module _ (s : List ℕ) (i : ℕ) where
         step = chars_at c n e;
       }
 
-  pub bad_at : i < length s → read_at s i ≡ Bad → check_from i (drop i s) ≡ BadAt i
+  pub bad_at : i < length s → read_at s i ≡ Bad → check_from i (drop i s) ≡ Err (BadAt i)
   bad_at h e = check_bad i (drop i s) (rw length-drop (omega arith)) e
 
-  pub cut_at : i < length s → read_at s i ≡ Cut → check_from i (drop i s) ≡ CutAt i
+  pub cut_at : i < length s → read_at s i ≡ Cut → check_from i (drop i s) ≡ Err (CutAt i)
   cut_at h e = check_cut i (drop i s) (rw length-drop (omega arith)) e
 
   pub end_cut : length s ≤ i → read_at s i ≡ Cut
@@ -116,7 +116,7 @@ module _ (s : List ℕ) (i : ℕ) where
   unfolding chars_in
   chars_end h = rw (drop_of_length-le s h)
 
-  pub check_end : length s ≤ i → check_from i (drop i s) ≡ Fine
+  pub check_end : length s ≤ i → check_from i (drop i s) ≡ Ok tt
   unfolding check_in
   check_end h = rw (drop_of_length-le s h)
 
@@ -161,7 +161,7 @@ check_past i (c ∷ cs) t w =
 as_encoded : (l : List ℕ) (w : WellFormed l) → l ≡ encode_all w.points ++ []
 as_encoded l w = w.same ∙ sym (append-nil (encode_all w.points))
 
-pub fine_of_well : (i : ℕ) (l : List ℕ) → WellFormed l → check_from i l ≡ Fine
+pub fine_of_well : (i : ℕ) (l : List ℕ) → WellFormed l → check_from i l ≡ Ok tt
 unfolding check_in
 fine_of_well i l w = ap (λ (r : List ℕ). check_from i r) (as_encoded l w) ∙ check_past i w.points [] w.scalars
 
@@ -221,7 +221,7 @@ stopped_in zero (b ∷ bs) = go (decode_head (b ∷ bs)) refl (λ n. stopped_in 
 pub stopped : (l : List ℕ) → Stopped l
 stopped l = stopped_in 0 l
 
-never_fine : (i : ℕ) (l : List ℕ) → 0 < length l → Stops (decode_head l) → check_from i l ≡ Fine → ⊥
+never_fine : (i : ℕ) (l : List ℕ) → 0 < length l → Stops (decode_head l) → check_from i l ≡ Ok tt → ⊥
 never_fine i l h s e = go (decode_head l) refl s
   where
     go : (r : Read) → decode_head l ≡ r → Stops r → ⊥
@@ -229,7 +229,7 @@ never_fine i l h s e = go (decode_head l) refl s
     go Bad p s = let q = check_bad i l h p in let z : ◌≡◌ {A = ℕ} 0 1 = cc in omega arith
     go Cut p s = let q = check_cut i l h p in let z : ◌≡◌ {A = ℕ} 0 1 = cc in omega arith
 
-pub well_of_fine : (i : ℕ) (l : List ℕ) → check_from i l ≡ Fine → WellFormed l
+pub well_of_fine : (i : ℕ) (l : List ℕ) → check_from i l ≡ Ok tt → WellFormed l
 well_of_fine i l e = let r = stopped l in go r.points r.scalars r.rest r.same r.stops
   where
     go : (cs : List ℕ) → Scalars cs → (rest : List ℕ) → l ≡ encode_all cs ++ rest → Stops (decode_head rest) → WellFormed l

@@ -1,12 +1,12 @@
 -- What the answers of `read_char` and `check_utf8` mean, by `encode` alone. `MeaningLaws` proves that the definitions which the contracts
 -- cite (`read_at`, `check_from`) answer so, and that no other answer fits.
 -- Assumes nothing.
-use Rattle.std.specs.Prelude.{ℕ, ◌+◌, ◌<◌, ◌≤◌, ◌≡◌, List, ◌++◌, length, take, drop}
+use Rattle.std.specs.Prelude.{ℕ, ◌+◌, ◌<◌, ◌≤◌, ◌≡◌, List, ◌++◌, length, take, drop, Result, Ok, Err}
 use Rattle.utf8.specs.Encode.{Scalar, encode, WellFormed, Begins}
 use Rattle.utf8.specs.declared.Read.{Read}
 use Rattle.utf8.specs.declared.Read.TheVariants.{Char, Bad, Cut}
-use Rattle.utf8.specs.declared.Utf8Check.{Utf8Check}
-use Rattle.utf8.specs.declared.Utf8Check.TheVariants.{Fine, BadAt, CutAt}
+use Rattle.utf8.specs.declared.Utf8Error.{Utf8Error}
+use Rattle.utf8.specs.declared.Utf8Error.TheVariants.{BadAt, CutAt}
 
 -- the character c, in n bytes, stands at the place i of s
 pub record CharAt (s : List ℕ) (i c n : ℕ) : Type 0 where
@@ -37,7 +37,7 @@ pub record Damaged (s : List ℕ) (n : ℕ) : Type 0 where
   pub begins_none : Begins (drop n s) → ⊥
 
 -- r says whether s is well formed; if not, where it is not, and whether it is wrong there or still arriving
-abbrev pub CheckIs : List ℕ → Utf8Check → Type 0
-CheckIs s Fine = WellFormed s
-CheckIs s (BadAt n) = Damaged s n
-CheckIs s (CutAt n) = Arriving s n
+abbrev pub CheckIs : List ℕ → Result (Unit {0}) Utf8Error → Type 0
+CheckIs s (Ok _) = WellFormed s
+CheckIs s (Err (BadAt n)) = Damaged s n
+CheckIs s (Err (CutAt n)) = Arriving s n

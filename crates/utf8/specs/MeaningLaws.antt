@@ -5,7 +5,7 @@
 --     one_check             of two such answers, both are the same
 --     one_longest           there is one longest well-formed beginning
 -- Assumes nothing.
-use Rattle.std.specs.Prelude.{ℕ, ◌+◌, ◌<◌, ◌≤◌, ◌≡◌, refl, List, [], ◌∷◌, ◌++◌, length, take, drop}
+use Rattle.std.specs.Prelude.{ℕ, ◌+◌, ◌<◌, ◌≤◌, ◌≡◌, refl, List, [], ◌∷◌, ◌++◌, length, take, drop, Result, Ok, Err}
 use Rattle.std.proofs.Common.{arith, sym, ap, subst, ◌∙◌, append-nil, append_assoc, length-append, take-append-drop, length-take-le, take-take, take-add, take_at}
 use Rattle.std.proofs.Math.Seq.{drop-append_seam, take-append_seam}
 use Rattle.std.proofs.lemmas.List.{drop-append-le}
@@ -19,8 +19,8 @@ use Rattle.utf8.specs.CharsLaws.{at_char, bad_at, cut_at, check_past, Stops, sto
 use Rattle.utf8.specs.Meaning.{CharAt, ReadIs, Longest, CheckIs}
 use Rattle.utf8.specs.declared.Read.{Read}
 use Rattle.utf8.specs.declared.Read.TheVariants.{Char, Bad, Cut}
-use Rattle.utf8.specs.declared.Utf8Check.{Utf8Check}
-use Rattle.utf8.specs.declared.Utf8Check.TheVariants.{Fine, BadAt, CutAt}
+use Rattle.utf8.specs.declared.Utf8Error.{Utf8Error}
+use Rattle.utf8.specs.declared.Utf8Error.TheVariants.{BadAt, CutAt}
 
 -- ---- one character
 
@@ -116,7 +116,7 @@ module _ (s : List ℕ) where
       stuck n (record { points = cs; scalars = w; same = before }) (omega (arith, ap length p, length-append (encode_all cs) (b ∷ bs)))
       (subst (λ (r : List ℕ). Stops (decode_head r)) (sym rest) t)
 
-  pub check_is : (r : Utf8Check) → check_from 0 s ≡ r → CheckIs s r
+  pub check_is : (r : Result (Unit {0}) Utf8Error) → check_from 0 s ≡ r → CheckIs s r
   check_is r e = let t = stopped s in subst (CheckIs s) e (answer t.points t.scalars t.rest t.same t.stops)
 
   stops_at : (n : ℕ) → Longest s n → (c k : ℕ) → read_at s n ≡ Char c k → ⊥
@@ -124,17 +124,17 @@ module _ (s : List ℕ) where
       let a = at_char s n c k e in
       g.none_longer (n + k) (omega (arith, a.some)) a.fits (longer_by_char s n c k g.well e)
 
-  pub is_check : (r : Utf8Check) → CheckIs s r → check_from 0 s ≡ r
-  is_check Fine w = fine_of_well 0 s w
-  is_check (CutAt n) w =
+  pub is_check : (r : Result (Unit {0}) Utf8Error) → CheckIs s r → check_from 0 s ≡ r
+  is_check (Ok _) w = fine_of_well 0 s w
+  is_check (Err (CutAt n)) w =
       let g = w.before in
       check_behind s n (omega (arith, g.short)) g.well ∙ cut_at s n g.short (begins_cut (drop n s) w.begins)
-  is_check (BadAt n) w =
+  is_check (Err (BadAt n)) w =
       let g = w.before in
       check_behind s n (omega (arith, g.short)) g.well
       ∙ bad_at s n g.short (is_read s n Bad (λ c k v. stops_at n g c k (is_read s n (Char c k) v), w.begins_none))
 
-  pub one_check : (r q : Utf8Check) → CheckIs s r → CheckIs s q → r ≡ q
+  pub one_check : (r q : Result (Unit {0}) Utf8Error) → CheckIs s r → CheckIs s q → r ≡ q
   one_check r q v w = sym (is_check r v) ∙ is_check q w
 
 -- ---- for a caller

@@ -3,7 +3,7 @@ ghost use Rattle.std.specs.Prelude.{◌≡◌};
 ghost use Rattle.utf8.specs.Lengths.{len_of};
 ghost use Rattle.utf8.specs.Answer.{read_number, code_of, number_of, place_of};
 
-use crate::{Read, Utf8Check};
+use crate::{Read, Utf8Error};
 use base::refusals::{BAD_UTF8, CUT_UTF8, NO_REFUSAL};
 
 // The number of a reading's refusal; 0 where there is none.
@@ -40,23 +40,23 @@ pub fn read_len(read: Read) -> usize
 }
 
 // The number of a check's refusal; 0 where there is none.
-pub fn check_number(check: Utf8Check) -> u32
+pub fn check_number(check: Result<(), Utf8Error>) -> u32
     ensures { result ≡ number_of check }
 {
     match check {
-        Utf8Check::Fine => NO_REFUSAL,
-        Utf8Check::BadAt(_) => BAD_UTF8,
-        Utf8Check::CutAt(_) => CUT_UTF8,
+        Ok(()) => NO_REFUSAL,
+        Err(Utf8Error::BadAt(_)) => BAD_UTF8,
+        Err(Utf8Error::CutAt(_)) => CUT_UTF8,
     }
 }
 
 // Its place; 0 where there is none.
-pub fn check_place(check: Utf8Check) -> usize
+pub fn check_place(check: Result<(), Utf8Error>) -> usize
     ensures { result ≡ place_of check }
 {
     match check {
-        Utf8Check::Fine => 0,
-        Utf8Check::BadAt(i) => i,
-        Utf8Check::CutAt(i) => i,
+        Ok(()) => 0,
+        Err(Utf8Error::BadAt(i)) => i,
+        Err(Utf8Error::CutAt(i)) => i,
     }
 }

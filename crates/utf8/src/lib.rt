@@ -26,10 +26,9 @@ pub enum Read {
     Cut,
 }
 
-// Whether a whole slice is well formed.
-#[derive(Clone, Copy)]
-pub enum Utf8Check {
-    Fine,
+// Why a slice is not well formed.
+#[derive(Clone, Copy, Debug, PartialEq, Eq)]
+pub enum Utf8Error {
     // All before the place is well formed, and no character begins with the bytes from it on.
     BadAt(usize),
     // All before the place is well formed, and the bytes from it to the end, of which there are some, begin a character.
@@ -253,7 +252,7 @@ fn is_block(s: &[u8], at: usize) -> bool
 }
 
 // Whether all of s is well formed; if not, where the longest well-formed beginning ends, and whether the bytes there are wrong or cut.
-pub fn check_utf8(s: &[u8]) -> Utf8Check
+pub fn check_utf8(s: &[u8]) -> Result<(), Utf8Error>
     ensures { result ≡ check_from 0 s.now }
 {
     let mut i = 0;
@@ -279,12 +278,12 @@ pub fn check_utf8(s: &[u8]) -> Utf8Check
                 i += len;
             }
             Read::Bad => {
-                return Utf8Check::BadAt(i);
+                return Err(Utf8Error::BadAt(i));
             }
             Read::Cut => {
-                return Utf8Check::CutAt(i);
+                return Err(Utf8Error::CutAt(i));
             }
         }
     }
-    Utf8Check::Fine
+    Ok(())
 }

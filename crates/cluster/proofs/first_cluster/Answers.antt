@@ -9,14 +9,14 @@ use Rattle.cluster.proofs.first_cluster.Goals as goal
 
 pub cluster_end-requires : goal.cluster_end-requires
 cluster_end-requires c =
-    let g = fine_of _ _ _ _ (sym c.check_input.ensures ∙ c.in-Fine.is) in
+    let g = fine_of _ _ _ _ (sym c.check_input.ensures ∙ c.in_ok-check_input.was) in
     (g.well, (fit_of _ g.fit).rises)
 
-pub returns-in-Refused : goal.returns-in-Refused
-returns-in-Refused c = sym (refused _ _ _ (search rules))
+pub returns-in_err-check_input : goal.returns-in_err-check_input
+returns-in_err-check_input c = rw (refused _ _ _ (sym c.check_input.ensures ∙ c.in_err-check_input.was)) (search rules)
 
-pub returns-in-Fine : goal.returns-in-Fine
-returns-in-Fine c =
-    let g = fine_of _ _ _ _ (search rules) in
+pub returns : goal.returns
+returns c =
+    let g = fine_of _ _ _ _ (sym c.check_input.ensures ∙ c.in_ok-check_input.was) in
     let a = c.args in
     rw (unrefused a.source.now a.table.now a.edition g, c.cluster_end.ensures) refl

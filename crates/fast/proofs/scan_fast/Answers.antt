@@ -11,7 +11,7 @@ use Rattle.fast.proofs.scan_fast.Goals as goal
 
 pub read_on-requires : goal.read_on-requires
 read_on-requires c =
-    let g = fine_of _ _ _ _ (sym c.check_input.ensures ∙ c.in-Fine.is) in record {
+    let g = fine_of _ _ _ _ (sym c.check_input.ensures ∙ c.in-Ok.is) in record {
       ok = (
         subst (Ok _) (sym c.new.ensures) (start_ok_lem _ g.short g.well),
         fit_of _ g.fit,
@@ -20,9 +20,9 @@ read_on-requires c =
       class_table = c.classes-classes.ensures;
     }
 
-pub returns-in-Refused : goal.returns-in-Refused
-returns-in-Refused c = scans_refused (sym c.check_input.ensures ∙ c.in-Refused.is)
+pub returns-in-Err : goal.returns-in-Err
+returns-in-Err c = scans_refused (sym c.check_input.ensures ∙ c.in-Err.is)
 
-pub returns-in-Fine : goal.returns-in-Fine
-returns-in-Fine c =
-    scans_fine (sym c.check_input.ensures ∙ c.in-Fine.is) c.new.ensures c.read_on.ensures
+pub returns-in-Ok : goal.returns-in-Ok
+returns-in-Ok c =
+    scans_fine (sym c.check_input.ensures ∙ c.in-Ok.is) c.new.ensures c.read_on.ensures

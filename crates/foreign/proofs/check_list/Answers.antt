@@ -8,17 +8,17 @@ use Rattle.foreign.proofs.check_list.Goals as goal
 
 pub returns-then-room-count : goal.returns-then-room-count
 returns-then-room-count c =
-    is_short _ _ _ _ _ _ (sym c.check_input.ensures ∙ c.in-Fine.is) (omega (arith, c.if-room-count.true, c.room.ensures))
+    is_short _ _ _ _ _ _ (sym c.check_input.ensures ∙ c.in-Ok.is) (omega (arith, c.if-room-count.true, c.room.ensures))
 
 pub compare-requires : goal.compare-requires
 compare-requires c =
-    let g = fine_of _ _ _ _ (sym c.check_input.ensures ∙ c.in-Fine.is) in
+    let g = fine_of _ _ _ _ (sym c.check_input.ensures ∙ c.in-Ok.is) in
     (g.short, g.well, fit_of _ g.fit, omega (arith, c.if-room-count.false, c.room.ensures))
 
-pub returns-in-Refused : goal.returns-in-Refused
-returns-in-Refused c = is_refused _ _ _ _ _ _ (sym c.check_input.ensures ∙ c.in-Refused.is)
+pub returns-in-Err : goal.returns-in-Err
+returns-in-Err c = is_refused _ _ _ _ _ _ (sym c.check_input.ensures ∙ c.in-Err.is)
 
 pub returns-else-room-count : goal.returns-else-room-count
 returns-else-room-count c =
-    is_compared _ _ _ _ _ _ (sym c.check_input.ensures ∙ c.in-Fine.is) (omega (arith, c.if-room-count.false, c.room.ensures))
+    is_compared _ _ _ _ _ _ (sym c.check_input.ensures ∙ c.in-Ok.is) (omega (arith, c.if-room-count.false, c.room.ensures))
     c.compare.ensures

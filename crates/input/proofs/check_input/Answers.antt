@@ -1,13 +1,13 @@
 -- `input::check_input` meets its contract: the code takes the tests of `input_check` in its order. Assumes nothing.
 use mathlib.Core.Path.{sym, ◌∙◌}
+use Rattle.base.specs.CasesLaws.{cases}
 use Rattle.input.specs.Input.{input_check}
 use Rattle.input.specs.InputLaws.{is_rest}
-use Rattle.input.proofs.Answers.{answers}
 use Rattle.input.proofs.check_input.Goals as goal
 
 pub returns-then-most-bytes : goal.returns-then-most-bytes
 unfolding input_check
-returns-then-most-bytes c = sym (search answers depth 12)
+returns-then-most-bytes c = sym (search cases)
 
 pub returns-then-code_between : goal.returns-then-code_between
 returns-then-code_between c =
@@ -16,4 +16,4 @@ returns-then-code_between c =
 
 pub returns : goal.returns
 unfolding input_check
-returns c = sym (search answers depth 12)
+returns c = sym (search cases)

@@ -12,15 +12,15 @@ use Rattle.scan.proofs.scan_in.Goals as goal
 
 pub read_on-requires : goal.read_on-requires
 read_on-requires c =
-    let g = fine_of _ _ _ _ (sym c.check_input.ensures ∙ c.in-Fine.is) in (
+    let g = fine_of _ _ _ _ (sym c.check_input.ensures ∙ c.in-Ok.is) in (
       subst (Ok _) (sym c.new.ensures) (start_ok_lem _ g.short g.well),
       fit_of _ g.fit,
       omega arith,
     )
 
-pub returns-in-Refused : goal.returns-in-Refused
-returns-in-Refused c = scans_refused (sym c.check_input.ensures ∙ c.in-Refused.is)
+pub returns-in-Err : goal.returns-in-Err
+returns-in-Err c = scans_refused (sym c.check_input.ensures ∙ c.in-Err.is)
 
-pub returns-in-Fine : goal.returns-in-Fine
-returns-in-Fine c =
-    scans_fine (sym c.check_input.ensures ∙ c.in-Fine.is) c.new.ensures (search rules)
+pub returns-in-Ok : goal.returns-in-Ok
+returns-in-Ok c =
+    scans_fine (sym c.check_input.ensures ∙ c.in-Ok.is) c.new.ensures (search rules)
