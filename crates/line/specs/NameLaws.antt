@@ -2,7 +2,7 @@
 -- theirs is passed by a newline.
 --     whitespace_line, number_line, id_or_keyword_line, ignored_line, symbol-line
 -- Assumes nothing.
-use Rattle.std.specs.Prelude.{ℕ, suc, ◌+◌, ◌*◌, ◌≤◌, ◌≡◌, Bool, true, false, ◌&&◌, ◌||◌, ltb, eqb, length, take, drop}
+use Rattle.std.specs.Prelude.{ℕ, suc, ◌+◌, ◌*◌, ◌≤◌, ◌≡◌, Bool, true, false, ◌&&◌, ◌||◌, ltb, eqb, length, take, drop, Option, Some, None}
 use Rattle.std.proofs.Common.{arith, ◌∙◌, length-append}
 use Rattle.std.proofs.Math.Path.{refl, sym, ap}
 use mathlib.Core.List.{List, [], ◌∷◌}
@@ -27,8 +27,6 @@ use Rattle.state.specs.declared.Lexer.{Lexer}
 use Rattle.numbers.specs.ConsumeWhitespace.{consume_whitespace}
 use Rattle.numbers.specs.ConsumeNumber.{next_passes, exponent_bytes, is_fraction, fraction_bytes, tail_bytes, zero_bytes, number_bytes, consume_number}
 use Rattle.names.specs.ConsumeIdOrKeyword.{name_end, name_bytes, parse_raw_string_start, keyword_or_id, or_else, raw_or_name, name_token, consume_id_or_keyword, consume_ignored}
-use Rattle.names.specs.declared.RawStart.{RawStart}
-use Rattle.names.specs.declared.RawStart.TheVariants.{Opens, Nothing}
 use Rattle.line.specs.Line.{line}
 use Rattle.line.specs.LineLaws.{next_line_lem, count_line, rest_line, run_line, run_most}
 
@@ -195,8 +193,8 @@ raw_start_line p q r =
     rest : List ℕ
     rest = drop k p
 
-    found_at : Bool → Bool → ℕ → RawStart
-    found_at double single n = pick (ltb 255 n) Nothing (pick double (Opens (2 * n)) (pick single (Opens (2 * n + 1)) Nothing))
+    found_at : Bool → Bool → ℕ → Option ℕ
+    found_at double single n = pick (ltb 255 n) None (pick double (Some (2 * n)) (pick single (Some (2 * n + 1)) None))
 
     up_to : (x : List ℕ) → parse_raw_string_start (line p x) ≡ found_at (next_is double_quote (line rest x)) (next_is single_quote (line rest x)) k
     up_to x =
