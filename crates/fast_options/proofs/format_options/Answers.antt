@@ -14,7 +14,7 @@ use Rattle.options.specs.ConsumeFormatOptions.{find_brace}
 use Rattle.plain.specs.PlainLaws.{plain_none, plain_token}
 use Rattle.fast_options.specs.OptionsLaws.{Apart, apart_by, lands, options_to, brace_on}
 use Rattle.fast_options.proofs.format_options.Goals as goal
-use Rattle.fast_options.proofs.format_options.Goals.{After-skip_ascii, In-At}
+use Rattle.fast_options.proofs.format_options.Goals.{After-skip_ascii, In-Some}
 
 abbrev src : After-skip_ascii → List ℕ
 src k = k.args.source.now

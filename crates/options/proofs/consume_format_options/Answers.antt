@@ -14,7 +14,7 @@ use Rattle.state.specs.Lexer.{reach_of}
 use Rattle.options.specs.ConsumeFormatOptions.{skip_bytes, find_brace}
 use Rattle.options.specs.StandsLaws.{skip_lands, Braced, brace_from, brace_behind, options_by}
 use Rattle.options.proofs.consume_format_options.Goals as goal
-use Rattle.options.proofs.consume_format_options.Goals.{After-find_brace, After-skip_fill, In-At}
+use Rattle.options.proofs.consume_format_options.Goals.{After-find_brace, After-skip_fill, In-Some}
 
 abbrev src : After-skip_fill → List ℕ
 src k = k.args.source.now
