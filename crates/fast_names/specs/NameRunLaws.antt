@@ -1,5 +1,4 @@
 -- What passing the parts of a name at once does to its end.
---     part_once             a part of a name passes at once
 --     runs_on, runs_count   a run behind others that were passed, and one that ends in a block
 --     name_over             the run is over where an ASCII character stands that is no part
 --     name_reach            a name of ASCII characters reaches to where its parts end
@@ -13,13 +12,13 @@ use Rattle.fitness.specs.Fit.{FitTable}
 use Rattle.fitness.specs.Ascii.{is_name_part}
 use Rattle.text.specs.Bytes.{byte_at}
 use Rattle.text.specs.Chars.{LenIs}
-use Rattle.text.specs.CountLaws.{along_stands, once_ascii}
+use Rattle.text.specs.CountLaws.{along_stands, id_continue_once}
 use Rattle.text.specs.Stands.{Stands, chars_from}
 use Rattle.state.specs.Lexer.{reach_of}
 use Rattle.state.specs.declared.Lexer.{Lexer}
 use Rattle.names.specs.ConsumeIdOrKeyword.{name_end}
 use Rattle.names.specs.NameLaws.{ascii_len, name_end_at}
-pub use Rattle.name_runs.specs.RunsLaws.{part_once, name_over}
+pub use Rattle.name_runs.specs.RunsLaws.{name_over}
 use Rattle.skip.specs.Skip.{Passed, Counts}
 use Rattle.skip.specs.SkipLaws.{passes_on, passes_count}
 use Rattle.skip.specs.PastLaws.{past_end, past_from, past_ran}
@@ -42,7 +41,7 @@ module _ (table s : List ℕ) (fit : FitTable table) (l : Lexer) (o : Stands s (
   starts =
       let i = (reach_of l).byte.0 in
       let h : i < length s = omega (arith, run.passed.within) in
-      rw (lt-ltb i (length s) h) (once_ascii (get_or s i 0) 1 (part_once (get_or s i 0) (run.passed.stays i (omega arith) some)))
+      rw (lt-ltb i (length s) h) (id_continue_once.ascii (get_or s i 0) (run.passed.stays i (omega arith) some))
 
   letter : LenIs s (reach_of l).byte.0 1
   letter = ascii_len (byte_at s (reach_of l).byte.0) o.well refl starts
@@ -73,6 +72,6 @@ module _ (table s : List ℕ) (fit : FitTable table) (l : Lexer) (o : Stands s (
   name_reach =
       sym
       (name_over table s fit end (past_end first rest refl) refl low run.over
-      ∙ (past_ran s table fit 1 part_once behind (past_from rest refl)).same
+      ∙ (past_ran s table fit id_continue_once (λ x e. e) behind (past_from rest refl)).same
       ∙ name_end_at (properties_at table) s l {r = first} refl letter.at refl)
       ∙ whole

@@ -2,7 +2,6 @@
 --     run_is, run_has          the run of a number; and of a code point that it has
 --     keeps_has                a run that has the code point by its own numbers
 --     point_is                 a character with the properties of the run that has it
---     part_once                a part of a name passes at once
 --     name_over                the run is over where an ASCII character stands that is no part
 -- Assumes nothing.
 use Rattle.std.specs.Prelude.{ℕ, ◌+◌, ◌≤◌, ◌<◌, ◌≡◌, true, false, List, length, get_or, drop}
@@ -18,7 +17,7 @@ use Rattle.fitness.specs.Ascii.{is_name_part}
 use Rattle.fitness.specs.SmallLaws.{ascii_continue}
 use Rattle.text.specs.Bytes.{byte_at}
 use Rattle.text.specs.Chars.{CharIs}
-use Rattle.text.specs.Tests.{test_utf8, test_utf8_of, at_once}
+use Rattle.text.specs.Tests.{id_continue, test_utf8_of}
 use Rattle.text.specs.Count.{run_test}
 use Rattle.text.specs.CountLaws.{run_stop}
 use Rattle.text.specs.Stands.{chars_from}
@@ -60,18 +59,14 @@ point_is {s} {table} {i} w {p} e d =
 
 -- ---- the parts of a name
 
-pub part_once : (x : ℕ) → is_name_part x ≡ true → at_once 1 x ≡ true
-unfolding at_once
-part_once x e = e
-
 pub name_over : (table s : List ℕ) → FitTable table → (r : Reach) {j b : ℕ} → j ≡ r.byte.0 → b ≡ byte_at s j → b < 128
-    → (j < length s → is_name_part (get_or s j 0) ≡ false) → r ≡ run_test (properties_at table) 1 r (chars_from s r)
-unfolding test_utf8
+    → (j < length s → is_name_part (get_or s j 0) ≡ false) → r ≡ run_test (properties_at table) id_continue r (chars_from s r)
+unfolding id_continue
 name_over table s fit r {j} {b} at e h over =
     let look = properties_at table in
     let k : j < length s = byte_within s j b (sym e) (omega arith) in
     let g : b ≡ get_or s j 0 = e ∙ rw (lt-ltb j (length s) k) in
-    let stops : test_utf8_of look 1 b ≡ false = ascii_continue table fit b h ∙ ap is_name_part g ∙ over k in
+    let stops : test_utf8_of look id_continue b ≡ false = ascii_continue table fit b h ∙ ap is_name_part g ∙ over k in
     sym
-    (ap (λ (i : ℕ). run_test look 1 r (chars (drop i s))) (sym at)
-    ∙ run_stop look (test_utf8_of look 1) r s j b 1 (ascii_head s j b (sym e) h) stops)
+    (ap (λ (i : ℕ). run_test look id_continue r (chars (drop i s))) (sym at)
+    ∙ run_stop look (test_utf8_of look id_continue) r s j b 1 (ascii_head s j b (sym e) h) stops)

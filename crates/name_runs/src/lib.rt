@@ -119,7 +119,7 @@ pub struct Ended {
 // How far the parts of a name from `start` on reach. The run is tried first.
 pub fn end_of_parts(source: &[u8], table: &[u32], start: Reach, first: Run) -> Ended
     requires { Stands source.now start × FitTable table.now × RunIs table.now first }
-    ensures { result.reach ≡ run_test (properties_at table.now) 1 start (chars_from source.now start) }
+    ensures { result.reach ≡ run_test (properties_at table.now) id_continue start (chars_from source.now start) }
 {
     let mut reach = start;
     let mut i = reach.byte.0;

@@ -11,5 +11,5 @@ use Rattle.numbers.specs.PlaceLaws.{run_end}
 use Rattle.names.specs.ConsumeIdOrKeyword.{parse_raw_string_start}
 use Rattle.names.specs.NameLaws.{raw_start_at}
 
-pub too_many : (s : List ℕ) (i : ℕ) → PlaceIn s i → 255 < run_end 5 s i - i → parse_raw_string_start (chars (drop i s)) ≡ None
-too_many s i p h = raw_start_at p refl ∙ rw (lt-ltb 255 (run_end 5 s i - i) h) refl
+pub too_many : (s : List ℕ) (i : ℕ) → PlaceIn s i → 255 < run_end is_hash s i - i → parse_raw_string_start (chars (drop i s)) ≡ None
+too_many s i p h = raw_start_at p refl ∙ rw (lt-ltb 255 (run_end is_hash s i - i) h) refl

@@ -10,7 +10,7 @@ use Rattle.utf8.specs.Encode.{encode_all}
 use Rattle.token.specs.Kind.{id, dot, else, else_if, underscore, string_start}
 use Rattle.words.specs.Words.{is_word, starts_with, else_word, else_if_word, r_word}
 use Rattle.keywords.specs.Keywords.{keyword_of}
-use Rattle.text.specs.Tests.{double_quote, single_quote, hash_test, id_continue_test, test_of}
+use Rattle.text.specs.Tests.{double_quote, single_quote, is_hash, id_continue}
 use Rattle.text.specs.Count.{len_utf8, count_while, run_test}
 use Rattle.text.specs.Follow.{next_is}
 use Rattle.state.specs.Modes.{raw_start, mode_code, hash_count_of}
@@ -24,7 +24,7 @@ use Rattle.state.specs.declared.Taken.{Taken}
 -- `consume_and_count_utf8(&mut chars, is_id_continue)` after the first character, which has already been matched
 unfoldable pub name_end : (ℕ → ℕ) → List ℕ → Lexer → Reach
 name_end look [] l = reach_of l
-name_end look (c ∷ cs) l = run_test look id_continue_test (along_by (len_utf8 c) 1 (reach_of l)) cs
+name_end look (c ∷ cs) l = run_test look id_continue (along_by (len_utf8 c) 1 (reach_of l)) cs
 
 -- the bytes that are left from `self.current_byte` on
 abbrev pub remaining : List ℕ → List ℕ
@@ -39,7 +39,7 @@ name_bytes l end = end.byte.0 - (reach_of l).byte.0
 -- `parse_raw_string_start`: up to 255 hashes and a quote; cs are the characters after the "r"
 unfoldable pub parse_raw_string_start : List ℕ → Option ℕ
 parse_raw_string_start cs =
-    let count = count_while (test_of hash_test) cs in
+    let count = count_while is_hash cs in
     pick (ltb 255 count) None
     (pick (next_is double_quote (drop count cs)) (Some (2 * count))
     (pick (next_is single_quote (drop count cs)) (Some (2 * count + 1)) None))

@@ -25,13 +25,13 @@ use Rattle.words.specs.Words.{is_word, starts_with, else_word, else_if_word, r_w
 use Rattle.keywords.specs.Keywords.{keyword_of}
 use Rattle.words.specs.WordsLaws.{starts_within}
 use Rattle.text.specs.Bytes.{byte_at}
-use Rattle.text.specs.Tests.{double_quote, single_quote, test_of, test_utf8_of}
+use Rattle.text.specs.Tests.{double_quote, single_quote, is_hash, id_continue, test_utf8_of}
 use Rattle.text.specs.Count.{len_utf8, count_while, run_test}
 use Rattle.text.specs.Follow.{next_is}
 use Rattle.text.specs.Stands.{Stands, chars_from}
 use Rattle.text.specs.Chars.{LenIs}
 use Rattle.text.specs.FollowLaws.{here, next_is_lem, ascii_read, ascii_head}
-use Rattle.text.specs.CountLaws.{skip_run, along_stands, run_stands}
+use Rattle.text.specs.CountLaws.{hash_ascii, skip_run, along_stands, run_stands}
 use Rattle.state.specs.Lexer.{reach_of, token_along, token_to}
 use Rattle.state.specs.declared.Lexer.{Lexer}
 use Rattle.numbers.specs.Places.{PlaceIn, GoesOn}
@@ -41,20 +41,20 @@ use Rattle.names.specs.Decided.{Small, RawDecides}
 
 -- ---- the start of a raw string
 
-pub raw_start_at : {s : List ℕ} {i j : ℕ} → PlaceIn s i → j ≡ run_end 5 s i
+pub raw_start_at : {s : List ℕ} {i j : ℕ} → PlaceIn s i → j ≡ run_end is_hash s i
     → parse_raw_string_start (chars (drop i s))
     ≡ pick (ltb 255 (j - i)) None
     (pick (eqb (byte_at s j) double_quote) (Some (2 * (j - i))) (pick (eqb (byte_at s j) single_quote) (Some (2 * (j - i) + 1)) None))
 unfolding parse_raw_string_start
 raw_start_at {s} {i} {j} p e =
-    let k = skip_run 5 s i p.well in
-    let n : count_while (test_of 5) (chars (drop i s)) ≡ j - i = omega (arith, e) in
-    rw (k.rest, next_is_lem s (run_end 5 s i) double_quote k.well (omega arith), next_is_lem s (run_end 5 s i) single_quote k.well (omega arith), ← e, n)
+    let k = skip_run hash_ascii s i p.well in
+    let n : count_while is_hash (chars (drop i s)) ≡ j - i = omega (arith, e) in
+    rw (k.rest, next_is_lem s (run_end is_hash s i) double_quote k.well (omega arith), next_is_lem s (run_end is_hash s i) single_quote k.well (omega arith), ← e, n)
 
 pub raw_small : (cs : List ℕ) → Small (parse_raw_string_start cs)
 unfolding parse_raw_string_start
 raw_small cs =
-    let n = count_while (test_of 5) cs in
+    let n = count_while is_hash cs in
     by_lt Small 255 n (λ _. tt)
     (λ h. by_test Small (next_is double_quote (drop n cs)) (λ _. omega arith)
     (λ _. by_test Small (next_is single_quote (drop n cs)) (λ _. omega arith) (λ _. tt)))
@@ -77,21 +77,21 @@ ascii_len {s} {i} d w e h = record { code = d; at = ascii_head s i d e h; well =
 
 -- an end of a name as `name_end` has it
 abbrev pub Ends : (ℕ → ℕ) → Lexer → (List ℕ → Reach) → Type 0
-Ends look l end = (c : ℕ) (cs : List ℕ) → end (c ∷ cs) ≡ run_test look 1 (along_by (len_utf8 c) 1 (reach_of l)) cs
+Ends look l end = (c : ℕ) (cs : List ℕ) → end (c ∷ cs) ≡ run_test look id_continue (along_by (len_utf8 c) 1 (reach_of l)) cs
 
 -- the run after the first character, from where it ends
 end_at : (look : ℕ → ℕ) (s : List ℕ) (l : Lexer) (end : List ℕ → Reach) {q r : Reach} {c n : ℕ} → Ends look l end
     → q ≡ reach_of l → At s q.byte.0 c n → r ≡ along_by n 1 q
-    → run_test look 1 r (chars (drop r.byte.0 s)) ≡ end (chars_from s (reach_of l))
+    → run_test look id_continue r (chars (drop r.byte.0 s)) ≡ end (chars_from s (reach_of l))
 end_at look s l end {q} {r} {c} {n} is e a f =
-    ap (λ (x : Reach). run_test look 1 x (chars (drop x.byte.0 s))) f
-    ∙ ap (λ (k : ℕ). run_test look 1 (along_by k 1 q) (chars (drop (q.byte.0 + n) s))) (sym a.width)
-    ∙ ap (λ (x : Reach). run_test look 1 (along_by (len_utf8 c) 1 x) (chars (drop (q.byte.0 + n) s))) e
+    ap (λ (x : Reach). run_test look id_continue x (chars (drop x.byte.0 s))) f
+    ∙ ap (λ (k : ℕ). run_test look id_continue (along_by k 1 q) (chars (drop (q.byte.0 + n) s))) (sym a.width)
+    ∙ ap (λ (x : Reach). run_test look id_continue (along_by (len_utf8 c) 1 x) (chars (drop (q.byte.0 + n) s))) e
     ∙ sym (is c _)
     ∙ ap end (sym a.step ∙ ap (chars_from s) e)
 
 pub name_end_at : (look : ℕ → ℕ) (s : List ℕ) (l : Lexer) {q r : Reach} {c n : ℕ} → q ≡ reach_of l → At s q.byte.0 c n → r ≡ along_by n 1 q
-    → run_test look 1 r (chars (drop r.byte.0 s)) ≡ name_end look (chars_from s (reach_of l)) l
+    → run_test look id_continue r (chars (drop r.byte.0 s)) ≡ name_end look (chars_from s (reach_of l)) l
 unfolding name_end
 name_end_at look s l = end_at look s l (λ cs. name_end look cs l) (λ c cs. search refl)
 
@@ -100,7 +100,7 @@ pub end_goes : (look : ℕ → ℕ) (s : List ℕ) (l : Lexer) (end : List ℕ �
 end_goes look s l end is o h =
     let c = here s (reach_of l).byte.0 o.well h in
     let first = along_by c.len 1 (reach_of l) in
-    let g = run_stands look (test_utf8_of look 1) s first (along_stands s (reach_of l) c.code c.len 1 o c.at c.well (omega arith)) in
+    let g = run_stands look (test_utf8_of look id_continue) s first (along_stands s (reach_of l) c.code c.len 1 o c.at c.well (omega arith)) in
     subst (GoesOn s (reach_of l)) (end_at look s l end {r = first} is refl c.at refl)
     (record { stands = g.stands; on = omega (arith, g.on, c.at.some) })
 

@@ -19,7 +19,7 @@ ghost use Rattle.names.specs.Decided.{RawDecides};
 use base::chars::{DOUBLE_QUOTE, SINGLE_QUOTE};
 use position::Reach;
 use state::{Change, Lexer, Taken};
-use text::{byte_at, run_end};
+use text::{Hash, IdContinue, byte_at, run_end, run_utf8};
 use token::kinds;
 
 // lexer.rs `parse_raw_string_start`: up to 255 hashes and a quote, at `at`. They give the delimiter: twice the hash count, and 1 more for a
@@ -29,7 +29,7 @@ fn parse_raw_string_start(source: &[u8], at: usize) -> Option<u16>
     requires { PlaceIn source.now at }
     ensures { result ≡ parse_raw_string_start (chars (drop at source.now)) }
 {
-    let quote_at = run_end(source, at, text::HASH);
+    let quote_at = run_end::<Hash>(source, at);
     let hash_count = quote_at - at;
     if 255 < hash_count {
         return None;
@@ -119,7 +119,7 @@ fn name_end(source: &[u8], table: &[u32], lexer: Lexer, len: usize) -> Reach
     ensures { result ≡ name_end (properties_at table.now) (chars_from source.now (reach_of lexer)) lexer }
 {
     let reach = lexer.reach();
-    text::run_utf8(source, table, reach.along(len, 1), text::ID_CONTINUE)
+    run_utf8::<IdContinue>(source, table, reach.along(len, 1))
 }
 
 // lexer.rs `consume_id_or_keyword`. The first character has already been matched.

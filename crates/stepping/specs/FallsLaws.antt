@@ -19,7 +19,7 @@ use Rattle.keywords.specs.Keywords.{keyword_of}
 use Rattle.symbols.specs.Symbols.{symbol_of}
 use Rattle.symbols.specs.declared.Symbol.{Symbol}
 use Rattle.symbols.specs.SymbolsLaws.{symbol_is}
-use Rattle.text.specs.Tests.{cr, lf, minus, letter_u, backslash, is_whitespace, is_line_end, is_digit, test_utf8_of}
+use Rattle.text.specs.Tests.{cr, lf, minus, letter_u, backslash, is_whitespace, is_line_end, is_digit, no_line_end, id_continue, test_utf8_of}
 use Rattle.text.specs.Count.{len_utf8, count_while, run_utf8, run_test}
 use Rattle.text.specs.Follow.{next_is, Followed, Closed, Open, Stopped, follow_in, follow, drop_bytes}
 use Rattle.text.specs.declared.Turn.{Turn}
@@ -135,7 +135,7 @@ module _ (l : Lexer) where
       by_test (Falls l) (next_is minus (drop 1 cs))
       (λ _. comment_token_lem (follow (comment_turn look) (along_by 1 1 (reach_of l)) (drop 1 cs))
       (follow_from (comment_turn look) 0 (along_by 1 1 (reach_of l)) (drop 1 cs)))
-      (λ _. On (omega (arith, run_from look (test_utf8_of look 0) (along_by 1 1 (reach_of l)) (drop 1 cs))))
+      (λ _. On (omega (arith, run_from look (test_utf8_of look no_line_end) (along_by 1 1 (reach_of l)) (drop 1 cs))))
 
   literal_token_lem : (f : Followed) → From ((reach_of l).byte.0 + 1) f → Falls l (literal_token l f)
   literal_token_lem (Closed end) h = On (omega arith)
@@ -185,7 +185,7 @@ module _ (l : Lexer) where
 
   name_on : (look : ℕ → ℕ) (c : ℕ) (cs : List ℕ) → (reach_of l).byte.0 < (name_end look (c ∷ cs) l).byte.0
   unfolding name_end
-  name_on look c cs = omega (arith, len_some c, run_from look (test_utf8_of look 1) (along_by (len_utf8 c) 1 (reach_of l)) cs)
+  name_on look c cs = omega (arith, len_some c, run_from look (test_utf8_of look id_continue) (along_by (len_utf8 c) 1 (reach_of l)) cs)
 
   module _ (cs : List ℕ) (end : Reach) (h : (reach_of l).byte.0 < end.byte.0) where
     keyword_falls : Falls l (keyword_or_id cs end l)

@@ -23,10 +23,10 @@ use Rattle.symbols.specs.Symbols.{symbol_of}
 use Rattle.symbols.specs.declared.Symbol.{Symbol}
 use Rattle.symbols.specs.SymbolsLaws.{symbol_is}
 use Rattle.text.specs.Bytes.{byte_at}
-use Rattle.text.specs.Tests.{is_whitespace, is_line_end, is_digit, test_of}
+use Rattle.text.specs.Tests.{is_whitespace, is_line_end, is_digit}
 use Rattle.text.specs.Stands.{Stands, chars_from}
 use Rattle.text.specs.FollowLaws.{Here, here}
-use Rattle.text.specs.CountLaws.{test_ascii}
+use Rattle.text.specs.CountLaws.{whitespace_ascii}
 use Rattle.state.specs.Modes.{literal, template_expr_format, raw_start, raw_end, tag_of, delimiter_of, quote_of}
 use Rattle.state.specs.Lexer.{reach_of}
 use Rattle.state.specs.declared.Lexer.{Lexer}
@@ -211,8 +211,7 @@ module _ (s : List ℕ) (l : Lexer) (o : Stands s (reach_of l)) (h : (reach_of l
       (λ _. steps_go (literal_steps s l o look quote q)))
 
   blank_is : (c : ℕ) → is_whitespace c ≡ true → c < 128
-  unfolding test_of
-  blank_is c e = test_ascii c 0 e
+  blank_is c e = whitespace_ascii c e
 
   in_code_goes : (table : List ℕ) → FitTable table → Goes s l (in_code (properties_at table) (next_char cs) cs l)
   unfolding in_code

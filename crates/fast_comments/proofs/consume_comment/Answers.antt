@@ -48,7 +48,7 @@ stands c = subst (Stands _) (sym (begins (goal.at.After-byte_at c).After-along_a
 
 -- past what stays
 ran : (c : After-pass-near) → Ran (properties_at c.args.table.now) 0 c.args.source.now c.along_ascii-start.result c.pass-near.result
-ran c = past_ran _ _ c.requires.stands.1 0 line_stays (stands (goal.at.After-pass-near c).After-byte_at) c.pass-near.ensures
+ran c = past_ran _ _ c.requires.stands.1 no_line_end_once line_stays (stands (goal.at.After-pass-near c).After-byte_at) c.pass-near.ensures
 
 pub pass-near-requires : goal.pass-near-requires
 pass-near-requires c = stands (goal.at.pass-near-requires c).After-byte_at
