@@ -20,7 +20,7 @@ use Rattle.fitness.specs.Ascii.{is_printable}
 use Rattle.fitness.specs.SmallLaws.{ascii_width}
 use Rattle.token.specs.Kind.{comment_single}
 use Rattle.text.specs.Bytes.{byte_at}
-use Rattle.text.specs.Tests.{hash, minus}
+use Rattle.text.specs.Tests.{hash, minus, no_line_end}
 use Rattle.text.specs.Count.{len_utf8, run_test}
 use Rattle.text.specs.CountLaws.{skip_one}
 use Rattle.text.specs.Follow.{next_is, turn_at}

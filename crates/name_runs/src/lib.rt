@@ -8,6 +8,7 @@ ghost use Rattle.utf8.specs.Encode.{WellFormed};
 ghost use Rattle.property.specs.Table.{properties_at, Rises};
 ghost use Rattle.fitness.specs.Fit.{FitTable};
 ghost use Rattle.fitness.specs.Ascii.{is_name_part};
+ghost use Rattle.text.specs.Tests.{id_continue};
 ghost use Rattle.text.specs.Count.{run_test};
 ghost use Rattle.text.specs.Stands.{Stands, chars_from};
 ghost use Rattle.name_runs.specs.Runs.{run_at, RunIs, RunHas, PointIs};

@@ -6,6 +6,7 @@ use lib.ListN.{drop}
 use borrow.Author.Tests.{lt-ltb}
 use Rattle.std.specs.Prelude.{None}
 use Rattle.utf8.specs.Chars.{chars}
+use Rattle.text.specs.Tests.{is_hash}
 use Rattle.numbers.specs.Places.{PlaceIn}
 use Rattle.numbers.specs.PlaceLaws.{run_end}
 use Rattle.names.specs.ConsumeIdOrKeyword.{parse_raw_string_start}

@@ -13,7 +13,8 @@ use Rattle.keywords.specs.Keywords.{keyword_of}
 use Rattle.token.specs.Kind.{id, dot}
 use Rattle.words.specs.WordsLaws.{ascii}
 use Rattle.text.specs.Bytes.{byte_at}
-use Rattle.text.specs.Tests.{double_quote, single_quote}
+use Rattle.text.specs.Tests.{double_quote, single_quote, is_hash}
+use Rattle.text.specs.CountLaws.{hash_ascii}
 use Rattle.text.specs.Stands.{Stands, chars_from}
 use Rattle.state.specs.Modes.{hash_count_of}
 use Rattle.state.specs.Lexer.{reach_of}
@@ -41,8 +42,8 @@ Opened s i None = Unit {0}
 
 opened : {s : List ℕ} {i : ℕ} → PlaceIn s i → Opened s i (parse_raw_string_start (chars (drop i s)))
 opened {s} {i} p =
-    let j = run_end 5 s i in
-    let quote : byte_at s j < 128 → PlaceIn s (j + 1) = next_place (run_place p 5) in
+    let j = run_end is_hash s i in
+    let quote : byte_at s j < 128 → PlaceIn s (j + 1) = next_place (run_place p hash_ascii) in
     subst (Opened s i) (sym (raw_start_at p refl))
     (by_test (Opened s i) (ltb 255 (j - i)) (λ _. tt)
     (λ _. by_eq (Opened s i) (byte_at s j) double_quote (λ e. subst (PlaceIn s) (omega arith) (quote (omega arith)))

@@ -9,7 +9,7 @@ use Rattle.position.specs.Place.{along_by}
 use Rattle.property.specs.Parts.{width_of, xid_continue}
 use Rattle.text.specs.Tests.{id_continue}
 use Rattle.text.specs.Chars.{CharIs}
-use Rattle.text.specs.CountLaws.{width_most_lem}
+use Rattle.text.specs.CountLaws.{width_most_lem, id_continue_once}
 use Rattle.text.proofs.Runs.{running, runs_well, runs_fit, runs_on, runs_fall, runs_stop, runs_end, once_on, once_fall}
 use Rattle.name_runs.specs.RunsLaws.{char_by, point_is, name_over}
 use Rattle.name_runs.proofs.end_of_parts.Goals as goal
@@ -31,12 +31,12 @@ along_ascii-reach-requires c =
 
 pub loop-i-smaller-then-b-lt128 : goal.loop-i-smaller-then-b-lt128
 loop-i-smaller-then-b-lt128 c =
-    once_fall _ _ _ c.loop-i.invariant.0 c.requires.1 c.loop-i-test.true
+    once_fall _ _ _ c.loop-i.invariant.0 id_continue_once c.requires.1 c.loop-i-test.true
     (sym c.is_part.ensures ∙ c.if-not-is_part.false) _ c.along_ascii-reach.ensures
 
 pub loop-i-preserved-then-b-lt128 : goal.loop-i-preserved-then-b-lt128
 loop-i-preserved-then-b-lt128 c = (
-  once_on _ _ _ c.loop-i.invariant.0 c.requires.1 c.loop-i-test.true
+  once_on _ _ _ c.loop-i.invariant.0 id_continue_once c.requires.1 c.loop-i-test.true
       (sym c.is_part.ensures ∙ c.if-not-is_part.false) _ c.along_ascii-reach.ensures,
   c.loop-i.invariant.1,
 )
