@@ -1,5 +1,6 @@
 -- What passing the parts of a name at once does to its end.
 --     runs_on, runs_count   a run behind others that were passed, and one that ends in a block
+--     part_once             a part of a name passes at once
 --     name_over             the run is over where an ASCII character stands that is no part
 --     name_reach            a name of ASCII characters reaches to where its parts end
 -- Assumes nothing.
@@ -18,7 +19,7 @@ use Rattle.state.specs.Lexer.{reach_of}
 use Rattle.state.specs.declared.Lexer.{Lexer}
 use Rattle.names.specs.ConsumeIdOrKeyword.{name_end}
 use Rattle.names.specs.NameLaws.{ascii_len, name_end_at}
-pub use Rattle.name_runs.specs.RunsLaws.{name_over}
+pub use Rattle.name_runs.specs.RunsLaws.{part_once, name_over}
 use Rattle.skip.specs.Skip.{Passed, Counts}
 use Rattle.skip.specs.SkipLaws.{passes_on, passes_count}
 use Rattle.skip.specs.PastLaws.{past_end, past_from, past_ran}

@@ -2,6 +2,7 @@
 --     run_is, run_has          the run of a number; and of a code point that it has
 --     keeps_has                a run that has the code point by its own numbers
 --     point_is                 a character with the properties of the run that has it
+--     part_once                a part of a name passes at once
 --     name_over                the run is over where an ASCII character stands that is no part
 -- Assumes nothing.
 use Rattle.std.specs.Prelude.{ℕ, ◌+◌, ◌≤◌, ◌<◌, ◌≡◌, true, false, List, length, get_or, drop}
@@ -19,7 +20,7 @@ use Rattle.text.specs.Bytes.{byte_at}
 use Rattle.text.specs.Chars.{CharIs}
 use Rattle.text.specs.Tests.{id_continue, test_utf8_of}
 use Rattle.text.specs.Count.{run_test}
-use Rattle.text.specs.CountLaws.{run_stop}
+use Rattle.text.specs.CountLaws.{run_stop, Once, id_continue_once}
 use Rattle.text.specs.Stands.{chars_from}
 use Rattle.text.specs.FollowLaws.{byte_within, ascii_head}
 use Rattle.text.specs.declared.Char.{Char}
@@ -58,6 +59,9 @@ point_is {s} {table} {i} w {p} e d =
     record { at = at_char s i p.code p.len e; properties = d.has; well = rest_at s i p.code p.len w e }
 
 -- ---- the parts of a name
+
+pub part_once : (table : List ℕ) → FitTable table → (x : ℕ) → is_name_part x ≡ true → Once table id_continue x
+part_once = id_continue_once.passes
 
 pub name_over : (table s : List ℕ) → FitTable table → (r : Reach) {j b : ℕ} → j ≡ r.byte.0 → b ≡ byte_at s j → b < 128
     → (j < length s → is_name_part (get_or s j 0) ≡ false) → r ≡ run_test (properties_at table) id_continue r (chars_from s r)

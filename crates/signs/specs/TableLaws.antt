@@ -137,8 +137,8 @@ is_sign kind len None = false
 
 sign_is : (kind len : ℕ) (x : Option Symbol) → is_sign kind len x ≡ true → x ≡ Some (symbol kind len)
 sign_is kind len (Some x) e =
-    let both = (and-eq-true_iff (eqb k kind) (eqb n len)).0 e in
-    rw (eqb-true k kind both.0, eqb-true n len both.1)
+    let both = (and-eq-true_iff (eqb x.kind kind) (eqb x.len len)).0 e in
+    λ i. Some (symbol (eqb-true x.kind kind both.0 i) (eqb-true x.len len both.1 i))
 sign_is kind len None e = no_two e
 
 -- the value v says nothing, or what is so of the byte b with such a byte behind it, and not of two dots
