@@ -18,7 +18,7 @@ use Rattle.uax29.specs.Uax29.{joined}
 use Rattle.cluster.specs.First.{before, go_on, cluster_size, first_size, second_is}
 use Rattle.cluster.specs.FirstLaws.{Agree}
 use Rattle.token.specs.Kind.{underscore, comment_single}
-use Rattle.text.specs.Tests.{test_utf8, minus, less, caret, greater, no_line_end_test, id_continue_test}
+use Rattle.text.specs.Tests.{minus, less, caret, greater, no_line_end, id_continue}
 use Rattle.text.specs.Count.{len_utf8, run_utf8, run_test}
 use Rattle.text.specs.Follow.{next_is, Closed, Stopped, follow_in, drop_bytes}
 use Rattle.text.specs.declared.Turn.{Turn}
@@ -53,11 +53,11 @@ module _ (f g : ℕ → ℕ) where
   agree_drop (suc k) [] a = tt
   agree_drop (suc k) (c ∷ cs) a = agree_drop k cs a.1
 
-  run_agrees : (test : ℕ) (r : Reach) (cs : List ℕ) → Agree f g cs → run_test f test r cs ≡ run_test g test r cs
+  run_agrees : (test : ℕ → ℕ → Bool) (r : Reach) (cs : List ℕ) → Agree f g cs → run_test f test r cs ≡ run_test g test r cs
   unfolding run_utf8
   run_agrees test r [] a = refl
   run_agrees test r (c ∷ cs) a =
-      λ i. elim (test_utf8 test c (a.0 i)) [ true ↦ run_agrees test (along_by (len_utf8 c) (width_of (a.0 i)) r) cs a.1 i | false ↦ r ]
+      λ i. elim (test c (a.0 i)) [ true ↦ run_agrees test (along_by (len_utf8 c) (width_of (a.0 i)) r) cs a.1 i | false ↦ r ]
 
   -- a turn that asks for the properties of its own character alone
   turns_agree : (turn : (ℕ → ℕ) → ℕ → List ℕ → Turn) → ((c : ℕ) (rest : List ℕ) → f c ≡ g c → turn f c rest ≡ turn g c rest)
@@ -83,7 +83,7 @@ module _ (f g : ℕ → ℕ) where
       let start = along_by 1 1 (reach_of l) in
       λ i. pick (next_is minus cs)
       (comment_token l (follow_agrees (comment_turn f) (comment_turn g) 0 start cs (turns_agree comment_turn comment_turn_lem cs a) i))
-      (token_to comment_single (run_agrees no_line_end_test start cs a i) l)
+      (token_to comment_single (run_agrees no_line_end start cs a i) l)
 
   pub literal_agrees : (quote : ℕ) (cs : List ℕ) (l : Lexer) → Agree f g cs
       → consume_string_literal f quote cs l ≡ consume_string_literal g quote cs l
@@ -105,7 +105,7 @@ module _ (f g : ℕ → ℕ) where
 
   name_agrees : (c : ℕ) (cs : List ℕ) (l : Lexer) → Agree f g cs → name_end f (c ∷ cs) l ≡ name_end g (c ∷ cs) l
   unfolding name_end
-  name_agrees c cs l a = run_agrees id_continue_test (along_by (len_utf8 c) 1 (reach_of l)) cs a
+  name_agrees c cs l a = run_agrees id_continue (along_by (len_utf8 c) 1 (reach_of l)) cs a
 
   pub id_or_keyword_agrees : (c : ℕ) (cs : List ℕ) (l : Lexer) → Agree f g cs
       → consume_id_or_keyword f (c ∷ cs) l ≡ consume_id_or_keyword g (c ∷ cs) l

@@ -4,14 +4,13 @@
 --     opens_string                   a quote
 --     opens_in_template, closes_in   a symbol of a template
 -- Assumes nothing.
-use Rattle.std.specs.Prelude.{ℕ, ◌+◌, ◌<◌, ◌≡◌, refl, Bool, true, false, List, ◌∷◌, eqb, length, get_or, drop}
+use Rattle.std.specs.Prelude.{ℕ, ◌+◌, ◌<◌, ◌≡◌, refl, Bool, true, false, List, ◌∷◌, eqb, length, get_or, drop, Some}
 use Rattle.std.proofs.Common.{arith, sym, ap, subst, ◌∙◌, lt-ltb}
 use Rattle.property.specs.Table.{properties_at}
 use Rattle.fitness.specs.Fit.{FitTable}
 use Rattle.token.specs.Kind.{error, string_start, curly_close}
 use Rattle.token.specs.Token.{token_of}
-use Rattle.symbols.specs.Symbols.{symbol_of}
-use Rattle.symbols.specs.declared.SymbolAt.TheVariants.{Is}
+use Rattle.symbols.specs.Symbols.{symbol_of, symbol}
 use Rattle.text.specs.Bytes.{byte_at}
 use Rattle.text.specs.Stands.{Stands, chars_from}
 use Rattle.state.specs.Lexer.{reach_of}
@@ -49,7 +48,7 @@ module _ (s table : List ℕ) (fit : FitTable table) (l : Lexer) (o : Stands s (
 
   -- a symbol of one byte
   sign_of : (b kind : ℕ) (change : Change) → b < 128 → action_of b ≡ 8 → get_or s (reach_of l).byte.0 0 ≡ b → eqb kind error ≡ false
-      → symbol_of (b ∷ drop ((reach_of l).byte.0 + 1) s) ≡ Is kind 1 → symbol_change l.mode kind ≡ change
+      → symbol_of (b ∷ drop ((reach_of l).byte.0 + 1) s) ≡ Some (symbol kind 1) → symbol_change l.mode kind ≡ change
       → code_taken s table l ≡ one_byte (token_of kind) change l
   sign_of b kind change k a e n is c =
       let g : byte_at s (reach_of l).byte.0 ≡ b = rw (lt-ltb (reach_of l).byte.0 (length s) h) e in
@@ -61,11 +60,11 @@ module _ (s table : List ℕ) (fit : FitTable table) (l : Lexer) (o : Stands s (
   opens_string b n delimiter code k a d e q = subst (OpensIs s table l) (sym q) (record { is = λ _. arm_of_lem b n k a e ∙ d })
 
   pub opens_in_template : {r : Opening} (b kind code : ℕ) → b < 128 → action_of b ≡ 8 → get_or s (reach_of l).byte.0 0 ≡ b
-      → symbol_of (b ∷ drop ((reach_of l).byte.0 + 1) s) ≡ Is kind 1 → symbol_change l.mode kind ≡ Push code
+      → symbol_of (b ∷ drop ((reach_of l).byte.0 + 1) s) ≡ Some (symbol kind 1) → symbol_change l.mode kind ≡ Push code
       → r ≡ record { token = token_of kind; code = code } → OpensIs s table l r
   opens_in_template b kind code k a e is c q =
       subst (OpensIs s table l) (sym q) (record { is = λ n. sign_of b kind (Push code) k a e n is c })
 
   pub closes_in : (b : ℕ) → b < 128 → action_of b ≡ 8 → get_or s (reach_of l).byte.0 0 ≡ b
-      → symbol_of (b ∷ drop ((reach_of l).byte.0 + 1) s) ≡ Is curly_close 1 → symbol_change l.mode curly_close ≡ Pop → {yes : Bool} → ClosesIs s table l yes
+      → symbol_of (b ∷ drop ((reach_of l).byte.0 + 1) s) ≡ Some (symbol curly_close 1) → symbol_change l.mode curly_close ≡ Pop → {yes : Bool} → ClosesIs s table l yes
   closes_in b k a e is c = record { is = λ _. sign_of b curly_close Pop k a e refl is c }

@@ -20,7 +20,7 @@ use Rattle.fitness.specs.Ascii.{is_printable}
 use Rattle.fitness.specs.SmallLaws.{ascii_width}
 use Rattle.token.specs.Kind.{comment_single}
 use Rattle.text.specs.Bytes.{byte_at}
-use Rattle.text.specs.Tests.{hash, minus}
+use Rattle.text.specs.Tests.{hash, minus, no_line_end}
 use Rattle.text.specs.Count.{len_utf8, run_test}
 use Rattle.text.specs.CountLaws.{skip_one}
 use Rattle.text.specs.Follow.{next_is, turn_at}
@@ -67,7 +67,7 @@ module _ (s : List ℕ) (l : Lexer) (w : WellFormed (drop (reach_of l).byte.0 s)
   pub comment_from : (look : ℕ → ℕ) → r ≡ along_by 1 1 (reach_of l) → byte_at s (reach_of l).byte.0 ≡ hash
       → consume_comment look (chars_from s (reach_of l)) l
       ≡ pick (eqb (byte_at s r.byte.0) minus) (consume_comment_multi look (chars_from s (along_by 1 1 (reach_of l))) l)
-      (token_to comment_single (run_test look 0 r (chars_from s r)) l)
+      (token_to comment_single (run_test look no_line_end r (chars_from s r)) l)
   unfolding consume_comment
   comment_from look e f =
       let at = (reach_of l).byte.0 in

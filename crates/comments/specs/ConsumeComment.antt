@@ -6,7 +6,7 @@ use Rattle.base.specs.Pick.{pick}
 use Rattle.position.specs.Place.{along_by}
 use Rattle.property.specs.Parts.{width_of}
 use Rattle.token.specs.Kind.{error, comment_single, comment_multi}
-use Rattle.text.specs.Tests.{hash, minus, no_line_end_test}
+use Rattle.text.specs.Tests.{hash, minus, no_line_end}
 use Rattle.text.specs.Count.{len_utf8, run_test}
 use Rattle.text.specs.Follow.{next_is, Followed, Closed, Open, Stopped, follow}
 use Rattle.text.specs.declared.Turn.{Turn}
@@ -40,4 +40,4 @@ consume_comment_multi look cs l = comment_token l (follow (comment_turn look) (a
 unfoldable pub consume_comment : (ℕ → ℕ) → List ℕ → Lexer → Taken
 consume_comment look cs l =
     pick (next_is minus (drop 1 cs)) (consume_comment_multi look (drop 1 cs) l)
-    (token_to comment_single (run_test look no_line_end_test (along_by 1 1 (reach_of l)) (drop 1 cs)) l)
+    (token_to comment_single (run_test look no_line_end (along_by 1 1 (reach_of l)) (drop 1 cs)) l)

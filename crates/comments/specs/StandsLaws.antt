@@ -9,7 +9,7 @@ use Rattle.position.specs.Place.{along_by}
 use Rattle.property.specs.Table.{properties_at}
 use Rattle.fitness.specs.Fit.{FitTable}
 use Rattle.text.specs.Bytes.{byte_at}
-use Rattle.text.specs.Tests.{hash, minus, test_utf8_of}
+use Rattle.text.specs.Tests.{hash, minus, no_line_end, test_utf8_of}
 use Rattle.text.specs.CountLaws.{run_stands}
 use Rattle.text.specs.Follow.{Followed, Closed, Open, Stopped, follow}
 use Rattle.text.specs.Stands.{Stands, chars_from}
@@ -31,7 +31,7 @@ module _ (s : List ℕ) (l : Lexer) (o : Stands s (reach_of l)) where
       let look = properties_at table in
       let start = along_by 1 1 (reach_of l) in
       let from : Stands s start = passed_stands s (reach_of l) o 1 (one_ascii s at hash o.well e (omega arith)) 1 (omega arith) in
-      let run = run_stands look (test_utf8_of look 0) s start from in
+      let run = run_stands look (test_utf8_of look no_line_end) s start from in
       subst (Steps s l) (sym (comment_from s l o.well start look refl e))
       (by_eq (Steps s l) (byte_at s (at + 1)) minus
       (λ _. go (follow (comment_turn look) start (chars_from s start)) (follow_lands (comment_turn look) s (comment_safe table s fit) start from))

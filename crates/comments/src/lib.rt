@@ -81,6 +81,6 @@ pub fn consume_comment(source: &[u8], table: &[u32], lexer: Lexer) -> Taken
     }
     lexer.token_to(
         kinds::COMMENT_SINGLE,
-        text::run_utf8(source, table, start, text::NO_LINE_END),
+        text::run_utf8::<text::NoLineEnd>(source, table, start),
     )
 }

@@ -9,8 +9,9 @@ use Rattle.utf8.specs.Encode.{WellFormed}
 use Rattle.utf8.specs.Chars.{chars}
 use Rattle.property.specs.Table.{properties_at}
 use Rattle.fitness.specs.Fit.{FitTable}
+use Rattle.fitness.specs.Ascii.{is_printable}
 use Rattle.text.specs.Bytes.{byte_at}
-use Rattle.text.specs.Tests.{hash, minus, at_once}
+use Rattle.text.specs.Tests.{hash, minus}
 use Rattle.text.specs.Follow.{turn_at}
 use Rattle.text.specs.declared.Turn.TheVariants.{Pass}
 use Rattle.newlines.specs.TurnLaws.{printable_at}
@@ -30,6 +31,5 @@ comment_stays s table fit i h w t =
     comment_at s i w h table fit
     ∙ pick_no _ _ _ _ (and_no _ _ no-hash) (pick_no _ _ _ _ (and_no _ _ no_minus) (printable_at s i w h table fit b e k.printable))
 
-pub line_stays : (x : ℕ) → stays_but 0 0 0 x ≡ true → at_once 0 x ≡ true
-unfolding at_once
+pub line_stays : (x : ℕ) → stays_but 0 0 0 x ≡ true → is_printable x ≡ true
 line_stays x t = (stays_is 0 0 0 x t).printable

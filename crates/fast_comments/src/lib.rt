@@ -60,6 +60,6 @@ pub fn consume_comment(source: &[u8], table: &[u32], lexer: Lexer) -> Taken
     let near = skip::pass(source, start, 0, 0, 0);
     lexer.token_to(
         kinds::COMMENT_SINGLE,
-        text::run_utf8(source, table, near, text::NO_LINE_END),
+        text::run_utf8::<text::NoLineEnd>(source, table, near),
     )
 }

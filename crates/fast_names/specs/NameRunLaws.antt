@@ -1,6 +1,6 @@
 -- What passing the parts of a name at once does to its end.
---     part_once             a part of a name passes at once
 --     runs_on, runs_count   a run behind others that were passed, and one that ends in a block
+--     part_once             a part of a name passes at once
 --     name_over             the run is over where an ASCII character stands that is no part
 --     name_reach            a name of ASCII characters reaches to where its parts end
 -- Assumes nothing.
@@ -13,7 +13,7 @@ use Rattle.fitness.specs.Fit.{FitTable}
 use Rattle.fitness.specs.Ascii.{is_name_part}
 use Rattle.text.specs.Bytes.{byte_at}
 use Rattle.text.specs.Chars.{LenIs}
-use Rattle.text.specs.CountLaws.{along_stands, once_ascii}
+use Rattle.text.specs.CountLaws.{along_stands, id_continue_once}
 use Rattle.text.specs.Stands.{Stands, chars_from}
 use Rattle.state.specs.Lexer.{reach_of}
 use Rattle.state.specs.declared.Lexer.{Lexer}
@@ -42,7 +42,7 @@ module _ (table s : List ℕ) (fit : FitTable table) (l : Lexer) (o : Stands s (
   starts =
       let i = (reach_of l).byte.0 in
       let h : i < length s = omega (arith, run.passed.within) in
-      rw (lt-ltb i (length s) h) (once_ascii (get_or s i 0) 1 (part_once (get_or s i 0) (run.passed.stays i (omega arith) some)))
+      rw (lt-ltb i (length s) h) (id_continue_once.ascii (get_or s i 0) (run.passed.stays i (omega arith) some))
 
   letter : LenIs s (reach_of l).byte.0 1
   letter = ascii_len (byte_at s (reach_of l).byte.0) o.well refl starts
@@ -73,6 +73,6 @@ module _ (table s : List ℕ) (fit : FitTable table) (l : Lexer) (o : Stands s (
   name_reach =
       sym
       (name_over table s fit end (past_end first rest refl) refl low run.over
-      ∙ (past_ran s table fit 1 part_once behind (past_from rest refl)).same
+      ∙ (past_ran s table fit id_continue_once (λ x e. e) behind (past_from rest refl)).same
       ∙ name_end_at (properties_at table) s l {r = first} refl letter.at refl)
       ∙ whole

@@ -26,11 +26,9 @@ fn count32(source: &[u8], at: usize) -> usize
     ensures { Counts is_name_part source.now at 32 32 result }
 {
     let mut n = 32u8;
-    let mut k = 0u8;
-    while k < 32 {
+    for k in 0..32u8 {
         let out = place_out(is_part(source[at + (k as usize)]), k, 32);
         n = smaller(out, n);
-        k += 1;
     }
     n as usize
 }

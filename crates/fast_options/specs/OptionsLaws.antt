@@ -4,7 +4,7 @@
 --     options_to          the token, by the brace that is found from there on; brace_on: it stands behind where they begin
 --     options_short       a plain token that is found ends in the source
 -- Assumes nothing.
-use Rattle.std.specs.Prelude.{ℕ, ◌+◌, ◌≤◌, ◌<◌, ◌≡◌, Bool, true, false, not, ◌&&◌, List, ◌∷◌, eqb, ltb, get_or, take, drop}
+use Rattle.std.specs.Prelude.{ℕ, ◌+◌, ◌≤◌, ◌<◌, ◌≡◌, Bool, true, false, not, ◌&&◌, List, ◌∷◌, eqb, ltb, get_or, take, drop, Option, Some}
 use Rattle.std.proofs.Common.{arith, sym, subst, ◌∙◌, ltb-true}
 use Rattle.std.proofs.Math.Path.{ap}
 use Rattle.std.proofs.Math.ListN.{length}
@@ -29,8 +29,6 @@ use Rattle.state.specs.declared.Lexer.{Lexer}
 use Rattle.state.specs.declared.Taken.{Taken}
 use Rattle.options.specs.ConsumeFormatOptions.{is_aligned, skip_bytes, find_brace, options_token, consume_format_options}
 use Rattle.options.specs.StandsLaws.{skip_lands, brace_behind, options_by, options_stands}
-use Rattle.options.specs.declared.Brace.{Brace}
-use Rattle.options.specs.declared.Brace.TheVariants.{At}
 use Rattle.plain.specs.declared.Plain.{Plain}
 use Rattle.fast_options.specs.FormatOptions.{is_alignment, skip_ascii, FindsOptions}
 use Rattle.fast_options.specs.ApartLaws.{first_one, second_is_lem}
@@ -97,7 +95,7 @@ module _ (table : List ℕ) (fit : FitTable table) (edition : ℕ) where
     skip_at = rw three (skip_is (get_or s i 0) (get_or s (i + 1) 0) (get_or s (i + 2) 0) _ p.first p.second p.third p.no_cr)
 
   pub options_to : (s : List ℕ) (l : Lexer) → Stands s (reach_of l) → Apart s (reach_of l).byte.0 → (k : ℕ)
-      → k ≡ (reach_of l).byte.0 + skip_ascii (get_or s ((reach_of l).byte.0 + 1) 0) → (b : Brace) → b ≡ find_brace k (chars (drop k s))
+      → k ≡ (reach_of l).byte.0 + skip_ascii (get_or s ((reach_of l).byte.0 + 1) 0) → (b : Option ℕ) → b ≡ find_brace k (chars (drop k s))
       → options_token l b ≡ consume_format_options look edition (chars_from s (reach_of l)) l
   options_to s l o p k e b f =
       let i = (reach_of l).byte.0 in
@@ -119,7 +117,7 @@ module _ (s : List ℕ) (i : ℕ) (p : Apart s i) (w : WellFormed (drop i s)) wh
   pub lands : WellFormed (drop (i + skip_ascii (get_or s (i + 1) 0)) s)
   lands = subst (λ (n : ℕ). WellFormed (drop (i + n) s)) is_small (skip_lands small 1 s i inside w).well
 
-  pub brace_on : (k e : ℕ) → k ≡ i + skip_ascii (get_or s (i + 1) 0) → At e ≡ find_brace k (chars (drop k s)) → i ≤ e
+  pub brace_on : (k e : ℕ) → k ≡ i + skip_ascii (get_or s (i + 1) 0) → Some e ≡ find_brace k (chars (drop k s)) → i ≤ e
   brace_on k e g f =
       let h : i + skip_bytes small 1 (chars (drop i s)) ≡ k = ap (λ (n : ℕ). i + n) is_small ∙ sym g in
       (brace_behind small 1 s i e inside w (ap (λ (j : ℕ). find_brace j (chars (drop j s))) h ∙ sym f)).on

@@ -10,7 +10,7 @@ ghost use Rattle.state.specs.Lexer.{reach_of};
 ghost use Rattle.fast_options.specs.FormatOptions.{skip_ascii, FindsOptions, FoundOptions};
 
 use found::{Found, along, nothing};
-use options::{Brace, find_brace, is_alignment};
+use options::{find_brace, is_alignment};
 use plain::{Plain, none};
 use state::{Change, Lexer};
 use token::kinds;
@@ -46,7 +46,7 @@ pub fn format_options(source: &[u8], lexer: Lexer) -> Plain
     if !stand_apart(source[at], after_fill, source[at + 2]) {
         return none();
     }
-    let Brace::At(end) = find_brace(source, skip_ascii(at, after_fill)) else {
+    let Some(end) = find_brace(source, skip_ascii(at, after_fill)) else {
         return none();
     };
     Plain {

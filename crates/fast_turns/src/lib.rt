@@ -15,9 +15,8 @@ use fast_strings::contents;
 use found::copied;
 use layout::Layout;
 use plain_code::code_plain;
-use short::blank_end;
 use state::{LITERAL, Lexer, RAW_END, RAW_START, TEMPLATE_EXPR, TEMPLATE_EXPR_FORMAT};
-use text::byte_at;
+use text::{Whitespace, byte_at, run_end};
 use token::{kinds, token_of};
 use turns::{Run, Turns, blank, closed, kept, line_feed, opened, passed, stays};
 
@@ -57,7 +56,7 @@ fn code_turn(
     let at = lexer.place.current_byte.0;
     let b = source[at];
     if b == b' ' {
-        let len = blank_end(source, at) - at;
+        let len = run_end::<Whitespace>(source, at) - at;
         return Turns {
             on: true,
             lexer: blank(layout, list, count, lexer, len),

@@ -1,7 +1,7 @@
 -- Every token keeps the copies of depth and top, joins what was read before it or stands still, and may be shown: `take_keeps`, by the
 -- arms of `take_token` and the cases of each `consume_*`.
 -- Assumes nothing.
-use Rattle.std.specs.Prelude.{ℕ, ◌+◌, ◌≤◌, ◌≡◌, true, ◌⊎◌, List, eqb, drop}
+use Rattle.std.specs.Prelude.{ℕ, ◌+◌, ◌≤◌, ◌≡◌, true, ◌⊎◌, List, eqb, drop, Option, Some, None}
 use Rattle.std.proofs.Common.{arith, inl, inr}
 use Rattle.std.proofs.Math.Path.{refl}
 use Rattle.std.proofs.Math.ListN.{take}
@@ -16,10 +16,9 @@ use Rattle.token.specs.DetailLaws.{plain_fits, raw_fits}
 use Rattle.words.specs.Words.{is_word, starts_with, else_word, else_if_word, r_word}
 use Rattle.keywords.specs.Keywords.{keyword_of}
 use Rattle.symbols.specs.Symbols.{symbol_of}
+use Rattle.symbols.specs.declared.Symbol.{Symbol}
 use Rattle.symbols.specs.SymbolsLaws.{symbol_is}
 use Rattle.keywords.specs.KeywordsLaws.{keyword_kind}
-use Rattle.symbols.specs.declared.SymbolAt.{SymbolAt}
-use Rattle.symbols.specs.declared.SymbolAt.TheVariants as symbol
 use Rattle.text.specs.Tests.{cr, lf, minus, is_whitespace, is_line_end, is_digit}
 use Rattle.text.specs.Follow.{next_is, Followed, Closed, Open, Stopped, follow, drop_bytes}
 use Rattle.state.specs.Modes.{literal, template_expr_format, raw_start, raw_end, tag_of, delimiter_of, quote_of}
@@ -32,12 +31,8 @@ use Rattle.comments.specs.ConsumeComment.{comment_turn, comment_token, consume_c
 use Rattle.strings.specs.ConsumeStringLiteral.{literal_turn, literal_token, consume_string_literal}
 use Rattle.strings.specs.ConsumeRawString.{raw_turn, raw_token, consume_raw_string_contents}
 use Rattle.options.specs.ConsumeFormatOptions.{skip_bytes, find_brace, options_token, consume_format_options}
-use Rattle.options.specs.declared.Brace.{Brace}
-use Rattle.options.specs.declared.Brace.TheVariants.{At, Nowhere}
 use Rattle.names.specs.ConsumeIdOrKeyword.{name_end, remaining, name_bytes, parse_raw_string_start, or_else, raw_or_name, keyword_or_id, name_token}
 use Rattle.names.specs.NameLaws.{raw_delimiter}
-use Rattle.names.specs.declared.RawStart.{RawStart}
-use Rattle.names.specs.declared.RawStart.TheVariants.{Opens, Nothing}
 use Rattle.symbol_tokens.specs.ConsumeSymbol.{symbol_token}
 use Rattle.lexer.specs.GetNextToken.{next_char, in_literal, in_code, take_token}
 use Rattle.lexer.specs.Keeps.{Keeps}
@@ -89,9 +84,9 @@ module _ (l : Lexer) where
   unfolding consume_raw_string_contents
   contents_keeps look delimiter cs = raw_token_lem delimiter (follow (raw_turn look delimiter) (reach_of l) cs)
 
-  options_token_lem : (b : Brace) → Keeps l (options_token l b)
-  options_token_lem (At end) = on refl refl refl refl refl (λ e. absurd (omega arith))
-  options_token_lem Nowhere = still
+  options_token_lem : (b : Option ℕ) → Keeps l (options_token l b)
+  options_token_lem (Some end) = on refl refl refl refl refl (λ e. absurd (omega arith))
+  options_token_lem None = still
 
   options_keeps : (look : ℕ → ℕ) (edition : ℕ) (cs : List ℕ) → Keeps l (consume_format_options look edition cs l)
   unfolding consume_format_options
@@ -111,9 +106,9 @@ module _ (l : Lexer) where
       (λ _. by_test (Keeps l) (eqb (keyword_of word) id) (λ _. on refl refl refl refl refl (λ _. refl))
       (λ _. on refl refl refl refl (keyword_fits (keyword_of word) (keyword_kind word)) (λ _. refl)))
 
-  or_keeps : (cs : List ℕ) (r : RawStart) (t : Taken) → parse_raw_string_start cs ≡ r → Keeps l t → Keeps l (or_else r l t)
-  or_keeps cs (Opens delimiter) t e k = on refl refl refl refl (raw_fits delimiter (raw_delimiter cs e)) (λ q. absurd (omega arith))
-  or_keeps cs Nothing t e k = k
+  or_keeps : (cs : List ℕ) (r : Option ℕ) (t : Taken) → parse_raw_string_start cs ≡ r → Keeps l t → Keeps l (or_else r l t)
+  or_keeps cs (Some delimiter) t e k = on refl refl refl refl (raw_fits delimiter (raw_delimiter cs e)) (λ q. absurd (omega arith))
+  or_keeps cs None t e k = k
 
   raw_keeps : (cs : List ℕ) (end : Reach) → Keeps l (raw_or_name cs end l)
   unfolding raw_or_name
@@ -126,10 +121,10 @@ module _ (l : Lexer) where
       (λ _. by_test (Keeps l) (starts_with else_if_word (remaining cs)) (λ _. on refl refl refl refl refl (λ _. refl)) (λ _. on refl refl refl refl refl (λ _. refl)))
       (λ _. by_test (Keeps l) (is_word r_word (take (name_bytes l end) (remaining cs))) (λ _. raw_keeps cs end) (λ _. keyword_keeps cs end))
 
-  symbol_keeps : (b : List ℕ) (x : SymbolAt) → symbol_of b ≡ x → Keeps l (symbol_token x l)
-  symbol_keeps b (symbol.Is kind len) e =
-      on refl refl refl refl (plain_fits kind (omega (arith, (symbol_is b e).kind_to))) (λ q. absurd (omega (arith, (symbol_is b e).kind_from)))
-  symbol_keeps b symbol.Nothing e = on refl refl refl refl refl (λ _. refl)
+  symbol_keeps : (b : List ℕ) (x : Option Symbol) → symbol_of b ≡ x → Keeps l (symbol_token x l)
+  symbol_keeps b (Some x) e =
+      on refl refl refl refl (plain_fits x.kind (omega (arith, (symbol_is b e).kind_to))) (λ q. absurd (omega (arith, (symbol_is b e).kind_from)))
+  symbol_keeps b None e = on refl refl refl refl refl (λ _. refl)
 
   code_keeps : (look : ℕ → ℕ) (c : ℕ) (cs : List ℕ) → Keeps l (in_code look c cs l)
   unfolding in_code

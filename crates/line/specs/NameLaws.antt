@@ -2,7 +2,7 @@
 -- theirs is passed by a newline.
 --     whitespace_line, number_line, id_or_keyword_line, ignored_line, symbol-line
 -- Assumes nothing.
-use Rattle.std.specs.Prelude.{ℕ, suc, ◌+◌, ◌*◌, ◌≤◌, ◌≡◌, Bool, true, false, ◌&&◌, ◌||◌, ltb, eqb, length, take, drop}
+use Rattle.std.specs.Prelude.{ℕ, suc, ◌+◌, ◌*◌, ◌≤◌, ◌≡◌, Bool, true, false, ◌&&◌, ◌||◌, ltb, eqb, length, take, drop, Option, Some, None}
 use Rattle.std.proofs.Common.{arith, ◌∙◌, length-append}
 use Rattle.std.proofs.Math.Path.{refl, sym, ap}
 use mathlib.Core.List.{List, [], ◌∷◌}
@@ -19,7 +19,7 @@ use Rattle.token.specs.Kind as kind
 use Rattle.words.specs.Words.{Entry, is_word, starts_with, first_in, else_word, else_if_word, r_word}
 use Rattle.keywords.specs.Keywords.{keyword_of}
 use Rattle.symbols.specs.Symbols.{symbols, found, symbol_in, symbol_of}
-use Rattle.text.specs.Tests.{lf, plus, minus, dot, zero_digit, letter_b, letter_e, letter_o, letter_x, double_quote, single_quote, hash_test, id_continue_test, is_whitespace, is_binary_digit, is_octal_digit, is_decimal_digit, is_hex_digit, test_of, test_utf8, test_utf8_of}
+use Rattle.text.specs.Tests.{lf, plus, minus, dot, zero_digit, letter_b, letter_e, letter_o, letter_x, double_quote, single_quote, is_hash, id_continue, is_whitespace, is_binary_digit, is_octal_digit, is_decimal_digit, is_hex_digit, test_utf8_of}
 use Rattle.text.specs.Count.{len_utf8, bytes_of, count_while}
 use Rattle.text.specs.Follow.{next_is}
 use Rattle.state.specs.Lexer.{reach_of, token_to, token_along, indented}
@@ -27,8 +27,6 @@ use Rattle.state.specs.declared.Lexer.{Lexer}
 use Rattle.numbers.specs.ConsumeWhitespace.{consume_whitespace}
 use Rattle.numbers.specs.ConsumeNumber.{next_passes, exponent_bytes, is_fraction, fraction_bytes, tail_bytes, zero_bytes, number_bytes, consume_number}
 use Rattle.names.specs.ConsumeIdOrKeyword.{name_end, name_bytes, parse_raw_string_start, keyword_or_id, or_else, raw_or_name, name_token, consume_id_or_keyword, consume_ignored}
-use Rattle.names.specs.declared.RawStart.{RawStart}
-use Rattle.names.specs.declared.RawStart.TheVariants.{Opens, Nothing}
 use Rattle.line.specs.Line.{line}
 use Rattle.line.specs.LineLaws.{next_line_lem, count_line, rest_line, run_line, run_most}
 
@@ -178,8 +176,7 @@ unfolding encode_all bytes_of
 bytes_length [] = refl
 bytes_length (c ∷ p) = omega (arith, length-append (encode c) (encode_all p), bytes_length p)
 
-hashless : test_of hash_test lf ≡ false
-unfolding test_of
+hashless : is_hash lf ≡ false
 hashless = refl
 
 raw_start_line : (p q r : List ℕ) → parse_raw_string_start (line p q) ≡ parse_raw_string_start (line p r)
@@ -190,17 +187,17 @@ raw_start_line p q r =
     ∙ sym (up_to r)
   where
     k : ℕ
-    k = count_while (test_of hash_test) p
+    k = count_while is_hash p
 
     rest : List ℕ
     rest = drop k p
 
-    found_at : Bool → Bool → ℕ → RawStart
-    found_at double single n = pick (ltb 255 n) Nothing (pick double (Opens (2 * n)) (pick single (Opens (2 * n + 1)) Nothing))
+    found_at : Bool → Bool → ℕ → Option ℕ
+    found_at double single n = pick (ltb 255 n) None (pick double (Some (2 * n)) (pick single (Some (2 * n + 1)) None))
 
     up_to : (x : List ℕ) → parse_raw_string_start (line p x) ≡ found_at (next_is double_quote (line rest x)) (next_is single_quote (line rest x)) k
     up_to x =
-        λ i. found_at (next_is double_quote (rest_line (test_of hash_test) hashless p x i)) (next_is single_quote (rest_line (test_of hash_test) hashless p x i)) (count_line (test_of hash_test) hashless p x i)
+        λ i. found_at (next_is double_quote (rest_line is_hash hashless p x i)) (next_is single_quote (rest_line is_hash hashless p x i)) (count_line is_hash hashless p x i)
 
 module _ (l : Lexer) (end : Reach) (c : ℕ) (p q r : List ℕ) (within : name_bytes l end ≤ length (encode_all (c ∷ p))) where
   name_same : take (name_bytes l end) (encode_all (c ∷ line p q)) ≡ take (name_bytes l end) (encode_all (c ∷ line p r))
@@ -229,12 +226,12 @@ module _ (l : Lexer) (end : Reach) (c : ℕ) (p q r : List ℕ) (within : name_b
 
 module _ (look : ℕ → ℕ) (ends : xid_continue (look lf) ≡ false) (c : ℕ) (p q r : List ℕ) (l : Lexer) where
   name_end_line : (x : List ℕ) → name_end look (c ∷ line p x) l ≡ name_end look (c ∷ p) l
-  unfolding name_end test_utf8
-  name_end_line x = run_line (test_utf8_of look id_continue_test) look ends (along_by (len_utf8 c) 1 (reach_of l)) p x
+  unfolding name_end id_continue
+  name_end_line x = run_line (test_utf8_of look id_continue) look ends (along_by (len_utf8 c) 1 (reach_of l)) p x
 
   name_most : name_bytes l (name_end look (c ∷ p) l) ≤ length (encode_all (c ∷ p))
   unfolding name_end bytes_of
-  name_most = omega (arith, run_most (test_utf8_of look id_continue_test) look (along_by (len_utf8 c) 1 (reach_of l)) p, bytes_length (c ∷ p))
+  name_most = omega (arith, run_most (test_utf8_of look id_continue) look (along_by (len_utf8 c) 1 (reach_of l)) p, bytes_length (c ∷ p))
 
   pub id_or_keyword_line : consume_id_or_keyword look (c ∷ line p q) l ≡ consume_id_or_keyword look (c ∷ line p r) l
   id_or_keyword_line =

@@ -8,7 +8,7 @@
 -- Assumes nothing.
 use Prim.Native.Nat.{ℕ, zero, suc, ◌+◌, ◌-◌, ◌≤◌, ◌<◌}
 use native.Mathlib.Omega.{arith}
-use Rattle.std.specs.Prelude.{◌≡◌, Bool, true, false, ◌&&◌, ◌||◌, ◌⊎◌, eqb, get_or}
+use Rattle.std.specs.Prelude.{◌≡◌, Bool, true, false, ◌&&◌, ◌||◌, ◌⊎◌, eqb, get_or, Option, Some, None}
 use Rattle.std.proofs.Math.Path.{refl, sym, ap, subst}
 use Rattle.std.proofs.Common.{◌∙◌, inl, length-append, eqb-true, ne_eqb}
 use Rattle.std.proofs.Math.Logic.{inr}
@@ -30,8 +30,6 @@ use Rattle.text.specs.Follow.{drop_bytes}
 use Rattle.state.specs.Lexer.{reach_of}
 use Rattle.state.specs.declared.Lexer.{Lexer}
 use Rattle.options.specs.ConsumeFormatOptions.{is_aligned, skip_bytes, find_brace, options_token, consume_format_options}
-use Rattle.options.specs.declared.Brace.{Brace}
-use Rattle.options.specs.declared.Brace.TheVariants.{At, Nowhere}
 use Rattle.line.specs.Line.{line, Whole}
 use Rattle.line.specs.LineLaws.{drop_line, whole_none}
 use Rattle.line.specs.NameLaws.{bytes_length}
@@ -213,9 +211,9 @@ take_long (suc k) (c ∷ p) x h =
 -- ---- the brace
 
 -- the brace stands behind the byte n, or nowhere
-abbrev Behind : ℕ → Brace → Type 0
-Behind n (At e) = n < e
-Behind n Nowhere = Unit {0}
+abbrev Behind : ℕ → Option ℕ → Type 0
+Behind n (Some e) = n < e
+Behind n None = Unit {0}
 
 brace_behind : (n j : ℕ) (cs : List ℕ) → n < j → Behind n (find_brace j cs)
 unfolding find_brace
@@ -228,7 +226,7 @@ pub brace_line : (n j : ℕ) (p q r : List ℕ) → n ≡ j + bytes_of p
 unfolding find_brace bytes_of
 brace_line n j [] q r e = inr (brace_behind n (j + len_utf8 lf) q (omega (arith, encode_some lf)))
 brace_line n j (c ∷ p) q r e =
-    elim (eqb c curly_close) as (λ (t : Bool). (pick t (At j) (find_brace (j + len_utf8 c) (line p q)) ≡ pick t (At j) (find_brace (j + len_utf8 c) (line p r))) ⊎ Behind n (pick t (At j) (find_brace (j + len_utf8 c) (line p q)))) [ true ↦ inl refl | false ↦ brace_line n (j + len_utf8 c) p q r (omega arith) ]
+    elim (eqb c curly_close) as (λ (t : Bool). (pick t (Some j) (find_brace (j + len_utf8 c) (line p q)) ≡ pick t (Some j) (find_brace (j + len_utf8 c) (line p r))) ⊎ Behind n (pick t (Some j) (find_brace (j + len_utf8 c) (line p q)))) [ true ↦ inl refl | false ↦ brace_line n (j + len_utf8 c) p q r (omega arith) ]
 
 either : {G : Type 0} (s t : Bool) → (s ≡ true → G) → (t ≡ true → G) → (s || t) ≡ true → G
 either true t f g e = f refl
@@ -250,7 +248,7 @@ module _ (look : ℕ → ℕ) (edition : ℕ) (ends : class_of (look lf) ≡ cla
       (λ f. absurd (omega (arith, go_short look edition ends (look c) [] (d ∷ p) q f)))
 
   module _ (n : ℕ) (p q r : List ℕ) (l : Lexer) (at : n ≡ (reach_of l).byte.0 + bytes_of p) where
-    abbrev from : List ℕ → Brace
+    abbrev from : List ℕ → Option ℕ
     from x = find_brace ((reach_of l).byte.0 + skip_bytes look edition (line p x)) (drop_bytes (skip_bytes look edition (line p x)) (line p x))
 
     long : length p < first_size look edition (line p q) → Behind n (from q)
@@ -297,15 +295,15 @@ module _ (look : ℕ → ℕ) (edition : ℕ) (ends : class_of (look lf) ≡ cla
           let w = skip_whole in
           let d = drop_whole m p q w in
           let b = brace_line n (i + m) (drop_bytes m p) q r (omega (arith, d.1)) in
-          let E : Brace → Brace → Type 0 = λ x y. (x ≡ y) ⊎ Behind n x in
+          let E : Option ℕ → Option ℕ → Type 0 = λ x y. (x ≡ y) ⊎ Behind n x in
           subst (λ (k : ℕ). E (from q) (find_brace (i + k) (drop_bytes k (line p r)))) (skip_line look edition ends p q r short)
           (subst (λ (cs : List ℕ). E (from q) (find_brace (i + m) cs)) (sym (drop_whole m p r w).0)
           (subst (λ (cs : List ℕ). E (find_brace (i + m) cs) (find_brace (i + m) (line (drop_bytes m p) r))) (sym d.0) b))
 
-    brace_token : (a b : Brace) → (a ≡ b) ⊎ Behind n a → Either n l (options_token l a) (options_token l b)
+    brace_token : (a b : Option ℕ) → (a ≡ b) ⊎ Behind n a → Either n l (options_token l a) (options_token l b)
     brace_token a b (inl e) = inl (ap (options_token l) e)
-    brace_token (At x) b (inr h) = inr (inr (omega arith, λ e. omega arith))
-    brace_token Nowhere b (inr h) = inr (inl refl)
+    brace_token (Some x) b (inr h) = inr (inr (omega arith, λ e. omega arith))
+    brace_token None b (inr h) = inr (inl refl)
 
     pub options_line : Either n l (consume_format_options look edition (line p q) l) (consume_format_options look edition (line p r) l)
     unfolding consume_format_options

@@ -18,7 +18,7 @@ use Rattle.position.specs.declared.Reach.{Reach}
 use Rattle.utf8.specs.EncodeLaws.{encode1}
 use Rattle.property.specs.Parts.{width_of}
 use Rattle.token.specs.Kind.{new_line, comment_single}
-use Rattle.text.specs.Tests.{cr, lf, hash, minus, backslash, letter_u, curly_open, is_line_end, test_utf8, test_utf8_of}
+use Rattle.text.specs.Tests.{cr, lf, hash, minus, backslash, letter_u, curly_open, is_line_end, no_line_end, test_utf8_of}
 use Rattle.text.specs.Count.{len_utf8, bytes_of}
 use Rattle.text.specs.Follow.{next_is, Followed, Closed, Open, Stopped, follow}
 use Rattle.text.specs.declared.Turn.TheVariants.{Pass, Line, Close, Stuck}
@@ -206,7 +206,7 @@ module _ (look : ℕ → ℕ) (n : ℕ) (p q r : List ℕ) (l : Lexer) where
   -- c is the "#", and p stands between it and the newline
   pub comment_line : (c : ℕ) → n ≡ (reach_of l).byte.0 + (1 + bytes_of p)
       → Either n l (consume_comment look (c ∷ line p q) l) (consume_comment look (c ∷ line p r) l)
-  unfolding consume_comment consume_comment_multi test_utf8 is_line_end
+  unfolding consume_comment consume_comment_multi no_line_end is_line_end
   comment_line c e =
       let start = along_by 1 1 (reach_of l) in
       let turn = comment_turn look in
@@ -214,7 +214,7 @@ module _ (look : ℕ → ℕ) (n : ℕ) (p q r : List ℕ) (l : Lexer) where
       (comment_token_lem (follow turn start (line p q)) (follow turn start (line p r))
       (follow_line turn (comment_local look) n q r 0 start p (whole_none p) (omega arith)))
       (inl (ap (λ (end : Reach). token_to comment_single end l)
-      (run_line (test_utf8_of look 0) look refl start p q ∙ sym (run_line (test_utf8_of look 0) look refl start p r))))
+      (run_line (test_utf8_of look no_line_end) look refl start p q ∙ sym (run_line (test_utf8_of look no_line_end) look refl start p r))))
 
   literal_token_lem : (a b : Followed) → (a ≡ b) ⊎ Beyond n a → Either n l (literal_token l a) (literal_token l b)
   literal_token_lem a b (inl e) = inl (ap (literal_token l) e)

@@ -2,7 +2,7 @@
 --     take_moves       of every token
 --     newline_keeps    so a NewLine leaves them
 -- Assumes nothing.
-use Rattle.std.specs.Prelude.{ℕ, ◌+◌, ◌≡◌, true, false, List, eqb, take, drop}
+use Rattle.std.specs.Prelude.{ℕ, ◌+◌, ◌≡◌, true, false, List, eqb, take, drop, Option, Some, None}
 use Rattle.std.proofs.Common.{arith, sym, subst, ◌∙◌, eqb-true}
 use Rattle.std.proofs.Math.Path.{refl}
 use Rattle.std.proofs.lemmas.Bool.{eqb-false}
@@ -17,8 +17,7 @@ use Rattle.token.specs.declared.Token.{Token}
 use Rattle.words.specs.Words.{is_word, starts_with, else_word, else_if_word, r_word}
 use Rattle.keywords.specs.Keywords.{keyword_of}
 use Rattle.symbols.specs.Symbols.{symbol_of}
-use Rattle.symbols.specs.declared.SymbolAt.{SymbolAt}
-use Rattle.symbols.specs.declared.SymbolAt.TheVariants as symbol
+use Rattle.symbols.specs.declared.Symbol.{Symbol}
 use Rattle.text.specs.Tests as char
 use Rattle.text.specs.Tests.{cr, lf, minus, is_whitespace, is_line_end, is_digit}
 use Rattle.text.specs.Follow.{next_is, Followed, Closed, Open, Stopped, follow, drop_bytes}
@@ -33,11 +32,7 @@ use Rattle.comments.specs.ConsumeComment.{comment_turn, comment_token, consume_c
 use Rattle.strings.specs.ConsumeStringLiteral.{literal_turn, literal_token, consume_string_literal}
 use Rattle.strings.specs.ConsumeRawString.{raw_turn, raw_token, consume_raw_string_contents}
 use Rattle.options.specs.ConsumeFormatOptions.{skip_bytes, find_brace, options_token, consume_format_options}
-use Rattle.options.specs.declared.Brace.{Brace}
-use Rattle.options.specs.declared.Brace.TheVariants.{At, Nowhere}
 use Rattle.names.specs.ConsumeIdOrKeyword.{name_end, remaining, name_bytes, parse_raw_string_start, or_else, raw_or_name, keyword_or_id, name_token}
-use Rattle.names.specs.declared.RawStart.{RawStart}
-use Rattle.names.specs.declared.RawStart.TheVariants.{Opens, Nothing}
 use Rattle.symbol_tokens.specs.ConsumeSymbol.{symbol_change, symbol_token}
 use Rattle.lexer.specs.GetNextToken.{next_char, in_literal, in_code, take_token}
 use Rattle.moves.specs.Moves as opens
@@ -73,9 +68,9 @@ module _ (l : Lexer) where
   raw_token_lem e delimiter (Open end) = tt
   raw_token_lem e delimiter Stopped = tt
 
-  options_token_lem : (b : Brace) → Does (options_token l b)
-  options_token_lem (At end) = opens.options refl
-  options_token_lem Nowhere = tt
+  options_token_lem : (b : Option ℕ) → Does (options_token l b)
+  options_token_lem (Some end) = opens.options refl
+  options_token_lem None = tt
 
   keyword_does : (cs : List ℕ) (end : Reach) → Does (keyword_or_id cs end l)
   unfolding keyword_or_id
@@ -83,9 +78,9 @@ module _ (l : Lexer) where
       by_test Does (eqb l.previous_token dot) (λ _. tt)
       (λ _. by_test Does (eqb (keyword_of (take (name_bytes l end) (remaining cs))) id) (λ _. tt) (λ _. tt))
 
-  or_does : (r : RawStart) (t : Taken) → Does t → Does (or_else r l t)
-  or_does (Opens delimiter) t k = opens.raw refl (omega arith)
-  or_does Nothing t k = k
+  or_does : (r : Option ℕ) (t : Taken) → Does t → Does (or_else r l t)
+  or_does (Some delimiter) t k = opens.raw refl (omega arith)
+  or_does None t k = k
 
   name_does : (cs : List ℕ) (end : Reach) → Does (name_token cs end l)
   unfolding name_token raw_or_name
@@ -106,9 +101,9 @@ module _ (l : Lexer) where
       (λ _. by_test M (eqb l.mode (mode_code template_expr_inline_map 0))
       (λ _. by_test M (eqb kind curly_close) (λ k. opens.brace (eqb-true _ _ k)) (λ _. tt)) (λ _. tt))
 
-  symbol_does : (x : SymbolAt) → Does (symbol_token x l)
-  symbol_does (symbol.Is kind len) = change_does kind
-  symbol_does symbol.Nothing = tt
+  symbol_does : (x : Option Symbol) → Does (symbol_token x l)
+  symbol_does (Some x) = change_does x.kind
+  symbol_does None = tt
 
   -- in code: the top is neither a string's nor that of format options
   module _ (no-string : tag_of l.mode ≡ literal → ⊥) (no_options_lem : tag_of l.mode ≡ template_expr_format → ⊥) where

@@ -18,9 +18,9 @@ use Rattle.fitness.specs.Ascii.{is_name_part}
 use Rattle.fitness.specs.SmallLaws.{ascii_continue}
 use Rattle.text.specs.Bytes.{byte_at}
 use Rattle.text.specs.Chars.{CharIs}
-use Rattle.text.specs.Tests.{test_utf8, test_utf8_of, at_once}
+use Rattle.text.specs.Tests.{id_continue, test_utf8_of}
 use Rattle.text.specs.Count.{run_test}
-use Rattle.text.specs.CountLaws.{run_stop}
+use Rattle.text.specs.CountLaws.{run_stop, Once, id_continue_once}
 use Rattle.text.specs.Stands.{chars_from}
 use Rattle.text.specs.FollowLaws.{byte_within, ascii_head}
 use Rattle.text.specs.declared.Char.{Char}
@@ -60,18 +60,17 @@ point_is {s} {table} {i} w {p} e d =
 
 -- ---- the parts of a name
 
-pub part_once : (x : ℕ) → is_name_part x ≡ true → at_once 1 x ≡ true
-unfolding at_once
-part_once x e = e
+pub part_once : (table : List ℕ) → FitTable table → (x : ℕ) → is_name_part x ≡ true → Once table id_continue x
+part_once = id_continue_once.passes
 
 pub name_over : (table s : List ℕ) → FitTable table → (r : Reach) {j b : ℕ} → j ≡ r.byte.0 → b ≡ byte_at s j → b < 128
-    → (j < length s → is_name_part (get_or s j 0) ≡ false) → r ≡ run_test (properties_at table) 1 r (chars_from s r)
-unfolding test_utf8
+    → (j < length s → is_name_part (get_or s j 0) ≡ false) → r ≡ run_test (properties_at table) id_continue r (chars_from s r)
+unfolding id_continue
 name_over table s fit r {j} {b} at e h over =
     let look = properties_at table in
     let k : j < length s = byte_within s j b (sym e) (omega arith) in
     let g : b ≡ get_or s j 0 = e ∙ rw (lt-ltb j (length s) k) in
-    let stops : test_utf8_of look 1 b ≡ false = ascii_continue table fit b h ∙ ap is_name_part g ∙ over k in
+    let stops : test_utf8_of look id_continue b ≡ false = ascii_continue table fit b h ∙ ap is_name_part g ∙ over k in
     sym
-    (ap (λ (i : ℕ). run_test look 1 r (chars (drop i s))) (sym at)
-    ∙ run_stop look (test_utf8_of look 1) r s j b 1 (ascii_head s j b (sym e) h) stops)
+    (ap (λ (i : ℕ). run_test look id_continue r (chars (drop i s))) (sym at)
+    ∙ run_stop look (test_utf8_of look id_continue) r s j b 1 (ascii_head s j b (sym e) h) stops)

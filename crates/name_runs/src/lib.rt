@@ -8,6 +8,7 @@ ghost use Rattle.utf8.specs.Encode.{WellFormed};
 ghost use Rattle.property.specs.Table.{properties_at, Rises};
 ghost use Rattle.fitness.specs.Fit.{FitTable};
 ghost use Rattle.fitness.specs.Ascii.{is_name_part};
+ghost use Rattle.text.specs.Tests.{id_continue};
 ghost use Rattle.text.specs.Count.{run_test};
 ghost use Rattle.text.specs.Stands.{Stands, chars_from};
 ghost use Rattle.name_runs.specs.Runs.{run_at, RunIs, RunHas, PointIs};
@@ -119,7 +120,7 @@ pub struct Ended {
 // How far the parts of a name from `start` on reach. The run is tried first.
 pub fn end_of_parts(source: &[u8], table: &[u32], start: Reach, first: Run) -> Ended
     requires { Stands source.now start × FitTable table.now × RunIs table.now first }
-    ensures { result.reach ≡ run_test (properties_at table.now) 1 start (chars_from source.now start) }
+    ensures { result.reach ≡ run_test (properties_at table.now) id_continue start (chars_from source.now start) }
 {
     let mut reach = start;
     let mut i = reach.byte.0;

@@ -2,7 +2,7 @@
 -- others their width. "else" and "r" are tested before the Dot rule; the other keywords are names after Dot. "else if" is taken by its
 -- seven bytes.
 -- Assumes nothing.
-use Rattle.std.specs.Prelude.{ℕ, ◌+◌, ◌*◌, ◌-◌, List, [], ◌∷◌, ltb, eqb, drop, take}
+use Rattle.std.specs.Prelude.{ℕ, ◌+◌, ◌*◌, ◌-◌, List, [], ◌∷◌, ltb, eqb, drop, take, Option, Some, None}
 use Rattle.base.specs.Pick.{pick}
 use Rattle.position.specs.Place.{along_by}
 use Rattle.position.specs.declared.Reach.{Reach}
@@ -10,7 +10,7 @@ use Rattle.utf8.specs.Encode.{encode_all}
 use Rattle.token.specs.Kind.{id, dot, else, else_if, underscore, string_start}
 use Rattle.words.specs.Words.{is_word, starts_with, else_word, else_if_word, r_word}
 use Rattle.keywords.specs.Keywords.{keyword_of}
-use Rattle.text.specs.Tests.{double_quote, single_quote, hash_test, id_continue_test, test_of}
+use Rattle.text.specs.Tests.{double_quote, single_quote, is_hash, id_continue}
 use Rattle.text.specs.Count.{len_utf8, count_while, run_test}
 use Rattle.text.specs.Follow.{next_is}
 use Rattle.state.specs.Modes.{raw_start, mode_code, hash_count_of}
@@ -18,15 +18,13 @@ use Rattle.state.specs.Lexer.{reach_of, advanced_line, token_along, token_to}
 use Rattle.state.specs.declared.Change.TheVariants.{Push}
 use Rattle.state.specs.declared.Lexer.{Lexer}
 use Rattle.state.specs.declared.Taken.{Taken}
-use Rattle.names.specs.declared.RawStart.{RawStart}
-use Rattle.names.specs.declared.RawStart.TheVariants.{Opens, Nothing}
 
 -- ---- the name
 
 -- `consume_and_count_utf8(&mut chars, is_id_continue)` after the first character, which has already been matched
 unfoldable pub name_end : (ℕ → ℕ) → List ℕ → Lexer → Reach
 name_end look [] l = reach_of l
-name_end look (c ∷ cs) l = run_test look id_continue_test (along_by (len_utf8 c) 1 (reach_of l)) cs
+name_end look (c ∷ cs) l = run_test look id_continue (along_by (len_utf8 c) 1 (reach_of l)) cs
 
 -- the bytes that are left from `self.current_byte` on
 abbrev pub remaining : List ℕ → List ℕ
@@ -39,12 +37,12 @@ name_bytes l end = end.byte.0 - (reach_of l).byte.0
 -- ---- raw strings
 
 -- `parse_raw_string_start`: up to 255 hashes and a quote; cs are the characters after the "r"
-unfoldable pub parse_raw_string_start : List ℕ → RawStart
+unfoldable pub parse_raw_string_start : List ℕ → Option ℕ
 parse_raw_string_start cs =
-    let count = count_while (test_of hash_test) cs in
-    pick (ltb 255 count) Nothing
-    (pick (next_is double_quote (drop count cs)) (Opens (2 * count))
-    (pick (next_is single_quote (drop count cs)) (Opens (2 * count + 1)) Nothing))
+    let count = count_while is_hash cs in
+    pick (ltb 255 count) None
+    (pick (next_is double_quote (drop count cs)) (Some (2 * count))
+    (pick (next_is single_quote (drop count cs)) (Some (2 * count + 1)) None))
 
 -- the token of the start of a raw string with this delimiter
 abbrev pub raw_string_start : ℕ → Lexer → Taken
@@ -65,9 +63,9 @@ keyword_or_id cs end l =
     (pick (eqb kind id) (token_to id end l) (token_along kind (name_bytes l end) l))
 
 -- a raw string, or else the token that follows
-abbrev pub or_else : RawStart → Lexer → Taken → Taken
-or_else (Opens delimiter) l other = raw_string_start delimiter l
-or_else Nothing l other = other
+abbrev pub or_else : Option ℕ → Lexer → Taken → Taken
+or_else (Some delimiter) l other = raw_string_start delimiter l
+or_else None l other = other
 
 -- "r": a raw string, or a name like any other
 unfoldable pub raw_or_name : List ℕ → Reach → Lexer → Taken

@@ -8,7 +8,7 @@
 --     r_decides, no_decides, decided_at    what `raw_start` decides, and the token by it
 --     word_starts, starts_next, r_stands, after_r     the bytes of a word that stands at a place
 -- Assumes nothing.
-use Rattle.std.specs.Prelude.{ℕ, zero, suc, ◌+◌, ◌*◌, ◌-◌, ◌<◌, ◌≡◌, refl, true, false, List, [], ◌∷◌, ltb, eqb, length, get_or, take, drop}
+use Rattle.std.specs.Prelude.{ℕ, zero, suc, ◌+◌, ◌*◌, ◌-◌, ◌<◌, ◌≡◌, refl, true, false, List, [], ◌∷◌, ltb, eqb, length, get_or, take, drop, Option, Some, None}
 use Rattle.std.proofs.Common.{add-one, arith, ap, subst, ◌∙◌, length-drop, drop-cons, lt-ltb, eqb-true}
 use Rattle.std.proofs.Math.Path.{sym}
 use Rattle.std.proofs.Math.Bool.{and-eq-true_iff}
@@ -25,43 +25,41 @@ use Rattle.words.specs.Words.{is_word, starts_with, else_word, else_if_word, r_w
 use Rattle.keywords.specs.Keywords.{keyword_of}
 use Rattle.words.specs.WordsLaws.{starts_within}
 use Rattle.text.specs.Bytes.{byte_at}
-use Rattle.text.specs.Tests.{double_quote, single_quote, test_of, test_utf8_of}
+use Rattle.text.specs.Tests.{double_quote, single_quote, is_hash, id_continue, test_utf8_of}
 use Rattle.text.specs.Count.{len_utf8, count_while, run_test}
 use Rattle.text.specs.Follow.{next_is}
 use Rattle.text.specs.Stands.{Stands, chars_from}
 use Rattle.text.specs.Chars.{LenIs}
 use Rattle.text.specs.FollowLaws.{here, next_is_lem, ascii_read, ascii_head}
-use Rattle.text.specs.CountLaws.{skip_run, along_stands, run_stands}
+use Rattle.text.specs.CountLaws.{hash_ascii, skip_run, along_stands, run_stands}
 use Rattle.state.specs.Lexer.{reach_of, token_along, token_to}
 use Rattle.state.specs.declared.Lexer.{Lexer}
 use Rattle.numbers.specs.Places.{PlaceIn, GoesOn}
 use Rattle.numbers.specs.PlaceLaws.{place_of_lem, run_end, skip_next, next_place}
 use Rattle.names.specs.ConsumeIdOrKeyword.{name_end, remaining, name_bytes, parse_raw_string_start, raw_string_start, keyword_or_id, or_else, raw_or_name, name_token}
 use Rattle.names.specs.Decided.{Small, RawDecides}
-use Rattle.names.specs.declared.RawStart.{RawStart}
-use Rattle.names.specs.declared.RawStart.TheVariants.{Opens, Nothing}
 
 -- ---- the start of a raw string
 
-pub raw_start_at : {s : List ℕ} {i j : ℕ} → PlaceIn s i → j ≡ run_end 5 s i
+pub raw_start_at : {s : List ℕ} {i j : ℕ} → PlaceIn s i → j ≡ run_end is_hash s i
     → parse_raw_string_start (chars (drop i s))
-    ≡ pick (ltb 255 (j - i)) Nothing
-    (pick (eqb (byte_at s j) double_quote) (Opens (2 * (j - i))) (pick (eqb (byte_at s j) single_quote) (Opens (2 * (j - i) + 1)) Nothing))
+    ≡ pick (ltb 255 (j - i)) None
+    (pick (eqb (byte_at s j) double_quote) (Some (2 * (j - i))) (pick (eqb (byte_at s j) single_quote) (Some (2 * (j - i) + 1)) None))
 unfolding parse_raw_string_start
 raw_start_at {s} {i} {j} p e =
-    let k = skip_run 5 s i p.well in
-    let n : count_while (test_of 5) (chars (drop i s)) ≡ j - i = omega (arith, e) in
-    rw (k.rest, next_is_lem s (run_end 5 s i) double_quote k.well (omega arith), next_is_lem s (run_end 5 s i) single_quote k.well (omega arith), ← e, n)
+    let k = skip_run hash_ascii s i p.well in
+    let n : count_while is_hash (chars (drop i s)) ≡ j - i = omega (arith, e) in
+    rw (k.rest, next_is_lem s (run_end is_hash s i) double_quote k.well (omega arith), next_is_lem s (run_end is_hash s i) single_quote k.well (omega arith), ← e, n)
 
 pub raw_small : (cs : List ℕ) → Small (parse_raw_string_start cs)
 unfolding parse_raw_string_start
 raw_small cs =
-    let n = count_while (test_of 5) cs in
+    let n = count_while is_hash cs in
     by_lt Small 255 n (λ _. tt)
     (λ h. by_test Small (next_is double_quote (drop n cs)) (λ _. omega arith)
     (λ _. by_test Small (next_is single_quote (drop n cs)) (λ _. omega arith) (λ _. tt)))
 
-pub raw_delimiter : (cs : List ℕ) {delimiter : ℕ} → parse_raw_string_start cs ≡ Opens delimiter → delimiter < 512
+pub raw_delimiter : (cs : List ℕ) {delimiter : ℕ} → parse_raw_string_start cs ≡ Some delimiter → delimiter < 512
 raw_delimiter cs e = subst Small e (raw_small cs)
 
 -- ---- the name
@@ -79,21 +77,21 @@ ascii_len {s} {i} d w e h = record { code = d; at = ascii_head s i d e h; well =
 
 -- an end of a name as `name_end` has it
 abbrev pub Ends : (ℕ → ℕ) → Lexer → (List ℕ → Reach) → Type 0
-Ends look l end = (c : ℕ) (cs : List ℕ) → end (c ∷ cs) ≡ run_test look 1 (along_by (len_utf8 c) 1 (reach_of l)) cs
+Ends look l end = (c : ℕ) (cs : List ℕ) → end (c ∷ cs) ≡ run_test look id_continue (along_by (len_utf8 c) 1 (reach_of l)) cs
 
 -- the run after the first character, from where it ends
 end_at : (look : ℕ → ℕ) (s : List ℕ) (l : Lexer) (end : List ℕ → Reach) {q r : Reach} {c n : ℕ} → Ends look l end
     → q ≡ reach_of l → At s q.byte.0 c n → r ≡ along_by n 1 q
-    → run_test look 1 r (chars (drop r.byte.0 s)) ≡ end (chars_from s (reach_of l))
+    → run_test look id_continue r (chars (drop r.byte.0 s)) ≡ end (chars_from s (reach_of l))
 end_at look s l end {q} {r} {c} {n} is e a f =
-    ap (λ (x : Reach). run_test look 1 x (chars (drop x.byte.0 s))) f
-    ∙ ap (λ (k : ℕ). run_test look 1 (along_by k 1 q) (chars (drop (q.byte.0 + n) s))) (sym a.width)
-    ∙ ap (λ (x : Reach). run_test look 1 (along_by (len_utf8 c) 1 x) (chars (drop (q.byte.0 + n) s))) e
+    ap (λ (x : Reach). run_test look id_continue x (chars (drop x.byte.0 s))) f
+    ∙ ap (λ (k : ℕ). run_test look id_continue (along_by k 1 q) (chars (drop (q.byte.0 + n) s))) (sym a.width)
+    ∙ ap (λ (x : Reach). run_test look id_continue (along_by (len_utf8 c) 1 x) (chars (drop (q.byte.0 + n) s))) e
     ∙ sym (is c _)
     ∙ ap end (sym a.step ∙ ap (chars_from s) e)
 
 pub name_end_at : (look : ℕ → ℕ) (s : List ℕ) (l : Lexer) {q r : Reach} {c n : ℕ} → q ≡ reach_of l → At s q.byte.0 c n → r ≡ along_by n 1 q
-    → run_test look 1 r (chars (drop r.byte.0 s)) ≡ name_end look (chars_from s (reach_of l)) l
+    → run_test look id_continue r (chars (drop r.byte.0 s)) ≡ name_end look (chars_from s (reach_of l)) l
 unfolding name_end
 name_end_at look s l = end_at look s l (λ cs. name_end look cs l) (λ c cs. search refl)
 
@@ -102,7 +100,7 @@ pub end_goes : (look : ℕ → ℕ) (s : List ℕ) (l : Lexer) (end : List ℕ �
 end_goes look s l end is o h =
     let c = here s (reach_of l).byte.0 o.well h in
     let first = along_by c.len 1 (reach_of l) in
-    let g = run_stands look (test_utf8_of look 1) s first (along_stands s (reach_of l) c.code c.len 1 o c.at c.well (omega arith)) in
+    let g = run_stands look (test_utf8_of look id_continue) s first (along_stands s (reach_of l) c.code c.len 1 o c.at c.well (omega arith)) in
     subst (GoesOn s (reach_of l)) (end_at look s l end {r = first} is refl c.at refl)
     (record { stands = g.stands; on = omega (arith, g.on, c.at.some) })
 
@@ -136,19 +134,19 @@ module _ (s : List ℕ) (l : Lexer) (end : Reach) (o : Stands s (reach_of l)) (q
   name_token_at = rw (left_at o e, name_bytes_lem)
 
   -- what is found after the "r" decides
-  module _ (h : byte_at s (reach_of l).byte.0 ≡ 114) {raw : RawStart} (k : raw ≡ parse_raw_string_start (chars (drop (q.byte.0 + 1) s))) where
-    or_else_lem : {raw' : RawStart} → raw ≡ raw'
+  module _ (h : byte_at s (reach_of l).byte.0 ≡ 114) {raw : Option ℕ} (k : raw ≡ parse_raw_string_start (chars (drop (q.byte.0 + 1) s))) where
+    or_else_lem : {raw' : Option ℕ} → raw ≡ raw'
         → raw_or_name (chars_from s (reach_of l)) end l ≡ or_else raw' l (keyword_or_id (chars_from s (reach_of l)) end l)
     unfolding raw_or_name
     or_else_lem f =
         rw (skip_next (place_of_lem o) (omega arith)).rest
-        (ap (λ (x : RawStart). or_else x l (keyword_or_id (chars_from s (reach_of l)) end l))
+        (ap (λ (x : Option ℕ). or_else x l (keyword_or_id (chars_from s (reach_of l)) end l))
         (ap (λ (x : Reach). parse_raw_string_start (chars (drop (x.byte.0 + 1) s))) (sym e) ∙ sym k ∙ f))
 
-    pub raw_opens : {delimiter : ℕ} → raw ≡ Opens delimiter → raw_or_name (chars_from s (reach_of l)) end l ≡ raw_string_start delimiter l
+    pub raw_opens : {delimiter : ℕ} → raw ≡ Some delimiter → raw_or_name (chars_from s (reach_of l)) end l ≡ raw_string_start delimiter l
     raw_opens f = or_else_lem f
 
-    pub raw_not : raw ≡ Nothing → raw_or_name (chars_from s (reach_of l)) end l ≡ keyword_or_id (chars_from s (reach_of l)) end l
+    pub raw_not : raw ≡ None → raw_or_name (chars_from s (reach_of l)) end l ≡ keyword_or_id (chars_from s (reach_of l)) end l
     raw_not f = or_else_lem f
 
     -- the name is "r", and what is found after it decides
@@ -160,7 +158,7 @@ module _ (s : List ℕ) (l : Lexer) (end : Reach) (o : Stands s (reach_of l)) (q
         }
 
   -- the name is another
-  pub no_decides : is_word r_word (take (end.byte.0 - q.byte.0) (drop q.byte.0 s)) ≡ false → RawDecides s l end Nothing
+  pub no_decides : is_word r_word (take (end.byte.0 - q.byte.0) (drop q.byte.0 s)) ≡ false → RawDecides s l end None
   no_decides f =
       record {
         decides = pick_no _ _ _ _ (ap (λ (x : Reach). is_word r_word (take (end.byte.0 - x.byte.0) (drop x.byte.0 s))) (sym e) ∙ f) refl;
@@ -168,7 +166,7 @@ module _ (s : List ℕ) (l : Lexer) (end : Reach) (o : Stands s (reach_of l)) (q
       }
 
   -- the token, where the name is not "else"
-  pub decided_at : {r raw : RawStart} → is_word else_word (take (end.byte.0 - q.byte.0) (drop q.byte.0 s)) ≡ false → RawDecides s l end r → r ≡ raw
+  pub decided_at : {r raw : Option ℕ} → is_word else_word (take (end.byte.0 - q.byte.0) (drop q.byte.0 s)) ≡ false → RawDecides s l end r → r ≡ raw
       → name_token (chars_from s (reach_of l)) end l ≡ or_else raw l (keyword_or_id (chars_from s (reach_of l)) end l)
   decided_at {r} {raw} f d g =
       name_token_at
@@ -178,7 +176,7 @@ module _ (s : List ℕ) (l : Lexer) (end : Reach) (o : Stands s (reach_of l)) (q
       (keyword_or_id (chars_from s (reach_of l)) end l))
       e
       ∙ d.decides
-      ∙ ap (λ (x : RawStart). or_else x l (keyword_or_id (chars_from s (reach_of l)) end l)) g)
+      ∙ ap (λ (x : Option ℕ). or_else x l (keyword_or_id (chars_from s (reach_of l)) end l)) g)
 
 -- ---- words at a place
 

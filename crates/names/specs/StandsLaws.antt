@@ -2,7 +2,7 @@
 -- further on.
 --     id_or_keyword_goes, ignored_goes
 -- Assumes nothing.
-use Rattle.std.specs.Prelude.{ℕ, ◌+◌, ◌-◌, ◌<◌, ◌≡◌, refl, true, List, [], ◌∷◌, ltb, eqb, length, take, drop}
+use Rattle.std.specs.Prelude.{ℕ, ◌+◌, ◌-◌, ◌<◌, ◌≡◌, refl, true, List, [], ◌∷◌, ltb, eqb, length, take, drop, Option, Some, None}
 use Rattle.std.proofs.Common.{arith, sym, subst, ltb-true}
 use Rattle.std.proofs.Math.Bool.{and-eq-true_iff}
 use Rattle.base.specs.PickLaws.{by_test, by_eq}
@@ -13,7 +13,8 @@ use Rattle.keywords.specs.Keywords.{keyword_of}
 use Rattle.token.specs.Kind.{id, dot}
 use Rattle.words.specs.WordsLaws.{ascii}
 use Rattle.text.specs.Bytes.{byte_at}
-use Rattle.text.specs.Tests.{double_quote, single_quote}
+use Rattle.text.specs.Tests.{double_quote, single_quote, is_hash}
+use Rattle.text.specs.CountLaws.{hash_ascii}
 use Rattle.text.specs.Stands.{Stands, chars_from}
 use Rattle.state.specs.Modes.{hash_count_of}
 use Rattle.state.specs.Lexer.{reach_of}
@@ -24,8 +25,6 @@ use Rattle.numbers.specs.PlaceLaws.{place_of_lem, next_place, run_place, run_end
 use Rattle.numbers.specs.StandsLaws.{along_goes}
 use Rattle.names.specs.ConsumeIdOrKeyword.{name_end, remaining, name_bytes, parse_raw_string_start, keyword_or_id, raw_or_name, name_token, consume_id_or_keyword, consume_ignored}
 use Rattle.names.specs.NameLaws.{raw_start_at, end_goes, name_token_at, raw_opens, raw_not, r_stands, word_starts, starts_next}
-use Rattle.names.specs.declared.RawStart.{RawStart}
-use Rattle.names.specs.declared.RawStart.TheVariants.{Opens, Nothing}
 
 -- an ASCII word that stands at a place ends at one
 word_place : (w : List ℕ) {s : List ℕ} {i : ℕ} → PlaceIn s i → ascii w ≡ true → starts_with w (drop i s) ≡ true → PlaceIn s (i + length w)
@@ -37,14 +36,14 @@ word_place (c ∷ w) {s} {i} p a e =
     subst (PlaceIn s) (omega arith) q
 
 -- the quote that opens a raw string ends at a place
-abbrev Opened : List ℕ → ℕ → RawStart → Type 0
-Opened s i (Opens delimiter) = PlaceIn s (i + (1 + hash_count_of delimiter))
-Opened s i Nothing = Unit {0}
+abbrev Opened : List ℕ → ℕ → Option ℕ → Type 0
+Opened s i (Some delimiter) = PlaceIn s (i + (1 + hash_count_of delimiter))
+Opened s i None = Unit {0}
 
 opened : {s : List ℕ} {i : ℕ} → PlaceIn s i → Opened s i (parse_raw_string_start (chars (drop i s)))
 opened {s} {i} p =
-    let j = run_end 5 s i in
-    let quote : byte_at s j < 128 → PlaceIn s (j + 1) = next_place (run_place p 5) in
+    let j = run_end is_hash s i in
+    let quote : byte_at s j < 128 → PlaceIn s (j + 1) = next_place (run_place p hash_ascii) in
     subst (Opened s i) (sym (raw_start_at p refl))
     (by_test (Opened s i) (ltb 255 (j - i)) (λ _. tt)
     (λ _. by_eq (Opened s i) (byte_at s j) double_quote (λ e. subst (PlaceIn s) (omega arith) (quote (omega arith)))
@@ -66,12 +65,12 @@ module _ (s : List ℕ) (l : Lexer) (end : Reach) (o : Stands s (reach_of l)) (g
   raw_leads : byte_at s (reach_of l).byte.0 ≡ 114 → Leads (raw_or_name (chars_from s (reach_of l)) end l)
   raw_leads h = go (parse_raw_string_start (chars (drop ((reach_of l).byte.0 + 1) s))) refl (opened (next_place (place_of_lem o) (omega arith)))
     where
-      go : (raw : RawStart) → raw ≡ parse_raw_string_start (chars (drop ((reach_of l).byte.0 + 1) s)) → Opened s ((reach_of l).byte.0 + 1) raw
+      go : (raw : Option ℕ) → raw ≡ parse_raw_string_start (chars (drop ((reach_of l).byte.0 + 1) s)) → Opened s ((reach_of l).byte.0 + 1) raw
           → Leads (raw_or_name (chars_from s (reach_of l)) end l)
-      go (Opens delimiter) k p =
+      go (Some delimiter) k p =
           subst Leads (sym (raw_opens s l end o (reach_of l) refl h k refl))
           (along_goes (2 + hash_count_of delimiter) o (subst (PlaceIn s) (omega arith) p) (omega arith))
-      go Nothing k p = subst Leads (sym (raw_not s l end o (reach_of l) refl h k refl)) keyword_leads
+      go None k p = subst Leads (sym (raw_not s l end o (reach_of l) refl h k refl)) keyword_leads
 
   name_leads : Leads (name_token (chars_from s (reach_of l)) end l)
   name_leads =

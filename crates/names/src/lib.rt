@@ -19,36 +19,29 @@ ghost use Rattle.names.specs.Decided.{RawDecides};
 use base::chars::{DOUBLE_QUOTE, SINGLE_QUOTE};
 use position::Reach;
 use state::{Change, Lexer, Taken};
-use text::{byte_at, run_end};
+use text::{Hash, IdContinue, byte_at, run_end, run_utf8};
 use token::kinds;
 
-// The start of a raw string, after its `r`.
-#[derive(Clone, Copy)]
-pub enum RawStart {
-    // The delimiter: twice the hash count, and 1 more for a single quote.
-    Opens(u16),
-    Nothing,
-}
-
-// lexer.rs `parse_raw_string_start`: up to 255 hashes and a quote, at `at`.
+// lexer.rs `parse_raw_string_start`: up to 255 hashes and a quote, at `at`. They give the delimiter: twice the hash count, and 1 more for a
+// single quote.
 #[tactic(auto, using(crate::proofs::Hashes::too_many))]
-fn parse_raw_string_start(source: &[u8], at: usize) -> RawStart
+fn parse_raw_string_start(source: &[u8], at: usize) -> Option<u16>
     requires { PlaceIn source.now at }
     ensures { result ≡ parse_raw_string_start (chars (drop at source.now)) }
 {
-    let quote_at = run_end(source, at, text::HASH);
+    let quote_at = run_end::<Hash>(source, at);
     let hash_count = quote_at - at;
     if 255 < hash_count {
-        return RawStart::Nothing;
+        return None;
     }
     let quote = byte_at(source, quote_at);
     if quote == DOUBLE_QUOTE {
-        return RawStart::Opens(2 * (hash_count as u16));
+        return Some(2 * (hash_count as u16));
     }
     if quote == SINGLE_QUOTE {
-        return RawStart::Opens(2 * (hash_count as u16) + 1);
+        return Some(2 * (hash_count as u16) + 1);
     }
-    RawStart::Nothing
+    None
 }
 
 // The token of a raw string's start.
@@ -86,8 +79,8 @@ fn keyword_or_id(source: &[u8], lexer: Lexer, end: Reach) -> Taken
     lexer.token(kind, len)
 }
 
-// The start of a raw string, where the name that reaches to `end` is "r" and opens one.
-fn raw_start(source: &[u8], lexer: Lexer, end: Reach) -> RawStart
+// The delimiter of a raw string, where the name that reaches to `end` is "r" and opens one.
+fn raw_start(source: &[u8], lexer: Lexer, end: Reach) -> Option<u16>
     requires { Stands source.now (reach_of lexer) × GoesOn source.now (reach_of lexer) end }
     ensures { RawDecides source.now lexer end result }
 {
@@ -97,7 +90,7 @@ fn raw_start(source: &[u8], lexer: Lexer, end: Reach) -> RawStart
     if words::is_r(source, at, len) {
         return parse_raw_string_start(source, at + 1);
     }
-    RawStart::Nothing
+    None
 }
 
 // The token of the name that reaches to `end`.
@@ -115,8 +108,8 @@ fn name_token(source: &[u8], lexer: Lexer, end: Reach) -> Taken
         return lexer.token(kinds::ELSE, 4);
     }
     match raw_start(source, lexer, end) {
-        RawStart::Opens(delimiter) => raw_string_start(lexer, delimiter),
-        RawStart::Nothing => keyword_or_id(source, lexer, end),
+        Some(delimiter) => raw_string_start(lexer, delimiter),
+        None => keyword_or_id(source, lexer, end),
     }
 }
 
@@ -126,7 +119,7 @@ fn name_end(source: &[u8], table: &[u32], lexer: Lexer, len: usize) -> Reach
     ensures { result ≡ name_end (properties_at table.now) (chars_from source.now (reach_of lexer)) lexer }
 {
     let reach = lexer.reach();
-    text::run_utf8(source, table, reach.along(len, 1), text::ID_CONTINUE)
+    run_utf8::<IdContinue>(source, table, reach.along(len, 1))
 }
 
 // lexer.rs `consume_id_or_keyword`. The first character has already been matched.

@@ -11,10 +11,10 @@ use Rattle.base.specs.PickLaws.{by_test, by_lt, split_eq}
 use Rattle.base.specs.RangeLaws.{inside_is}
 use Rattle.utf8.specs.Chars.{chars}
 use Rattle.text.specs.Bytes.{byte_at}
-use Rattle.text.specs.Tests.{plus, minus, dot, zero_digit, underscore, letter_b, letter_e, letter_o, letter_x, is_digit, is_decimal_digit, test_of}
+use Rattle.text.specs.Tests.{plus, minus, dot, zero_digit, underscore, letter_b, letter_e, letter_o, letter_x, is_digit, is_binary_digit, is_octal_digit, is_decimal_digit, is_hex_digit}
 use Rattle.text.specs.Count.{count_while}
 use Rattle.text.specs.FollowLaws.{next_is_lem}
-use Rattle.text.specs.CountLaws.{skip_both, skip_run, test_ascii}
+use Rattle.text.specs.CountLaws.{skip_both, skip_run, binary_ascii, octal_ascii, decimal_ascii, hex_ascii}
 use Rattle.numbers.specs.Places.{PlaceIn}
 use Rattle.numbers.specs.PlaceLaws.{run_end, skip_next, skip_two, next_place, two_places, run_place, next_passes_lem}
 use Rattle.numbers.specs.ConsumeNumber.{next_sign, exponent_bytes, is_fraction, fraction_bytes, tail_bytes, zero_bytes, number_bytes}
@@ -50,7 +50,7 @@ module _ {s : List ℕ} {i : ℕ} (p : PlaceIn s i) where
   letter d h e = omega (arith, eqb-true (byte_at s i) d e)
 
   -- a letter, and the run after it
-  letter_run : (test : ℕ) → byte_at s i < 128 → i + (1 + count_while (test_of test) (drop 1 (chars (drop i s)))) ≡ run_end test s (i + 1)
+  letter_run : (test : ℕ → Bool) → byte_at s i < 128 → i + (1 + count_while test (drop 1 (chars (drop i s)))) ≡ run_end test s (i + 1)
   letter_run test h = rw (skip_next p h).rest (omega arith)
 
 -- ---- the exponent
@@ -58,9 +58,9 @@ module _ {s : List ℕ} {i : ℕ} (p : PlaceIn s i) where
 module _ {s : List ℕ} {i : ℕ} (p : PlaceIn s i) where
   pub exponent_at : i + exponent_bytes (chars (drop i s))
       ≡ pick (eqb (byte_at s i) letter_e)
-      (pick (eqb (byte_at s (i + 1)) plus || eqb (byte_at s (i + 1)) minus) (run_end 3 s (i + 2)) (run_end 3 s (i + 1)))
+      (pick (eqb (byte_at s (i + 1)) plus || eqb (byte_at s (i + 1)) minus) (run_end is_decimal_digit s (i + 2)) (run_end is_decimal_digit s (i + 1)))
       i
-  unfolding exponent_bytes test_of
+  unfolding exponent_bytes
   exponent_at =
       rw (next_is_lem s i letter_e p.well (omega arith))
       (both (λ a c. i + a ≡ c) (eqb (byte_at s i) letter_e)
@@ -76,7 +76,7 @@ module _ {s : List ℕ} {i : ℕ} (p : PlaceIn s i) where
       (by_test (PlaceIn s) (eqb (byte_at s i) letter_e)
       (λ e. let h = letter p letter_e (omega arith) e in
       by_test (PlaceIn s) (eqb (byte_at s (i + 1)) plus || eqb (byte_at s (i + 1)) minus)
-      (λ f. run_place (two_places p h (sign_ascii _ f)) 3) (λ f. run_place (next_place p h) 3))
+      (λ f. run_place (two_places p h (sign_ascii _ f)) decimal_ascii) (λ f. run_place (next_place p h) decimal_ascii))
       (λ e. p))
 
 -- the byte after the exponent at i
@@ -91,29 +91,29 @@ module _ {s : List ℕ} {i : ℕ} (p : PlaceIn s i) where
       || (eqb (byte_at s i) letter_e
       && (is_digit (byte_at s (i + 1))
       || (eqb (byte_at s (i + 1)) underscore || (eqb (byte_at s (i + 1)) plus || eqb (byte_at s (i + 1)) minus)))))
-  unfolding is_fraction is_decimal_digit test_of
+  unfolding is_fraction is_decimal_digit
   fraction_at =
       rw (next_passes_lem is_digit digit_ascii p, next_is_lem s i letter_e p.well (omega arith))
       (ap (λ (t : Bool). is_digit (byte_at s i) || t)
       (and_both (eqb (byte_at s i) letter_e)
       (λ e. let h = letter p letter_e (omega arith) e in
       let q = next_place p h in
-      rw ((skip_next p h).rest, next_passes_lem is_decimal_digit (λ c. test_ascii c 3) q, next_sign_lem q)
+      rw ((skip_next p h).rest, next_passes_lem is_decimal_digit decimal_ascii q, next_sign_lem q)
       (or_assoc (is_digit (byte_at s (i + 1))) (eqb (byte_at s (i + 1)) underscore) _))))
 
 -- ---- after the whole part
 
 module _ {s : List ℕ} {i : ℕ} (p : PlaceIn s i) where
   pub tail_at : i + tail_bytes (chars (drop i s))
-      ≡ pick (eqb (byte_at s i) dot) (pick (is_fraction (chars (drop (i + 1) s))) (exponent_end s (run_end 3 s (i + 1))) i) (exponent_end s i)
-  unfolding tail_bytes fraction_bytes test_of
+      ≡ pick (eqb (byte_at s i) dot) (pick (is_fraction (chars (drop (i + 1) s))) (exponent_end s (run_end is_decimal_digit s (i + 1))) i) (exponent_end s i)
+  unfolding tail_bytes fraction_bytes
   tail_at =
       rw (next_is_lem s i dot p.well (omega arith))
       (both (λ a c. i + a ≡ c) (eqb (byte_at s i) dot)
       (λ e. let h = letter p dot (omega arith) e in
       rw (skip_next p h).rest
       (both (λ a c. i + a ≡ c) (is_fraction (chars (drop (i + 1) s)))
-      (λ f. rw (skip_run 3 s (i + 1) (next_place p h).well).rest (omega arith)) (λ f. omega arith)))
+      (λ f. rw (skip_run decimal_ascii s (i + 1) (next_place p h).well).rest (omega arith)) (λ f. omega arith)))
       (λ e. refl))
 
   pub tail_place : PlaceIn s (i + tail_bytes (chars (drop i s)))
@@ -121,33 +121,33 @@ module _ {s : List ℕ} {i : ℕ} (p : PlaceIn s i) where
       rw tail_at
       (by_test (PlaceIn s) (eqb (byte_at s i) dot)
       (λ e. by_test (PlaceIn s) (is_fraction (chars (drop (i + 1) s)))
-      (λ f. exponent_place (run_place (next_place p (letter p dot (omega arith) e)) 3)) (λ f. p))
+      (λ f. exponent_place (run_place (next_place p (letter p dot (omega arith) e)) decimal_ascii)) (λ f. p))
       (λ e. exponent_place p))
 
   pub zero_at : i + zero_bytes (chars (drop i s))
-      ≡ pick (eqb (byte_at s i) letter_b) (run_end 1 s (i + 1))
-      (pick (eqb (byte_at s i) letter_o) (run_end 2 s (i + 1))
-      (pick (eqb (byte_at s i) letter_x) (run_end 4 s (i + 1)) (i + tail_bytes (chars (drop i s)))))
-  unfolding zero_bytes test_of
+      ≡ pick (eqb (byte_at s i) letter_b) (run_end is_binary_digit s (i + 1))
+      (pick (eqb (byte_at s i) letter_o) (run_end is_octal_digit s (i + 1))
+      (pick (eqb (byte_at s i) letter_x) (run_end is_hex_digit s (i + 1)) (i + tail_bytes (chars (drop i s)))))
+  unfolding zero_bytes
   zero_at =
       rw (
         next_is_lem s i letter_b p.well (omega arith),
         next_is_lem s i letter_o p.well (omega arith),
         next_is_lem s i letter_x p.well (omega arith),
       )
-      (both (λ a c. i + a ≡ c) (eqb (byte_at s i) letter_b) (λ e. letter_run p 1 (letter p letter_b (omega arith) e))
-      (λ _. both (λ a c. i + a ≡ c) (eqb (byte_at s i) letter_o) (λ e. letter_run p 2 (letter p letter_o (omega arith) e))
-      (λ _. both (λ a c. i + a ≡ c) (eqb (byte_at s i) letter_x) (λ e. letter_run p 4 (letter p letter_x (omega arith) e)) (λ _. refl))))
+      (both (λ a c. i + a ≡ c) (eqb (byte_at s i) letter_b) (λ e. letter_run p is_binary_digit (letter p letter_b (omega arith) e))
+      (λ _. both (λ a c. i + a ≡ c) (eqb (byte_at s i) letter_o) (λ e. letter_run p is_octal_digit (letter p letter_o (omega arith) e))
+      (λ _. both (λ a c. i + a ≡ c) (eqb (byte_at s i) letter_x) (λ e. letter_run p is_hex_digit (letter p letter_x (omega arith) e)) (λ _. refl))))
 
-  letter_place : (d test : ℕ) → d < 128 → eqb (byte_at s i) d ≡ true → PlaceIn s (run_end test s (i + 1))
-  letter_place d test h e = run_place (next_place p (letter p d h e)) test
+  letter_place : (d : ℕ) {test : ℕ → Bool} → ((c : ℕ) → test c ≡ true → c < 128) → d < 128 → eqb (byte_at s i) d ≡ true → PlaceIn s (run_end test s (i + 1))
+  letter_place d ascii h e = run_place (next_place p (letter p d h e)) ascii
 
   pub zero_place : PlaceIn s (i + zero_bytes (chars (drop i s)))
   zero_place =
       rw zero_at
-      (by_test (PlaceIn s) (eqb (byte_at s i) letter_b) (letter_place letter_b 1 (omega arith))
-      (λ _. by_test (PlaceIn s) (eqb (byte_at s i) letter_o) (letter_place letter_o 2 (omega arith))
-      (λ _. by_test (PlaceIn s) (eqb (byte_at s i) letter_x) (letter_place letter_x 4 (omega arith)) (λ _. tail_place))))
+      (by_test (PlaceIn s) (eqb (byte_at s i) letter_b) (letter_place letter_b binary_ascii (omega arith))
+      (λ _. by_test (PlaceIn s) (eqb (byte_at s i) letter_o) (letter_place letter_o octal_ascii (omega arith))
+      (λ _. by_test (PlaceIn s) (eqb (byte_at s i) letter_x) (letter_place letter_x hex_ascii (omega arith)) (λ _. tail_place))))
 
 -- ---- the number
 
@@ -159,23 +159,23 @@ one_more_lem i n =
 
 -- the byte after the whole part
 abbrev pub whole_end : List ℕ → ℕ → ℕ
-whole_end s i = run_end 3 s (i + 1)
+whole_end s i = run_end is_decimal_digit s (i + 1)
 
 module _ {s : List ℕ} {i : ℕ} (p : PlaceIn s i) (h : byte_at s i < 128) where
   pub number_at : i + number_bytes (chars (drop i s))
       ≡ pick (eqb (byte_at s i) zero_digit && eqb (whole_end s i) (i + 1)) (whole_end s i + zero_bytes (chars (drop (whole_end s i) s)))
       (whole_end s i + tail_bytes (chars (drop (whole_end s i) s)))
-  unfolding number_bytes test_of
+  unfolding number_bytes
   number_at =
       let k = skip_next p h in
       let n = count_while is_decimal_digit (chars (drop (i + 1) s)) in
-      let m = skip_both s i 1 n k (skip_run 3 s (i + 1) k.well) in
+      let m = skip_both s i 1 n k (skip_run decimal_ascii s (i + 1) k.well) in
       let q : i + (1 + n) ≡ i + 1 + n = omega arith in
       rw (k.rest, next_is_lem s i zero_digit p.well (omega arith), m.rest, q, one_more_lem i n)
       (both (λ a c. i + (1 + n + a) ≡ c) (eqb (byte_at s i) zero_digit && eqb (whole_end s i) (i + 1)) (λ e. omega arith) (λ e. omega arith))
 
   pub whole_place : PlaceIn s (whole_end s i)
-  whole_place = run_place (next_place p h) 3
+  whole_place = run_place (next_place p h) decimal_ascii
 
   pub number_place : PlaceIn s (i + number_bytes (chars (drop i s)))
   number_place =

@@ -2,7 +2,7 @@
 --     place_of_lem                 where reading stands is a place
 --     token_fits, bytes_read, read_place    what a token of ASCII characters asks of the lexer, how many there are, and where it ends
 --     next_place, two_places   one ASCII byte on, and two
---     run_end, run_place        past a run of characters that pass a numbered test
+--     run_end, run_place        past a run of characters that pass a test which only ASCII passes
 --     next_passes_lem              a peek at a character that passes an ASCII test is a test of the byte
 --     skip_next, skip_two      so many ASCII characters on is so many bytes on
 --     tests, bytes             the rules for a return of code that reads bytes
@@ -19,7 +19,7 @@ use Rattle.position.specs.declared.Reach.{Reach}
 use Rattle.utf8.specs.Chars.{chars}
 use Rattle.utf8.specs.declared.Read.TheVariants.{Char}
 use Rattle.text.specs.Bytes.{byte_at}
-use Rattle.text.specs.Tests.{is_digit, test_of}
+use Rattle.text.specs.Tests.{is_digit}
 use Rattle.text.specs.Count.{count_while}
 use Rattle.text.specs.Stands.{Stands, chars_from}
 use Rattle.text.specs.FollowLaws.{here, chars_end, byte_within, ascii_read, head_is}
@@ -57,8 +57,8 @@ pub read_place : (f : List ℕ → ℕ) {s : List ℕ} {q r : Reach} {end : ℕ}
 read_place f {s} {q} {r} e h p = subst (PlaceIn s) (sym (h ∙ ap (λ (x : Reach). x.byte.0 + f (chars_from s x)) e)) p
 
 -- the byte after the run of characters from i on that pass a test
-abbrev pub run_end : ℕ → List ℕ → ℕ → ℕ
-run_end test s i = i + count_while (test_of test) (chars (drop i s))
+abbrev pub run_end : (ℕ → Bool) → List ℕ → ℕ → ℕ
+run_end test s i = i + count_while test (chars (drop i s))
 
 module _ {s : List ℕ} {i : ℕ} (p : PlaceIn s i) where
   pub skip_next : byte_at s i < 128 → Skips s i 1
@@ -72,9 +72,9 @@ module _ {s : List ℕ} {i : ℕ} (p : PlaceIn s i) where
         well = (skip_next h).well;
       }
 
-  pub run_place : (test : ℕ) → PlaceIn s (run_end test s i)
-  run_place test =
-      let e = count_within test s i p.well in
+  pub run_place : {test : ℕ → Bool} → ((c : ℕ) → test c ≡ true → c < 128) → PlaceIn s (run_end test s i)
+  run_place ascii =
+      let e = count_within ascii s i p.well in
       record { small = p.small; inside = e.within p.inside; well = e.well }
 
 module _ {s : List ℕ} {i : ℕ} (p : PlaceIn s i) where

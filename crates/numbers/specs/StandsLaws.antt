@@ -9,11 +9,11 @@ use Rattle.position.specs.Place.{along_by}
 use Rattle.position.specs.declared.Reach.{Reach}
 use Rattle.utf8.specs.Chars.{chars}
 use Rattle.text.specs.Bytes.{byte_at}
-use Rattle.text.specs.Tests.{is_whitespace, test_of}
+use Rattle.text.specs.Tests.{is_whitespace}
 use Rattle.text.specs.Count.{count_while}
 use Rattle.text.specs.Stands.{Stands, chars_from}
 use Rattle.text.specs.FollowLaws.{byte_within}
-use Rattle.text.specs.CountLaws.{count_more, test_ascii}
+use Rattle.text.specs.CountLaws.{count_more, whitespace_ascii}
 use Rattle.state.specs.Lexer.{reach_of}
 use Rattle.state.specs.declared.Lexer.{Lexer}
 use Rattle.numbers.specs.Places.{PlaceIn, GoesOn}
@@ -40,12 +40,11 @@ along_goes n o p h =
 
 pub whitespace_goes : (s : List ℕ) (l : Lexer) → Stands s (reach_of l) → is_whitespace (byte_at s (reach_of l).byte.0) ≡ true
     → GoesOn s (reach_of l) (reach_of (consume_whitespace (chars_from s (reach_of l)) l).lexer)
-unfolding test_of
 whitespace_goes s l o h =
     let i = (reach_of l).byte.0 in
-    let k : i < length s = byte_within s i (byte_at s i) refl (omega (arith, test_ascii (byte_at s i) 0 h)) in
-    let m = count_more is_whitespace (λ c. test_ascii c 0) s i o.well k (rw (lt-ltb i (length s) k) at h) in
-    along_goes (count_while is_whitespace (chars (drop i s))) o (run_place (place_of_lem o) 0) (omega (arith, m.0))
+    let k : i < length s = byte_within s i (byte_at s i) refl (omega (arith, whitespace_ascii (byte_at s i) h)) in
+    let m = count_more is_whitespace whitespace_ascii s i o.well k (rw (lt-ltb i (length s) k) at h) in
+    along_goes (count_while is_whitespace (chars (drop i s))) o (run_place (place_of_lem o) whitespace_ascii) (omega (arith, m.0))
 
 pub number_goes : (s : List ℕ) (l : Lexer) → Stands s (reach_of l)
     → (48 ≤ byte_at s (reach_of l).byte.0) × (byte_at s (reach_of l).byte.0 ≤ 57)

@@ -16,7 +16,7 @@ use base::chars::{
 };
 use base::code_between;
 use state::{Lexer, Taken};
-use text::{byte_at, run_end};
+use text::{BinaryDigit, DecimalDigit, HexDigit, OctalDigit, Whitespace, byte_at, run_end};
 use token::kinds;
 
 // Spaces and tabs. One has been matched.
@@ -26,7 +26,7 @@ pub fn consume_whitespace(source: &[u8], lexer: Lexer) -> Taken
 {
     let reach = lexer.reach();
     let at = reach.byte.0;
-    let count = run_end(source, at, text::WHITESPACE) - at;
+    let count = run_end::<Whitespace>(source, at) - at;
     lexer
         .indent_by(count as u32)
         .token(kinds::WHITESPACE, count)
@@ -42,12 +42,12 @@ fn exponent_end(source: &[u8], at: usize) -> usize
     }
     let sign = byte_at(source, at + 1);
     if sign == PLUS {
-        return run_end(source, at + 2, text::DECIMAL_DIGIT);
+        return run_end::<DecimalDigit>(source, at + 2);
     }
     if sign == MINUS {
-        return run_end(source, at + 2, text::DECIMAL_DIGIT);
+        return run_end::<DecimalDigit>(source, at + 2);
     }
-    run_end(source, at + 1, text::DECIMAL_DIGIT)
+    run_end::<DecimalDigit>(source, at + 1)
 }
 
 fn is_digit(b: u32) -> bool
@@ -95,7 +95,7 @@ fn tail_end(source: &[u8], at: usize) -> usize
     if !is_fraction(source, at + 1) {
         return at;
     }
-    exponent_end(source, run_end(source, at + 1, text::DECIMAL_DIGIT))
+    exponent_end(source, run_end::<DecimalDigit>(source, at + 1))
 }
 
 // The byte after a number whose whole part is the zero before `at`.
@@ -105,13 +105,13 @@ fn zero_end(source: &[u8], at: usize) -> usize
 {
     let letter = byte_at(source, at);
     if letter == LETTER_B {
-        return run_end(source, at + 1, text::BINARY_DIGIT);
+        return run_end::<BinaryDigit>(source, at + 1);
     }
     if letter == LETTER_O {
-        return run_end(source, at + 1, text::OCTAL_DIGIT);
+        return run_end::<OctalDigit>(source, at + 1);
     }
     if letter == LETTER_X {
-        return run_end(source, at + 1, text::HEX_DIGIT);
+        return run_end::<HexDigit>(source, at + 1);
     }
     tail_end(source, at)
 }
@@ -122,7 +122,7 @@ pub fn number_end(source: &[u8], at: usize) -> usize
     requires bound { (48 ≤ byte_at source.now at) × (byte_at source.now at ≤ 57) }
     ensures { result ≡ at + number_bytes (chars (drop at source.now)) }
 {
-    let whole = run_end(source, at + 1, text::DECIMAL_DIGIT);
+    let whole = run_end::<DecimalDigit>(source, at + 1);
     if byte_at(source, at) != ZERO {
         return tail_end(source, whole);
     }

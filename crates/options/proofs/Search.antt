@@ -13,6 +13,7 @@ use lib.Dec.{eqb}
 use lib.ListN.{length, get_or, drop, drop_of_length-le}
 use lib.Seq.{drop-cons}
 use borrow.Author.Tests.{eq-eqb, ne_eqb}
+use Rattle.std.specs.Prelude.{Option, Some, None}
 use Rattle.base.specs.Pick.{pick}
 use Rattle.base.specs.PickLaws.{split_lt}
 use Rattle.utf8.specs.Encode.{encode, encode_all, WellFormed}
@@ -22,13 +23,11 @@ use Rattle.utf8.specs.CharsLaws.{chars_well}
 use Rattle.text.specs.Tests.{curly_close}
 use Rattle.text.specs.Count.{len_utf8}
 use Rattle.options.specs.ConsumeFormatOptions.{find_brace}
-use Rattle.options.specs.declared.Brace.{Brace}
-use Rattle.options.specs.declared.Brace.TheVariants.{At, Nowhere}
 
 -- the first brace among bytes, which begin at the byte i
-find_byte : ℕ → List ℕ → Brace
-find_byte i [] = Nowhere
-find_byte i (b ∷ bs) = pick (eqb b curly_close) (At i) (find_byte (suc i) bs)
+find_byte : ℕ → List ℕ → Option ℕ
+find_byte i [] = None
+find_byte i (b ∷ bs) = pick (eqb b curly_close) (Some i) (find_byte (suc i) bs)
 
 -- ---- over a character
 
@@ -49,7 +48,7 @@ encode_high c h =
     (λ k. split_lt c 0x10000 (λ m. rw (encode3 c k m) (omega arith, (omega arith, (omega arith, tt))))
     (λ m. rw (encode4 c m) (omega arith, (omega arith, (omega arith, (omega arith, tt))))))
 
-past_char : (i c : ℕ) (t : List ℕ) → find_byte i (encode c ++ t) ≡ pick (eqb c curly_close) (At i) (find_byte (i + len_utf8 c) t)
+past_char : (i c : ℕ) (t : List ℕ) → find_byte i (encode c ++ t) ≡ pick (eqb c curly_close) (Some i) (find_byte (i + len_utf8 c) t)
 unfolding find_byte
 past_char i c t =
     split_lt c 0x80 (λ h. rw (encode1 c h, add-one i))
@@ -58,13 +57,13 @@ past_char i c t =
 past_chars : (i : ℕ) (cs : List ℕ) → find_byte i (encode_all cs) ≡ find_brace i cs
 unfolding encode_all find_byte find_brace
 past_chars i [] = refl
-past_chars i (c ∷ cs) = past_char i c (encode_all cs) ∙ ap (pick (eqb c curly_close) (At i)) (past_chars (i + len_utf8 c) cs)
+past_chars i (c ∷ cs) = past_char i c (encode_all cs) ∙ ap (pick (eqb c curly_close) (Some i)) (past_chars (i + len_utf8 c) cs)
 
 -- ---- along a source
 
 module _ (s : List ℕ) (at : ℕ) where
   -- the definition's answer
-  abbrev answer : Brace
+  abbrev answer : Option ℕ
   answer = find_brace at (chars (drop at s))
 
   pub record Searching (i : ℕ) : Type 0 where
@@ -74,16 +73,16 @@ module _ (s : List ℕ) (at : ℕ) where
   searching w = record { same = ap (find_byte at) (chars_well (drop at s) w).0 ∙ past_chars at (chars (drop at s)) }
 
   module _ (i : ℕ) (g : Searching i) where
-    pub nowhere : length s ≤ i → Nowhere ≡ answer
+    pub nowhere : length s ≤ i → None ≡ answer
     unfolding find_byte
     nowhere h = rw (drop_of_length-le s h) at g.same
 
     module _ (h : i < length s) where
-      here : pick (eqb (get_or s i 0) curly_close) (At i) (find_byte (suc i) (drop (suc i) s)) ≡ answer
+      here : pick (eqb (get_or s i 0) curly_close) (Some i) (find_byte (suc i) (drop (suc i) s)) ≡ answer
       unfolding find_byte
       here = rw (drop-cons s i 0 h) at g.same
 
-      pub found : get_or s i 0 ≡ curly_close → At i ≡ answer
+      pub found : get_or s i 0 ≡ curly_close → Some i ≡ answer
       found e = rw (eq-eqb (get_or s i 0) curly_close e) at here
 
       pub searches_on : (get_or s i 0 ≡ curly_close → ⊥) → Searching (i + 1)

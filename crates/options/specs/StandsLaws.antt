@@ -6,7 +6,7 @@
 -- Assumes nothing.
 use Prim.Native.Nat.{ℕ, zero, suc, ◌+◌, ◌-◌, ◌≤◌, ◌<◌}
 use Rattle.std.proofs.Common.{arith, sym, ap, subst, ◌∙◌, length-append, eqb-true, eq-eqb, ne_eqb}
-use Rattle.std.specs.Prelude.{◌≡◌, Bool, true, false, ◌||◌, List, [], ◌∷◌, ◌++◌, length, get_or, take, drop}
+use Rattle.std.specs.Prelude.{◌≡◌, Bool, true, false, ◌||◌, List, [], ◌∷◌, ◌++◌, length, get_or, take, drop, Option, Some, None}
 use Rattle.std.proofs.Math.Path.{refl}
 use Rattle.base.specs.Pick.{pick}
 use Rattle.base.specs.PickLaws.{split_eq}
@@ -27,8 +27,6 @@ use Rattle.state.specs.declared.Change.TheVariants.{Pop}
 use Rattle.state.specs.declared.Lexer.{Lexer}
 use Rattle.state.specs.declared.Taken.{Taken}
 use Rattle.options.specs.ConsumeFormatOptions.{is_aligned, skip_bytes, find_brace, options_token, consume_format_options}
-use Rattle.options.specs.declared.Brace.{Brace}
-use Rattle.options.specs.declared.Brace.TheVariants.{At, Nowhere}
 
 -- ---- bytes that are whole characters
 
@@ -112,15 +110,15 @@ record Behind (i e : ℕ) (cs : List ℕ) : Type 0 where
   byte : e ≡ i + length (encode_all (take k cs))
   left : drop k cs ≡ curly_close ∷ rest
 
-behind : (i e : ℕ) (cs : List ℕ) → find_brace i cs ≡ At e → Behind i e cs
+behind : (i e : ℕ) (cs : List ℕ) → find_brace i cs ≡ Some e → Behind i e cs
 unfolding find_brace encode_all
 behind i e [] p = absurd (let z : ◌≡◌ {A = ℕ} 0 1 = cc in omega arith)
 behind i e (c ∷ cs) p =
     split_eq c curly_close
-    (λ x. let q : At i ≡ At e = rw (eq-eqb c curly_close x) at p in
+    (λ x. let q : Some i ≡ Some e = rw (eq-eqb c curly_close x) at p in
     let r : i ≡ e = cc in
     record { k = 0; rest = cs; byte = omega arith; left = ap {B = List ℕ} (λ d. d ∷ cs) x })
-    (λ x. let q : find_brace (i + len_utf8 c) cs ≡ At e = rw (ne_eqb c curly_close x) at p in
+    (λ x. let q : find_brace (i + len_utf8 c) cs ≡ Some e = rw (ne_eqb c curly_close x) at p in
     let b = behind (i + len_utf8 c) e cs q in
     record {
       k = suc b.k;
@@ -136,7 +134,7 @@ pub record Braced (s : List ℕ) (i e : ℕ) : Type 0 where
   pub well : WellFormed (drop e s)
   pub brace : byte_at s e ≡ curly_close
 
-brace_found : (s : List ℕ) (i e : ℕ) → i ≤ length s → WellFormed (drop i s) → find_brace i (chars (drop i s)) ≡ At e → Braced s i e
+brace_found : (s : List ℕ) (i e : ℕ) → i ≤ length s → WellFormed (drop i s) → find_brace i (chars (drop i s)) ≡ Some e → Braced s i e
 unfolding next_is
 brace_found s i e h w p =
     let b = behind i e (chars (drop i s)) p in
@@ -155,16 +153,16 @@ pub record Reaches (s : List ℕ) (l : Lexer) (t : Taken) : Type 0 where
 
 module _ (look : ℕ → ℕ) (edition : ℕ) (s : List ℕ) where
   -- the brace behind a fill and an alignment that begin at i
-  abbrev pub brace_from : ℕ → Brace
+  abbrev pub brace_from : ℕ → Option ℕ
   brace_from i = let k = i + skip_bytes look edition (chars (drop i s)) in find_brace k (chars (drop k s))
 
-  pub brace_behind : (i e : ℕ) → i ≤ length s → WellFormed (drop i s) → brace_from i ≡ At e → Braced s i e
+  pub brace_behind : (i e : ℕ) → i ≤ length s → WellFormed (drop i s) → brace_from i ≡ Some e → Braced s i e
   brace_behind i e h w p =
       let a = skip_lands look edition s i h w in
       let b = brace_found s _ e a.within a.well p in
       record { on = omega (arith, b.on); within = b.within; well = b.well; brace = b.brace }
 
-  ended : (l : Lexer) (e : ℕ) → Stands s (reach_of l) → Braced s (reach_of l).byte.0 e → Reaches s l (options_token l (At e))
+  ended : (l : Lexer) (e : ℕ) → Stands s (reach_of l) → Braced s (reach_of l).byte.0 e → Reaches s l (options_token l (Some e))
   ended l e o b =
       let i = (reach_of l).byte.0 in
       let q : e ≡ i + (e - i) = omega (arith, b.on) in
@@ -180,10 +178,10 @@ module _ (look : ℕ → ℕ) (edition : ℕ) (s : List ℕ) where
         brace = λ _. ap (byte_at s) (sym q) ∙ b.brace;
       }
 
-  stood : (l : Lexer) → Stands s (reach_of l) → Reaches s l (options_token l Nowhere)
+  stood : (l : Lexer) → Stands s (reach_of l) → Reaches s l (options_token l None)
   stood l o = record { stands = o; on = omega arith; brace = λ e. absurd (let z : ◌≡◌ {A = ℕ} 0 1 = cc in omega arith) }
 
-  pub options_by : (l : Lexer) (b : Brace) → Stands s (reach_of l) → b ≡ brace_from (reach_of l).byte.0
+  pub options_by : (l : Lexer) (b : Option ℕ) → Stands s (reach_of l) → b ≡ brace_from (reach_of l).byte.0
       → options_token l b ≡ consume_format_options look edition (chars_from s (reach_of l)) l
   unfolding consume_format_options
   options_by l b o e = rw (e, (skip_lands look edition s (reach_of l).byte.0 o.inside o.well).left)
@@ -191,12 +189,12 @@ module _ (look : ℕ → ℕ) (edition : ℕ) (s : List ℕ) where
   pub options_stands : (l : Lexer) → Stands s (reach_of l) → Reaches s l (consume_format_options look edition (chars_from s (reach_of l)) l)
   options_stands l o = go _ refl
     where
-      go : (b : Brace) → b ≡ brace_from (reach_of l).byte.0 → Reaches s l (consume_format_options look edition (chars_from s (reach_of l)) l)
-      go (At e) p =
+      go : (b : Option ℕ) → b ≡ brace_from (reach_of l).byte.0 → Reaches s l (consume_format_options look edition (chars_from s (reach_of l)) l)
+      go (Some e) p =
           let i = (reach_of l).byte.0 in
           let b = brace_behind i e o.inside o.well (sym p) in
           let q : e ≡ i + (e - i) = omega (arith, b.on) in
-          rw (← options_by l (At e) o p)
+          rw (← options_by l (Some e) o p)
           (record {
             stands = record {
               small = o.small;
@@ -208,4 +206,4 @@ module _ (look : ℕ → ℕ) (edition : ℕ) (s : List ℕ) where
             on = omega arith;
             brace = λ _. ap (byte_at s) (sym q) ∙ b.brace;
           })
-      go Nowhere p = rw (← options_by l Nowhere o p) (stood l o)
+      go None p = rw (← options_by l None o p) (stood l o)

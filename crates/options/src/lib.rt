@@ -18,26 +18,19 @@ use state::{Change, Lexer, Taken};
 use text::byte_at;
 use token::kinds;
 
-// Where the closing brace stands.
-#[derive(Clone, Copy)]
-pub enum Brace {
-    At(usize),
-    Nowhere,
-}
-
-// The first closing brace from `at` on.
-pub fn find_brace(source: &[u8], at: usize) -> Brace
+// Where the first closing brace stands, from `at` on.
+pub fn find_brace(source: &[u8], at: usize) -> Option<usize>
     requires { WellFormed (drop at source.now) }
     ensures { result ≡ find_brace at (chars (drop at source.now)) }
 {
     let mut i = at;
     while i < source.len() {
         if source[i] == b'}' {
-            return Brace::At(i);
+            return Some(i);
         }
         i += 1;
     }
-    Brace::Nowhere
+    None
 }
 
 // '<', '>' or '^'
@@ -71,7 +64,7 @@ pub fn consume_format_options(source: &[u8], table: &[u32], edition: u32, lexer:
 {
     let reach = lexer.reach();
     let at = reach.byte.0;
-    let Brace::At(end) = find_brace(source, skip_fill(source, table, edition, at)) else {
+    let Some(end) = find_brace(source, skip_fill(source, table, edition, at)) else {
         return lexer.stuck();
     };
     Taken {

@@ -3,7 +3,7 @@
 --     finds_number     what is found is the number
 --     finds_byte       what is found is the symbol
 -- Assumes nothing.
-use Rattle.std.specs.Prelude.{ℕ, ◌+◌, ◌-◌, ◌<◌, ◌≡◌, true, false, ◌&&◌, List, ◌∷◌, eqb, length, get_or, drop}
+use Rattle.std.specs.Prelude.{ℕ, ◌+◌, ◌-◌, ◌<◌, ◌≡◌, true, false, ◌&&◌, List, ◌∷◌, eqb, length, get_or, drop, Some}
 use Rattle.std.proofs.Common.{arith, sym, ap, ◌∙◌, ne_eqb, lt-ltb}
 use Rattle.std.proofs.Math.Path.{refl}
 use Rattle.std.proofs.lemmas.Bool.{false≢true}
@@ -17,8 +17,7 @@ use Rattle.text.specs.Stands.{Stands, chars_from}
 use Rattle.state.specs.Lexer.{reach_of}
 use Rattle.state.specs.declared.Change.TheVariants.{Keep}
 use Rattle.state.specs.declared.Lexer.{Lexer}
-use Rattle.symbols.specs.Symbols.{symbol_of}
-use Rattle.symbols.specs.declared.SymbolAt.TheVariants.{Is}
+use Rattle.symbols.specs.Symbols.{symbol_of, symbol}
 use Rattle.numbers.specs.Places.{PlaceIn}
 use Rattle.numbers.specs.ConsumeNumber.{tail_bytes, zero_bytes, number_bytes, consume_number}
 use Rattle.numbers.specs.NumberLaws.{exponent_at, tail_at, zero_at, number_at, whole_end, whole_place}
@@ -60,7 +59,7 @@ finds_number s l {end} e q =
 -- ---- symbols of one byte
 
 pub finds_byte : (s : List ℕ) (l : Lexer) → Stands s (reach_of l) → (b kind : ℕ) → byte_at s (reach_of l).byte.0 ≡ b → b < 128
-    → symbol_of (b ∷ drop ((reach_of l).byte.0 + 1) s) ≡ Is kind 1 → symbol_change l.mode kind ≡ Keep
+    → symbol_of (b ∷ drop ((reach_of l).byte.0 + 1) s) ≡ Some (symbol kind 1) → symbol_change l.mode kind ≡ Keep
     → {p : Plain} → p ≡ record { kind = kind; len = 1 } → FindsPlain Keep (consume_symbol (chars_from s (reach_of l)) l) l p
 finds_byte s l o b kind e k is c q =
     let i = (reach_of l).byte.0 in

@@ -35,7 +35,7 @@ fn number(source: &[u8], lexer: Lexer) -> Plain
     ensures { FindsPlain Keep (consume_number (chars_from source.now (reach_of lexer)) lexer) lexer result }
 {
     let at = lexer.place.current_byte.0;
-    let end = text::run_end(source, at + 1, text::DECIMAL_DIGIT);
+    let end = text::run_end::<text::DecimalDigit>(source, at + 1);
     let b = byte_at(source, end);
     if (b == DOT) | code_between(b, SMALL_A, SMALL_Z) {
         let end = numbers::number_end(source, at);

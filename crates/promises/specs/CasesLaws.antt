@@ -19,7 +19,7 @@ use Rattle.symbols.specs.Symbols.{symbol_in, symbol_of}
 use Rattle.text.specs.Ascii.{ascii_properties}
 use Rattle.text.specs.Count.{bytes_of, count_while, run_utf8}
 use Rattle.text.specs.Follow.{next_is, drop_bytes, follow_in, turn_at}
-use Rattle.text.specs.Tests.{is_whitespace, is_binary_digit, is_octal_digit, is_decimal_digit, is_hex_digit, is_line_end, test_of, test_utf8}
+use Rattle.text.specs.Tests.{is_whitespace, is_binary_digit, is_octal_digit, is_decimal_digit, is_hex_digit, is_line_end, no_line_end, id_continue}
 use Rattle.state.specs.Stack.{top, rest, codes_of}
 use Rattle.comments.specs.ConsumeComment.{comment_turn, consume_comment_multi, consume_comment}
 use Rattle.newlines.specs.ConsumeNewline.{line_feed, consume_newline}
@@ -49,7 +49,7 @@ unfoldable pub reads_computed : Unit {0}
 unfolding computes first_bad start_ok properties_ok run_ok table_check small_table last_from input_check go_on is_control gb3 gb6 gb7 gb8 gb9 pair_rule ends_pict
     ends_pict_zwj ends_odd ends_consonant ends_linked gb9c gb11 gb12 is_word starts_with first_in keyword_of symbol_in symbol_of
     ascii_properties bytes_of count_while run_utf8 next_is drop_bytes follow_in turn_at inside is_whitespace is_binary_digit is_octal_digit
-    is_decimal_digit is_hex_digit is_line_end test_of test_utf8 top rest codes_of comment_turn consume_comment_multi consume_comment line_feed
+    is_decimal_digit is_hex_digit is_line_end no_line_end id_continue top rest codes_of comment_turn consume_comment_multi consume_comment line_feed
     consume_newline hashes quote_turn raw_turn consume_raw_string_contents escape_turn literal_turn consume_string_literal plain_turn is_aligned
     skip_bytes find_brace consume_format_options name_end parse_raw_string_start keyword_or_id raw_or_name name_token next_passes exponent_bytes
     is_fraction fraction_bytes tail_bytes zero_bytes number_bytes symbol_change in_literal in_code take_token remaining_at stood_still half

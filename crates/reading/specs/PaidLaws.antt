@@ -3,7 +3,7 @@
 --     take_paid      for every token
 --     take_closes    the closing brace of a template is read, and pops it
 -- Assumes nothing.
-use Rattle.std.specs.Prelude.{ℕ, ◌+◌, ◌*◌, ◌≤◌, ◌<◌, ◌≡◌, refl, true, ◌⊎◌, List, [], ◌∷◌, eqb, take, drop}
+use Rattle.std.specs.Prelude.{ℕ, ◌+◌, ◌*◌, ◌≤◌, ◌<◌, ◌≡◌, refl, true, ◌⊎◌, List, [], ◌∷◌, eqb, take, drop, Option, Some, None}
 use native.Mathlib.Omega.{arith}
 use Rattle.std.proofs.Common.{sym, ap, ◌∙◌}
 use Rattle.std.proofs.Math.Logic.{inl, inr}
@@ -18,10 +18,9 @@ use Rattle.fitness.specs.Fit.{FitTable}
 use Rattle.token.specs.Kind as kind
 use Rattle.words.specs.Words.{is_word, starts_with, else_word, else_if_word, r_word}
 use Rattle.keywords.specs.Keywords.{keyword_of}
-use Rattle.symbols.specs.Symbols.{symbol_of}
+use Rattle.symbols.specs.Symbols.{symbol_of, symbol}
+use Rattle.symbols.specs.declared.Symbol.{Symbol}
 use Rattle.symbols.specs.SymbolsLaws.{symbol_is, curly_close_is}
-use Rattle.symbols.specs.declared.SymbolAt.{SymbolAt}
-use Rattle.symbols.specs.declared.SymbolAt.TheVariants as symbol
 use Rattle.text.specs.Bytes.{byte_at}
 use Rattle.text.specs.Tests.{cr, lf, minus, curly_close, is_whitespace, is_line_end, is_digit}
 use Rattle.text.specs.Stands.{Stands, chars_from}
@@ -40,11 +39,7 @@ use Rattle.strings.specs.ConsumeStringLiteral.{literal_turn, literal_token, cons
 use Rattle.strings.specs.ConsumeRawString.{raw_turn, raw_token, consume_raw_string_contents}
 use Rattle.options.specs.ConsumeFormatOptions.{skip_bytes, find_brace, options_token, consume_format_options}
 use Rattle.options.specs.StandsLaws.{options_stands}
-use Rattle.options.specs.declared.Brace.{Brace}
-use Rattle.options.specs.declared.Brace.TheVariants.{At, Nowhere}
 use Rattle.names.specs.ConsumeIdOrKeyword.{name_end, remaining, name_bytes, parse_raw_string_start, or_else, raw_or_name, keyword_or_id, name_token}
-use Rattle.names.specs.declared.RawStart.{RawStart}
-use Rattle.names.specs.declared.RawStart.TheVariants.{Opens, Nothing}
 use Rattle.symbol_tokens.specs.ConsumeSymbol.{symbol_change, symbol_token}
 use Rattle.lexer.specs.GetNextToken.{next_char, one_byte, in_literal, in_code, take_token}
 use Rattle.lexer.specs.ArmLaws.{above, no_digit, high_letter, rest_symbol, take_code}
@@ -114,10 +109,10 @@ module _ (s : List ℕ) (l : Lexer) where
       go (find_brace ((reach_of l).byte.0 + skip_bytes look edition cs) (drop_bytes (skip_bytes look edition cs) cs))
       (options_stands look edition s l o).brace
     where
-      go : (b : Brace) → ((options_token l b).change ≡ Pop → byte_at s (reach_of (options_token l b).lexer).byte.0 ≡ curly_close)
+      go : (b : Option ℕ) → ((options_token l b).change ≡ Pop → byte_at s (reach_of (options_token l b).lexer).byte.0 ≡ curly_close)
           → Paid (options_token l b)
-      go (At end) f = inr (e, f refl)
-      go Nowhere f = tt
+      go (Some end) f = inr (e, f refl)
+      go None f = tt
 
   -- ---- names
 
@@ -128,9 +123,9 @@ module _ (s : List ℕ) (l : Lexer) where
       (λ _. by_test Paid (eqb (keyword_of (take (name_bytes l end) (remaining cs))) kind.id) (λ _. tt) (λ _. tt))
 
   -- "r" and a quote are two bytes, which RawStart's 3 are taken from
-  or_paid : (r : RawStart) (t : Taken) → Paid t → Paid (or_else r l t)
-  or_paid (Opens delimiter) t k = (omega (arith, owns_most (mode_code raw_start delimiter)), λ f. absurd (omega arith))
-  or_paid Nothing t k = k
+  or_paid : (r : Option ℕ) (t : Taken) → Paid t → Paid (or_else r l t)
+  or_paid (Some delimiter) t k = (omega (arith, owns_most (mode_code raw_start delimiter)), λ f. absurd (omega arith))
+  or_paid None t k = k
 
   raw_paid : (cs : List ℕ) (end : Reach) → Paid (raw_or_name cs end l)
   unfolding raw_or_name
@@ -155,9 +150,9 @@ module _ (s : List ℕ) (l : Lexer) where
       (λ _. by_test (Asks s l.mode (reach_of l).byte.0 j) (eqb l.mode (mode_code template_expr_inline_map 0))
       (λ _. by_test (Asks s l.mode (reach_of l).byte.0 j) (eqb k kind.curly_close) (λ _. inl h) (λ _. tt)) (λ _. tt))
 
-  symbol_paid : (b : List ℕ) (x : SymbolAt) → symbol_of b ≡ x → Paid (symbol_token x l)
-  symbol_paid b (symbol.Is k len) e = symbol_asks _ k (omega (arith, (symbol_is b e).some))
-  symbol_paid b symbol.Nothing e = tt
+  symbol_paid : (b : List ℕ) (x : Option Symbol) → symbol_of b ≡ x → Paid (symbol_token x l)
+  symbol_paid b (Some x) e = symbol_asks _ x.kind (omega (arith, (symbol_is b e).some))
+  symbol_paid b None e = tt
 
   -- ---- the arms
 
@@ -191,7 +186,7 @@ module _ (s : List ℕ) (l : Lexer) where
   unfolding encode_all encode starts_with
   brace_starts e = rw (ascii_head s (reach_of l).byte.0 curly_close e (omega arith)).step
 
-  brace_pops : l.mode ≡ mode_code template_expr 0 → symbol_token (symbol.Is kind.curly_close 1) l ≡ one_byte (token_of kind.curly_close) Pop l
+  brace_pops : l.mode ≡ mode_code template_expr 0 → symbol_token (Some (symbol kind.curly_close 1)) l ≡ one_byte (token_of kind.curly_close) Pop l
   unfolding symbol_change
   brace_pops m = rw m
 
@@ -204,5 +199,5 @@ module _ (s : List ℕ) (l : Lexer) where
       ∙ sym
       (rest_symbol s table l curly_close fit e (omega arith) (above curly_close (omega arith)) (λ f. omega arith)
       (no_digit curly_close (omega arith)) (high_letter curly_close (omega arith)) refl)
-      ∙ ap (λ (x : SymbolAt). symbol_token x l) (curly_close_is.is (encode_all (chars_from s (reach_of l))) (brace_starts e))
+      ∙ ap (λ (x : Option Symbol). symbol_token x l) (curly_close_is.is (encode_all (chars_from s (reach_of l))) (brace_starts e))
       ∙ brace_pops m

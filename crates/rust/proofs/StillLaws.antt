@@ -7,7 +7,7 @@
 -- Assumes nothing.
 use Prim.Native.Nat.{ℕ, zero, suc, ◌+◌, ◌≤◌, ◌<◌}
 use Rattle.std.proofs.Common.{arith, sym, ◌∙◌, inl, inr}
-use Rattle.std.specs.Prelude.{◌≡◌, Bool, true, false, ◌⊎◌, List, [], ◌∷◌, eqb, drop}
+use Rattle.std.specs.Prelude.{◌≡◌, Bool, true, false, ◌⊎◌, List, [], ◌∷◌, eqb, drop, Option, Some, None}
 use Rattle.std.proofs.Math.Path.{refl, ap}
 use Rattle.std.proofs.Math.Option.{Option, none, some}
 use Rattle.std.proofs.Math.ListN.{take}
@@ -23,9 +23,8 @@ use Rattle.words.specs.Words.{is_word, starts_with, else_word, else_if_word, r_w
 use Rattle.keywords.specs.Keywords.{keyword_of}
 use Rattle.keywords.specs.KeywordsLaws.{keyword_kind}
 use Rattle.symbols.specs.Symbols.{symbol_of}
+use Rattle.symbols.specs.declared.Symbol.{Symbol}
 use Rattle.symbols.specs.SymbolsLaws.{symbol_is}
-use Rattle.symbols.specs.declared.SymbolAt.{SymbolAt}
-use Rattle.symbols.specs.declared.SymbolAt.TheVariants as symbol
 use Rattle.text.specs.Tests.{cr, lf, minus, is_whitespace, is_line_end, is_digit}
 use Rattle.text.specs.Follow.{next_is, Followed, Closed, Open, Stopped, follow, drop_bytes}
 use Rattle.state.specs.Modes.{literal, template_expr_format, raw_start, raw_end, tag_of, delimiter_of, quote_of}
@@ -39,11 +38,7 @@ use Rattle.comments.specs.ConsumeComment.{comment_turn, comment_token, consume_c
 use Rattle.strings.specs.ConsumeStringLiteral.{literal_turn, literal_token, consume_string_literal}
 use Rattle.strings.specs.ConsumeRawString.{raw_turn, raw_token, consume_raw_string_contents}
 use Rattle.options.specs.ConsumeFormatOptions.{skip_bytes, find_brace, options_token, consume_format_options}
-use Rattle.options.specs.declared.Brace.{Brace}
-use Rattle.options.specs.declared.Brace.TheVariants.{At, Nowhere}
 use Rattle.names.specs.ConsumeIdOrKeyword.{name_end, remaining, name_bytes, parse_raw_string_start, or_else, raw_or_name, keyword_or_id, name_token}
-use Rattle.names.specs.declared.RawStart.{RawStart}
-use Rattle.names.specs.declared.RawStart.TheVariants.{Opens, Nothing}
 use Rattle.symbol_tokens.specs.ConsumeSymbol.{symbol_token}
 use Rattle.stepping.specs.FallsLaws.{From, follow_from}
 use Rattle.lexer.specs.GetNextToken.{next_char, in_literal, in_code, take_token, remaining_at}
@@ -111,9 +106,9 @@ module _ (l : Lexer) where
   unfolding consume_raw_string_contents
   contents_again look delimiter cs = raw_token_lem delimiter (follow (raw_turn look delimiter) (reach_of l) cs)
 
-  options_token_lem : (b : Brace) → Again l (options_token l b) (options_token m b)
-  options_token_lem (At end) = Other (λ e. omega arith)
-  options_token_lem Nowhere = still
+  options_token_lem : (b : Option ℕ) → Again l (options_token l b) (options_token m b)
+  options_token_lem (Some end) = Other (λ e. omega arith)
+  options_token_lem None = still
 
   options_again : (look : ℕ → ℕ) (edition : ℕ) (cs : List ℕ) → Again l (consume_format_options look edition cs l) (consume_format_options look edition cs m)
   unfolding consume_format_options
@@ -136,9 +131,9 @@ module _ (l : Lexer) where
       by_test NoError (eqb l.previous_token dot) (λ _ e. omega arith)
       (λ _. by_test NoError (eqb (keyword_of word) id) (λ _ e. omega arith) (λ _. keyword_other (keyword_of word) (keyword_kind word)))
 
-  or_other : (r : RawStart) (t : Taken) → NoError t → NoError (or_else r l t)
-  or_other (Opens delimiter) t n e = omega arith
-  or_other Nothing t n e = n e
+  or_other : (r : Option ℕ) (t : Taken) → NoError t → NoError (or_else r l t)
+  or_other (Some delimiter) t n e = omega arith
+  or_other None t n e = n e
 
   raw_other : (cs : List ℕ) (end : Reach) → NoError (raw_or_name cs end l)
   unfolding raw_or_name
@@ -153,9 +148,9 @@ module _ (l : Lexer) where
 
   -- ---- the arms
 
-  symbol_again : (b : List ℕ) (x : SymbolAt) → symbol_of b ≡ x → {u : Taken} → Again l (symbol_token x l) u
-  symbol_again b (symbol.Is kind len) e = Other (λ q. omega (arith, (symbol_is b e).kind_from))
-  symbol_again b symbol.Nothing e = On (omega arith)
+  symbol_again : (b : List ℕ) (x : Option Symbol) → symbol_of b ≡ x → {u : Taken} → Again l (symbol_token x l) u
+  symbol_again b (Some x) e = Other (λ q. omega (arith, (symbol_is b e).kind_from))
+  symbol_again b None e = On (omega arith)
 
   code_again : (look : ℕ → ℕ) (c : ℕ) (cs : List ℕ) → Again l (in_code look c cs l) (in_code look c cs m)
   unfolding in_code

@@ -2,18 +2,14 @@
 // read step is told by `nothing`. It knows no lists and no records.
 #![tactic(auto)]
 
-ghost use Rattle.std.specs.Prelude.{◌≡◌, ◌+◌, ◌≤◌, ◌<◌, length, drop};
+ghost use Rattle.std.specs.Prelude.{◌≡◌, ◌≤◌, ◌<◌, length};
 ghost use Rattle.base.specs.Refusal.{source_most};
 ghost use Rattle.position.specs.Position.{column_most};
 ghost use Rattle.position.specs.Place.{line_by};
-ghost use Rattle.utf8.specs.Encode.{WellFormed};
-ghost use Rattle.utf8.specs.Chars.{chars};
 ghost use Rattle.property.specs.Table.{properties_at};
 ghost use Rattle.fitness.specs.Fit.{FitTable};
 ghost use Rattle.token.specs.Kind.{new_line};
 ghost use Rattle.text.specs.Bytes.{byte_at};
-ghost use Rattle.text.specs.Tests.{is_whitespace};
-ghost use Rattle.text.specs.Count.{count_while};
 ghost use Rattle.text.specs.Stands.{Stands, chars_from};
 ghost use Rattle.state.specs.Lexer.{reach_of, token_to};
 ghost use Rattle.numbers.specs.Places.{GoesOn};
@@ -29,29 +25,8 @@ use classes::class_at;
 use found::{Found, along, nothing, to};
 use position::Reach;
 use state::{Change, LITERAL, Lexer, RAW_END, RAW_START, TEMPLATE_EXPR, TEMPLATE_EXPR_FORMAT};
-use text::byte_at;
+use text::{Whitespace, byte_at, run_end};
 use token::kinds;
-
-fn is_blank(b: u8) -> bool
-    ensures { result ≡ is_whitespace b }
-{
-    b == b' ' || b == b'\t'
-}
-
-// The byte after the spaces and tabs from `at` on.
-pub fn blank_end(source: &[u8], at: usize) -> usize
-    requires { WellFormed (drop at source.now) }
-    ensures { result ≡ at + count_while is_whitespace (chars (drop at source.now)) }
-{
-    let mut i = at;
-    while i < source.len() {
-        if !is_blank(source[i]) {
-            return i;
-        }
-        i += 1;
-    }
-    i
-}
 
 // Spaces and tabs.
 pub fn blank(source: &[u8], lexer: Lexer) -> Found
@@ -59,7 +34,7 @@ pub fn blank(source: &[u8], lexer: Lexer) -> Found
     ensures { Finds (consume_whitespace (chars_from source.now (reach_of lexer)) lexer) lexer result }
 {
     let at = lexer.place.current_byte.0;
-    let len = blank_end(source, at) - at;
+    let len = run_end::<Whitespace>(source, at) - at;
     along(
         lexer.indent_by(len as u32),
         kinds::WHITESPACE,

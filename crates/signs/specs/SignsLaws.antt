@@ -7,7 +7,7 @@
 --     minus_arrow, minus_equals, minus_alone, dot_alone    the symbols that it tells by the next byte
 --     opens_map, opens_format, closes, stays, closes_map, closes_none     what the symbols of a template do to its modes
 -- Assumes nothing.
-use Rattle.std.specs.Prelude.{ℕ, suc, ◌+◌, ◌≤◌, ◌<◌, ◌≡◌, refl, Bool, true, false, not, ◌&&◌, List, [], ◌∷◌, ltb, eqb, length, get_or, drop}
+use Rattle.std.specs.Prelude.{ℕ, suc, ◌+◌, ◌≤◌, ◌<◌, ◌≡◌, refl, Bool, true, false, not, ◌&&◌, List, [], ◌∷◌, ltb, eqb, length, get_or, drop, Option, Some}
 use Rattle.std.proofs.Common.{add-one, arith, sym, ap, subst, ◌∙◌, drop_of_length-le, drop-cons}
 use Rattle.std.proofs.Math.Bool.{and-eq-true_iff}
 use borrow.Author.Tests.{lt-ltb, le-ltb, ne_eqb, not-true}
@@ -19,9 +19,8 @@ use Rattle.utf8.specs.CharsLaws.{chars_well}
 use Rattle.token.specs.Kind.{error, colon, curly_open, curly_close, arrow, subtract, subtract_assign, dot}
 use Rattle.token.specs.Token.{token_of}
 use Rattle.words.specs.Words.{starts_with, first_in}
-use Rattle.symbols.specs.Symbols.{symbol_in, symbol_of}
-use Rattle.symbols.specs.declared.SymbolAt.{SymbolAt}
-use Rattle.symbols.specs.declared.SymbolAt.TheVariants.{Is}
+use Rattle.symbols.specs.Symbols.{symbol_in, symbol_of, symbol}
+use Rattle.symbols.specs.declared.Symbol.{Symbol}
 use Rattle.text.specs.Bytes.{byte_at}
 use Rattle.text.specs.Stands.{Stands, chars_from}
 use Rattle.text.specs.FollowLaws.{byte_within}
@@ -65,16 +64,16 @@ module _ (s : List ℕ) (l : Lexer) (o : Stands s (reach_of l)) (h : (reach_of l
       rw add-one
       (sym (chars_well _ o.well).0 ∙ drop-cons s (reach_of l).byte.0 0 h ∙ ap (λ (x : ℕ). x ∷ drop (suc (reach_of l).byte.0) s) e)
 
-  pub sign_taken : (b kind len : ℕ) (change : Change) → get_or s (reach_of l).byte.0 0 ≡ b → symbol_of (b ∷ drop ((reach_of l).byte.0 + 1) s) ≡ Is kind len
+  pub sign_taken : (b kind len : ℕ) (change : Change) → get_or s (reach_of l).byte.0 0 ≡ b → symbol_of (b ∷ drop ((reach_of l).byte.0 + 1) s) ≡ Some (symbol kind len)
       → symbol_change l.mode kind ≡ change
       → consume_symbol (chars_from s (reach_of l)) l ≡ record { token = token_of kind; lexer = advanced_line len l; change = change }
   sign_taken b kind len change e is c =
       ap (λ (x : List ℕ). symbol_token (symbol_of x) l) (left b e)
-      ∙ ap (λ (x : SymbolAt). symbol_token x l) is
+      ∙ ap (λ (x : Option Symbol). symbol_token x l) is
       ∙ ap (λ (x : Change). record { token = token_of kind; lexer = advanced_line len l; change = x }) c
 
   pub finds_sign : {f : Found} (b kind len : ℕ) (change : Change) → get_or s (reach_of l).byte.0 0 ≡ b → f ≡ found_along kind 0 len change l
-      → (eqb kind error ≡ false → symbol_of (b ∷ drop ((reach_of l).byte.0 + 1) s) ≡ Is kind len) → symbol_change l.mode kind ≡ change → SignIs s l f
+      → (eqb kind error ≡ false → symbol_of (b ∷ drop ((reach_of l).byte.0 + 1) s) ≡ Some (symbol kind len)) → symbol_change l.mode kind ≡ change → SignIs s l f
   finds_sign {f} b kind len change e q is c =
       record {
         is = λ n.
@@ -84,7 +83,7 @@ module _ (s : List ℕ) (l : Lexer) (o : Stands s (reach_of l)) (h : (reach_of l
 
 -- the same, where the byte is known
 pub finds_sign_at : (s : List ℕ) (l : Lexer) → Stands s (reach_of l) → {f : Found} (b kind len : ℕ) (change : Change) → byte_at s (reach_of l).byte.0 ≡ b → b < 128
-    → f ≡ found_along kind 0 len change l → symbol_of (b ∷ drop ((reach_of l).byte.0 + 1) s) ≡ Is kind len → symbol_change l.mode kind ≡ change
+    → f ≡ found_along kind 0 len change l → symbol_of (b ∷ drop ((reach_of l).byte.0 + 1) s) ≡ Some (symbol kind len) → symbol_change l.mode kind ≡ change
     → SignIs s l f
 finds_sign_at s l o b kind len change e k q is c =
     let h = byte_within s (reach_of l).byte.0 b e (omega arith) in
@@ -112,15 +111,15 @@ plain_kind kind e =
           (either (eqb mode (mode_code template_expr 0)) Keep);
     }
 
-pub single_of : {b : ℕ} (d kind : ℕ) → is_plain kind ≡ true → ((rest : List ℕ) → symbol_of (d ∷ rest) ≡ Is kind 1) → b ≡ d → Single b kind
+pub single_of : {b : ℕ} (d kind : ℕ) → is_plain kind ≡ true → ((rest : List ℕ) → symbol_of (d ∷ rest) ≡ Some (symbol kind 1)) → b ≡ d → Single b kind
 single_of d kind p f e = subst (λ (x : ℕ). Single x kind) (sym e) (record { plain = plain_kind kind p; is = λ _. f })
 
 pub alone_of : {b : ℕ} (d kind : ℕ) → is_plain kind ≡ true
-    → ((rest : List ℕ) → starts_with (equals ∷ []) rest ≡ false → symbol_of (d ∷ rest) ≡ Is kind 1) → b ≡ d → Alone b kind
+    → ((rest : List ℕ) → starts_with (equals ∷ []) rest ≡ false → symbol_of (d ∷ rest) ≡ Some (symbol kind 1)) → b ≡ d → Alone b kind
 alone_of d kind p f e = subst (λ (x : ℕ). Alone x kind) (sym e) (record { plain = plain_kind kind p; is = λ _. f })
 
 pub equals_of : {b : ℕ} (d kind : ℕ) → is_plain kind ≡ true
-    → ((rest : List ℕ) → starts_with (equals ∷ []) rest ≡ true → symbol_of (d ∷ rest) ≡ Is kind 2) → b ≡ d → WithEquals b kind
+    → ((rest : List ℕ) → starts_with (equals ∷ []) rest ≡ true → symbol_of (d ∷ rest) ≡ Some (symbol kind 2)) → b ≡ d → WithEquals b kind
 equals_of d kind p f e = subst (λ (x : ℕ). WithEquals x kind) (sym e) (record { plain = plain_kind kind p; is = λ _. f })
 
 -- the kind Error says nothing
@@ -138,15 +137,15 @@ equals_none b = record { plain = plain_kind error refl; is = no_two }
 
 -- ---- by the next byte
 
-pub minus_arrow : (rest : List ℕ) → starts_with (62 ∷ []) rest ≡ true → symbol_of (45 ∷ rest) ≡ Is arrow 2
+pub minus_arrow : (rest : List ℕ) → starts_with (62 ∷ []) rest ≡ true → symbol_of (45 ∷ rest) ≡ Some (symbol arrow 2)
 unfolding symbol_of symbol_in first_in starts_with
 minus_arrow rest e = rw e
 
-pub minus_equals : (rest : List ℕ) → starts_with (62 ∷ []) rest ≡ false → starts_with (equals ∷ []) rest ≡ true → symbol_of (45 ∷ rest) ≡ Is subtract_assign 2
+pub minus_equals : (rest : List ℕ) → starts_with (62 ∷ []) rest ≡ false → starts_with (equals ∷ []) rest ≡ true → symbol_of (45 ∷ rest) ≡ Some (symbol subtract_assign 2)
 unfolding symbol_of symbol_in first_in starts_with
 minus_equals rest e f = rw (e, f)
 
-pub minus_alone : (rest : List ℕ) → starts_with (62 ∷ []) rest ≡ false → starts_with (equals ∷ []) rest ≡ false → symbol_of (45 ∷ rest) ≡ Is subtract 1
+pub minus_alone : (rest : List ℕ) → starts_with (62 ∷ []) rest ≡ false → starts_with (equals ∷ []) rest ≡ false → symbol_of (45 ∷ rest) ≡ Some (symbol subtract 1)
 unfolding symbol_of symbol_in first_in starts_with
 minus_alone rest e f = rw (e, f)
 
@@ -156,7 +155,7 @@ unfolding starts_with
 longer c w [] e = refl
 longer c w (b ∷ l) e = rw (sym (and_true (eqb b c)) ∙ e)
 
-pub dot_alone : (rest : List ℕ) → starts_with (46 ∷ []) rest ≡ false → symbol_of (46 ∷ rest) ≡ Is dot 1
+pub dot_alone : (rest : List ℕ) → starts_with (46 ∷ []) rest ≡ false → symbol_of (46 ∷ rest) ≡ Some (symbol dot 1)
 unfolding symbol_of symbol_in first_in starts_with
 dot_alone rest e = rw (longer 46 (46 ∷ []) rest e, longer 46 (61 ∷ []) rest e, e)
 

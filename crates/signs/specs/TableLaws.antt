@@ -3,7 +3,7 @@
 --     sign_table     a row whose test holds at each of the 512 places
 --     finds_entry    the value of a row tells the symbol at the lexer's place
 -- Assumes nothing.
-use Rattle.std.specs.Prelude.{ℕ, ◌+◌, ◌*◌, ◌/◌, ◌%◌, ◌<◌, ◌≡◌, Bool, true, not, ◌&&◌, ◌||◌, length, get_or, drop}
+use Rattle.std.specs.Prelude.{ℕ, ◌+◌, ◌*◌, ◌/◌, ◌%◌, ◌<◌, ◌≡◌, Bool, true, not, ◌&&◌, ◌||◌, length, get_or, drop, Option, Some, None}
 use Rattle.std.proofs.Common.{add-zero, arith, sym, subst, ◌∙◌, length-drop, get_or-drop, eqb-true, ne_eqb, lt-ltb, le-ltb}
 use Rattle.std.proofs.Math.Path.{refl, ap}
 use Rattle.std.proofs.Math.Bool.{false, and-eq-true_iff}
@@ -22,9 +22,8 @@ use Rattle.text.specs.Stands.{Stands, chars_from}
 use Rattle.state.specs.Lexer.{reach_of}
 use Rattle.state.specs.declared.Change.TheVariants.{Keep}
 use Rattle.state.specs.declared.Lexer.{Lexer}
-use Rattle.symbols.specs.Symbols.{symbols, found, symbol_in, symbol_of}
-use Rattle.symbols.specs.declared.SymbolAt.{SymbolAt}
-use Rattle.symbols.specs.declared.SymbolAt.TheVariants.{Is, Nothing}
+use Rattle.symbols.specs.Symbols.{symbols, found, symbol_in, symbol_of, symbol}
+use Rattle.symbols.specs.declared.Symbol.{Symbol}
 use Rattle.symbol_tokens.specs.ConsumeSymbol.{consume_symbol}
 use Rattle.plain.specs.Plain.{FindsPlain}
 use Rattle.plain.specs.PlainLaws.{plain_is}
@@ -119,7 +118,7 @@ module _ (b : ℕ) (rest : List ℕ) where
         two_dots c d x w (eqb-true c 46 both.0) (eqb-true d 46 both.1)
 
     pub symbol_by_lem : (es : List Entry) → every (λ e. fair e.text) es ≡ true
-        → first_in (λ e. starts_with e.text (b ∷ rest)) found Nothing es ≡ first_in (λ e. begins e.text b stand) found Nothing es
+        → first_in (λ e. starts_with e.text (b ∷ rest)) found None es ≡ first_in (λ e. begins e.text b stand) found None es
     unfolding first_in
     symbol_by_lem [] h = refl
     symbol_by_lem (e ∷ es) h =
@@ -129,18 +128,18 @@ module _ (b : ℕ) (rest : List ℕ) where
 -- ---- the row
 
 -- the symbol by two bytes
-abbrev symbol_by : ℕ → ℕ → SymbolAt
-symbol_by b m = first_in (λ e. begins e.text b m) found Nothing symbols
+abbrev symbol_by : ℕ → ℕ → Option Symbol
+symbol_by b m = first_in (λ e. begins e.text b m) found None symbols
 
-abbrev is_sign : ℕ → ℕ → SymbolAt → Bool
-is_sign kind len (Is k n) = eqb k kind && eqb n len
-is_sign kind len Nothing = false
+abbrev is_sign : ℕ → ℕ → Option Symbol → Bool
+is_sign kind len (Some x) = eqb x.kind kind && eqb x.len len
+is_sign kind len None = false
 
-sign_is : (kind len : ℕ) (x : SymbolAt) → is_sign kind len x ≡ true → x ≡ Is kind len
-sign_is kind len (Is k n) e =
-    let both = (and-eq-true_iff (eqb k kind) (eqb n len)).0 e in
-    rw (eqb-true k kind both.0, eqb-true n len both.1)
-sign_is kind len Nothing e = no_two e
+sign_is : (kind len : ℕ) (x : Option Symbol) → is_sign kind len x ≡ true → x ≡ Some (symbol kind len)
+sign_is kind len (Some x) e =
+    let both = (and-eq-true_iff (eqb x.kind kind) (eqb x.len len)).0 e in
+    λ i. Some (symbol (eqb-true x.kind kind both.0 i) (eqb-true x.len len both.1 i))
+sign_is kind len None e = no_two e
 
 -- the value v says nothing, or what is so of the byte b with such a byte behind it, and not of two dots
 abbrev good : ℕ → ℕ → ℕ → Bool

@@ -13,9 +13,9 @@ use Rattle.utf8.specs.Chars.{chars}
 use Rattle.utf8.specs.CharsLaws.{at_char, rest_at, ascii_at}
 use Rattle.property.specs.Table.{properties_at}
 use Rattle.fitness.specs.Fit.{FitTable}
-use Rattle.text.specs.Tests.{test_utf8_of, at_once}
+use Rattle.text.specs.Tests.{test_utf8_of}
 use Rattle.text.specs.Count.{run_utf8, run_test}
-use Rattle.text.specs.CountLaws.{run_more, along_stands, once_ascii, at_once_lem}
+use Rattle.text.specs.CountLaws.{run_more, along_stands, AtOnce}
 use Rattle.text.specs.Follow.{turn_at}
 use Rattle.text.specs.Stands.{Stands, Safe, Going, chars_from}
 use Rattle.text.specs.FollowLaws.{passes}
@@ -80,19 +80,19 @@ module _ {turn : ℕ → List ℕ → Turn} {s : List ℕ} {start : Reach} (safe
 -- ---- a run of characters
 
 -- reading has come from r to q, and the run from there on is the run from r on
-pub record Ran (look : ℕ → ℕ) (test : ℕ) (s : List ℕ) (r q : Reach) : Type 0 where
+pub record Ran (look : ℕ → ℕ) (test : ℕ → ℕ → Bool) (s : List ℕ) (r q : Reach) : Type 0 where
   pub stands : Stands s q
   pub same : run_test look test q (chars_from s q) ≡ run_test look test r (chars_from s r)
 
-module _ (s table : List ℕ) (fit : FitTable table) (test : ℕ) where
-  one_run : (r : Reach) → Stands s r → r.byte.0 < length s → at_once test (get_or s r.byte.0 0) ≡ true
+module _ (s table : List ℕ) (fit : FitTable table) {test : ℕ → ℕ → Bool} {at_once : ℕ → Bool} (law : AtOnce test at_once) where
+  one_run : (r : Reach) → Stands s r → r.byte.0 < length s → at_once (get_or s r.byte.0 0) ≡ true
       → Ran (properties_at table) test s r (along_by 1 1 r)
   one_run r o h t =
       let look = properties_at table in
       let i = r.byte.0 in
       let b = get_or s i 0 in
-      let k = once_ascii b test t in
-      let once = at_once_lem table fit test b k t in
+      let k = law.ascii b t in
+      let once = law.passes table fit b t in
       let read = ascii_at s i h k in
       let a = at_char s i b 1 read in
       record {
@@ -103,7 +103,7 @@ module _ (s table : List ℕ) (fit : FitTable table) (test : ℕ) where
       }
 
   run_many : (n : ℕ) (r : Reach) → Stands s r → r.byte.0 + n ≤ length s
-      → ((k : ℕ) → r.byte.0 ≤ k → k < r.byte.0 + n → at_once test (get_or s k 0) ≡ true)
+      → ((k : ℕ) → r.byte.0 ≤ k → k < r.byte.0 + n → at_once (get_or s k 0) ≡ true)
       → Ran (properties_at table) test s r (along_by n n r)
   run_many zero r o h t = subst (Ran (properties_at table) test s r) (along_none r) (record { stands = o; same = refl })
   run_many (suc n) r o h t =
@@ -111,6 +111,6 @@ module _ (s table : List ℕ) (fit : FitTable table) (test : ℕ) where
       let more = run_many n (along_by 1 1 r) one.stands (omega arith) (λ j a b. t j (omega arith) (omega arith)) in
       subst (Ran (properties_at table) test s r) (along_more n r) (record { stands = more.stands; same = more.same ∙ one.same })
 
-  pub past_ran : {stays : ℕ → Bool} → ((x : ℕ) → stays x ≡ true → at_once test x ≡ true) → {r q : Reach} → Stands s r → Past stays s r q
+  pub past_ran : {stays : ℕ → Bool} → ((x : ℕ) → stays x ≡ true → at_once x ≡ true) → {r q : Reach} → Stands s r → Past stays s r q
       → Ran (properties_at table) test s r q
   past_ran once {r} {q} o p = by_past (Ran (properties_at table) test s r) p (λ n h t. run_many n r o h (λ k a b. once (get_or s k 0) (t k a b)))

@@ -46,11 +46,9 @@ fn count(source: &[u8], at: usize, block: u8, a: u8, b: u8, c: u8) -> usize
     ensures { Counts (stays_but a b c) source.now at block block result }
 {
     let mut n = block;
-    let mut k = 0u8;
-    while k < block {
+    for k in 0..block {
         let out = place_out(stays(source[at + (k as usize)], a, b, c), k, block);
         n = smaller(out, n);
-        k += 1;
     }
     n as usize
 }

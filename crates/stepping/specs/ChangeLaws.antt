@@ -1,6 +1,6 @@
 -- What each token does to the modes: `take_changes`. RawEnd gives way at once, and only the end of raw contents brings it.
 -- Assumes nothing.
-use Rattle.std.specs.Prelude.{ℕ, ◌+◌, ◌<◌, ◌≡◌, List, eqb, take, drop}
+use Rattle.std.specs.Prelude.{ℕ, ◌+◌, ◌<◌, ◌≡◌, List, eqb, take, drop, Option, Some, None}
 use native.Mathlib.Omega.{arith}
 use Rattle.std.proofs.Math.Path.{refl, subst}
 use Rattle.std.proofs.Common.{sym, ◌∙◌, eqb-true}
@@ -14,8 +14,7 @@ use Rattle.token.specs.Kind.{id, dot, colon, curly_open, curly_close}
 use Rattle.words.specs.Words.{is_word, starts_with, else_word, else_if_word, r_word}
 use Rattle.keywords.specs.Keywords.{keyword_of}
 use Rattle.symbols.specs.Symbols.{symbol_of}
-use Rattle.symbols.specs.declared.SymbolAt.{SymbolAt}
-use Rattle.symbols.specs.declared.SymbolAt.TheVariants as symbol
+use Rattle.symbols.specs.declared.Symbol.{Symbol}
 use Rattle.text.specs.Tests.{cr, lf, minus, is_whitespace, is_line_end, is_digit}
 use Rattle.text.specs.Stands.{Stands, chars_from}
 use Rattle.text.specs.Follow.{next_is, Followed, Closed, Open, Stopped, follow, drop_bytes}
@@ -32,12 +31,8 @@ use Rattle.comments.specs.ConsumeComment.{comment_turn, comment_token, consume_c
 use Rattle.strings.specs.ConsumeStringLiteral.{literal_turn, literal_token, consume_string_literal}
 use Rattle.strings.specs.ConsumeRawString.{raw_turn, raw_token, consume_raw_string_contents}
 use Rattle.options.specs.ConsumeFormatOptions.{skip_bytes, find_brace, options_token, consume_format_options}
-use Rattle.options.specs.declared.Brace.{Brace}
-use Rattle.options.specs.declared.Brace.TheVariants.{At, Nowhere}
 use Rattle.names.specs.ConsumeIdOrKeyword.{name_end, remaining, name_bytes, parse_raw_string_start, or_else, raw_or_name, keyword_or_id, name_token}
 use Rattle.names.specs.NameLaws.{raw_delimiter}
-use Rattle.names.specs.declared.RawStart.{RawStart}
-use Rattle.names.specs.declared.RawStart.TheVariants.{Opens, Nothing}
 use Rattle.symbol_tokens.specs.ConsumeSymbol.{symbol_change, symbol_token}
 use Rattle.lexer.specs.GetNextToken.{next_char, in_literal, in_code, take_token}
 
@@ -83,9 +78,9 @@ module _ (s : List ℕ) (l : Lexer) where
     literal_changes look quote cs = literal_token_lem (follow (literal_turn look quote) (reach_of l) cs)
 
     -- the format's literal pops, or stands still
-    options_token_lem : (b : Brace) → Changes (options_token l b)
-    options_token_lem (At end) = tt
-    options_token_lem Nowhere = n
+    options_token_lem : (b : Option ℕ) → Changes (options_token l b)
+    options_token_lem (Some end) = tt
+    options_token_lem None = n
 
     keyword_changes : (cs : List ℕ) (end : Reach) → Changes (keyword_or_id cs end l)
     unfolding keyword_or_id
@@ -93,9 +88,9 @@ module _ (s : List ℕ) (l : Lexer) where
         by_test Changes (eqb l.previous_token dot) (λ _. n)
         (λ _. by_test Changes (eqb (keyword_of (take (name_bytes l end) (remaining cs))) id) (λ _. n) (λ _. n))
 
-    or_changes : (cs : List ℕ) (r : RawStart) (t : Taken) → parse_raw_string_start cs ≡ r → Changes t → Changes (or_else r l t)
-    or_changes cs (Opens delimiter) t e k = (n, λ f. omega (arith, raw_delimiter cs e))
-    or_changes cs Nothing t e k = k
+    or_changes : (cs : List ℕ) (r : Option ℕ) (t : Taken) → parse_raw_string_start cs ≡ r → Changes t → Changes (or_else r l t)
+    or_changes cs (Some delimiter) t e k = (n, λ f. omega (arith, raw_delimiter cs e))
+    or_changes cs None t e k = k
 
     raw_changes : (cs : List ℕ) (end : Reach) → Changes (raw_or_name cs end l)
     unfolding raw_or_name
@@ -119,9 +114,9 @@ module _ (s : List ℕ) (l : Lexer) where
         (λ _. by_test (Allowed s l.mode byte) (eqb l.mode (mode_code template_expr_inline_map 0))
         (λ _. by_test (Allowed s l.mode byte) (eqb kind curly_close) (λ _. tt) (λ _. n)) (λ _. n))
 
-    symbol_changes : (x : SymbolAt) → Changes (symbol_token x l)
-    symbol_changes (symbol.Is kind len) = symbol_allowed _ kind
-    symbol_changes symbol.Nothing = n
+    symbol_changes : (x : Option Symbol) → Changes (symbol_token x l)
+    symbol_changes (Some x) = symbol_allowed _ x.kind
+    symbol_changes None = n
 
     code_changes : (look : ℕ → ℕ) (c : ℕ) (cs : List ℕ) → Changes (in_code look c cs l)
     unfolding in_code

@@ -3,7 +3,7 @@
 -- Assumes nothing.
 use Prim.Native.Nat.{ℕ, zero, suc, ◌+◌, ◌*◌, ◌-◌, ◌≤◌, ◌<◌}
 use native.Mathlib.Omega.{arith}
-use Rattle.std.specs.Prelude.{◌≡◌, Bool, true, false, eqb, length, take, drop}
+use Rattle.std.specs.Prelude.{◌≡◌, Bool, true, false, eqb, length, take, drop, Option, Some, None}
 use Rattle.std.proofs.Math.Path.{refl}
 use Rattle.std.proofs.Common.{sym, ap, subst, ◌∙◌}
 use mathlib.Core.List.{List, [], ◌∷◌}
@@ -17,10 +17,9 @@ use Rattle.token.specs.Kind.{error, id, dot, colon, curly_open, curly_close}
 use Rattle.words.specs.Words.{is_word, starts_with, else_word, else_if_word, r_word}
 use Rattle.keywords.specs.Keywords.{keyword_of}
 use Rattle.symbols.specs.Symbols.{symbol_of}
+use Rattle.symbols.specs.declared.Symbol.{Symbol}
 use Rattle.symbols.specs.SymbolsLaws.{symbol_is}
-use Rattle.symbols.specs.declared.SymbolAt.{SymbolAt}
-use Rattle.symbols.specs.declared.SymbolAt.TheVariants as symbol
-use Rattle.text.specs.Tests.{cr, lf, minus, letter_u, backslash, is_whitespace, is_line_end, is_digit, test_utf8_of}
+use Rattle.text.specs.Tests.{cr, lf, minus, letter_u, backslash, is_whitespace, is_line_end, is_digit, no_line_end, id_continue, test_utf8_of}
 use Rattle.text.specs.Count.{len_utf8, count_while, run_utf8, run_test}
 use Rattle.text.specs.Follow.{next_is, Followed, Closed, Open, Stopped, follow_in, follow, drop_bytes}
 use Rattle.text.specs.declared.Turn.{Turn}
@@ -37,12 +36,8 @@ use Rattle.comments.specs.ConsumeComment.{comment_turn, comment_token, consume_c
 use Rattle.strings.specs.ConsumeStringLiteral.{escape_turn, literal_turn, literal_token, consume_string_literal}
 use Rattle.strings.specs.ConsumeRawString.{raw_turn, raw_token, consume_raw_string_contents}
 use Rattle.options.specs.ConsumeFormatOptions.{skip_bytes, find_brace, options_token, consume_format_options}
-use Rattle.options.specs.declared.Brace.{Brace}
-use Rattle.options.specs.declared.Brace.TheVariants.{At, Nowhere}
 use Rattle.numbers.specs.ConsumeNumber.{number_bytes}
 use Rattle.names.specs.ConsumeIdOrKeyword.{name_end, remaining, name_bytes, parse_raw_string_start, or_else, raw_or_name, keyword_or_id, name_token}
-use Rattle.names.specs.declared.RawStart.{RawStart}
-use Rattle.names.specs.declared.RawStart.TheVariants.{Opens, Nothing}
 use Rattle.symbol_tokens.specs.ConsumeSymbol.{symbol_token}
 use Rattle.lexer.specs.GetNextToken.{next_char, in_literal, in_code, take_token}
 
@@ -140,7 +135,7 @@ module _ (l : Lexer) where
       by_test (Falls l) (next_is minus (drop 1 cs))
       (λ _. comment_token_lem (follow (comment_turn look) (along_by 1 1 (reach_of l)) (drop 1 cs))
       (follow_from (comment_turn look) 0 (along_by 1 1 (reach_of l)) (drop 1 cs)))
-      (λ _. On (omega (arith, run_from look (test_utf8_of look 0) (along_by 1 1 (reach_of l)) (drop 1 cs))))
+      (λ _. On (omega (arith, run_from look (test_utf8_of look no_line_end) (along_by 1 1 (reach_of l)) (drop 1 cs))))
 
   literal_token_lem : (f : Followed) → From ((reach_of l).byte.0 + 1) f → Falls l (literal_token l f)
   literal_token_lem (Closed end) h = On (omega arith)
@@ -182,15 +177,15 @@ module _ (l : Lexer) where
   raw_token_lem delimiter h e (Open end) = still
   raw_token_lem delimiter h e Stopped = still
 
-  options_token_lem : (l.mode ≡ 0 → ⊥) → (b : Brace) → Falls l (options_token l b)
-  options_token_lem n (At end) = Pops refl n
-  options_token_lem n Nowhere = still
+  options_token_lem : (l.mode ≡ 0 → ⊥) → (b : Option ℕ) → Falls l (options_token l b)
+  options_token_lem n (Some end) = Pops refl n
+  options_token_lem n None = still
 
   -- ---- names
 
   name_on : (look : ℕ → ℕ) (c : ℕ) (cs : List ℕ) → (reach_of l).byte.0 < (name_end look (c ∷ cs) l).byte.0
   unfolding name_end
-  name_on look c cs = omega (arith, len_some c, run_from look (test_utf8_of look 1) (along_by (len_utf8 c) 1 (reach_of l)) cs)
+  name_on look c cs = omega (arith, len_some c, run_from look (test_utf8_of look id_continue) (along_by (len_utf8 c) 1 (reach_of l)) cs)
 
   module _ (cs : List ℕ) (end : Reach) (h : (reach_of l).byte.0 < end.byte.0) where
     keyword_falls : Falls l (keyword_or_id cs end l)
@@ -199,9 +194,9 @@ module _ (l : Lexer) where
         by_test (Falls l) (eqb l.previous_token dot) (λ _. On h)
         (λ _. by_test (Falls l) (eqb (keyword_of (take (name_bytes l end) (remaining cs))) id) (λ _. On h) (λ _. On (omega arith)))
 
-    or_falls : (r : RawStart) → Falls l (or_else r l (keyword_or_id cs end l))
-    or_falls (Opens delimiter) = On (omega arith)
-    or_falls Nothing = keyword_falls
+    or_falls : (r : Option ℕ) → Falls l (or_else r l (keyword_or_id cs end l))
+    or_falls (Some delimiter) = On (omega arith)
+    or_falls None = keyword_falls
 
     raw_falls : Falls l (raw_or_name cs end l)
     unfolding raw_or_name
@@ -214,9 +209,9 @@ module _ (l : Lexer) where
         (λ _. by_test (Falls l) (starts_with else_if_word (remaining cs)) (λ _. On (omega arith)) (λ _. On (omega arith)))
         (λ _. by_test (Falls l) (is_word r_word (take (name_bytes l end) (remaining cs))) (λ _. raw_falls) (λ _. keyword_falls))
 
-  symbol_falls : (b : List ℕ) (x : SymbolAt) → symbol_of b ≡ x → Falls l (symbol_token x l)
-  symbol_falls b (symbol.Is kind len) e = On (omega (arith, (symbol_is b e).some))
-  symbol_falls b symbol.Nothing e = On (omega arith)
+  symbol_falls : (b : List ℕ) (x : Option Symbol) → symbol_of b ≡ x → Falls l (symbol_token x l)
+  symbol_falls b (Some x) e = On (omega (arith, (symbol_is b e).some))
+  symbol_falls b None e = On (omega arith)
 
   -- ---- the arms
 

@@ -1,7 +1,7 @@
 -- A step leaves the lexer fine: `take_goes`. No place before whole characters is inside one: `no_tail`. Each token leads to a place of the source, and not back; an unknown symbol may cut a
 -- longer character, where the scan is over.
 -- Assumes nothing.
-use Rattle.std.specs.Prelude.{ℕ, zero, suc, ◌+◌, ◌/◌, ◌≤◌, ◌<◌, ◌≡◌, Bool, true, false, List, ◌++◌, eqb, length, get_or, drop}
+use Rattle.std.specs.Prelude.{ℕ, zero, suc, ◌+◌, ◌/◌, ◌≤◌, ◌<◌, ◌≡◌, Bool, true, false, List, ◌++◌, eqb, length, get_or, drop, Option, Some, None}
 use native.Mathlib.Omega.{arith}
 use Rattle.std.proofs.Math.Path.{refl}
 use Rattle.std.proofs.Common.{sym, ap, subst, ◌∙◌, length-drop, get_or-drop, eqb-true, lt-ltb, le-ltb, le-leb}
@@ -20,14 +20,13 @@ use Rattle.property.specs.Parts.{xid_start}
 use Rattle.property.specs.Table.{properties_at}
 use Rattle.fitness.specs.Fit.{FitTable}
 use Rattle.symbols.specs.Symbols.{symbol_of}
+use Rattle.symbols.specs.declared.Symbol.{Symbol}
 use Rattle.symbols.specs.SymbolsLaws.{symbol_is}
-use Rattle.symbols.specs.declared.SymbolAt.{SymbolAt}
-use Rattle.symbols.specs.declared.SymbolAt.TheVariants.{Is, Nothing}
 use Rattle.text.specs.Bytes.{byte_at}
-use Rattle.text.specs.Tests.{is_whitespace, is_line_end, is_digit, test_of}
+use Rattle.text.specs.Tests.{is_whitespace, is_line_end, is_digit}
 use Rattle.text.specs.Stands.{Stands, chars_from}
 use Rattle.text.specs.FollowLaws.{Here, here}
-use Rattle.text.specs.CountLaws.{test_ascii}
+use Rattle.text.specs.CountLaws.{whitespace_ascii}
 use Rattle.state.specs.Modes.{literal, template_expr_format, raw_start, raw_end, tag_of, delimiter_of, quote_of}
 use Rattle.state.specs.Lexer.{reach_of}
 use Rattle.state.specs.declared.Lexer.{Lexer}
@@ -166,7 +165,7 @@ module _ (s : List ℕ) (l : Lexer) (o : Stands s (reach_of l)) (h : (reach_of l
       subst (PlaceIn s) q (next_place p (omega (arith, f n (omega arith))))
 
   -- an unknown symbol: one byte on, and inside a longer character the scan is over
-  unknown_goes : Goes s l (symbol_token Nothing l)
+  unknown_goes : Goes s l (symbol_token None l)
   unknown_goes =
       record {
         fine = record {
@@ -193,11 +192,11 @@ module _ (s : List ℕ) (l : Lexer) (o : Stands s (reach_of l)) (h : (reach_of l
         };
       }
 
-  symbol_goes : (x : SymbolAt) → symbol_of (drop at s) ≡ x → Goes s l (symbol_token x l)
-  symbol_goes (Is kind len) e =
+  symbol_goes : (x : Option Symbol) → symbol_of (drop at s) ≡ x → Goes s l (symbol_token x l)
+  symbol_goes (Some x) e =
       let i = symbol_is (drop at s) e in
-      ascii_goes len (symbol_token (Is kind len) l) (places len i.one_byte_each (omega (arith, i.within, length-drop at s))) refl
-  symbol_goes Nothing e = unknown_goes
+      ascii_goes x.len (symbol_token (Some x) l) (places x.len i.one_byte_each (omega (arith, i.within, length-drop at s))) refl
+  symbol_goes None e = unknown_goes
 
   left_bytes : symbol_of (encode_all cs) ≡ symbol_of (drop at s)
   left_bytes = ap symbol_of (sym (chars_well (drop at s) o.well).0)
@@ -212,8 +211,7 @@ module _ (s : List ℕ) (l : Lexer) (o : Stands s (reach_of l)) (h : (reach_of l
       (λ _. steps_go (literal_steps s l o look quote q)))
 
   blank_is : (c : ℕ) → is_whitespace c ≡ true → c < 128
-  unfolding test_of
-  blank_is c e = test_ascii c 0 e
+  blank_is c e = whitespace_ascii c e
 
   in_code_goes : (table : List ℕ) → FitTable table → Goes s l (in_code (properties_at table) (next_char cs) cs l)
   unfolding in_code

@@ -1,13 +1,12 @@
 -- lexer.rs `consume_symbol`, and what a symbol does to the modes of a template (`match (result, string_mode)`). In a template "{" pushes
 -- the map mode, ":" the format mode, and "}" pops; in map mode "{" pushes nothing and "}" pops. An unknown symbol is an Error of one byte.
 -- Assumes nothing.
-use Rattle.std.specs.Prelude.{ℕ, List, eqb}
+use Rattle.std.specs.Prelude.{ℕ, List, eqb, Option, Some, None}
 use Rattle.base.specs.Pick.{pick}
 use Rattle.utf8.specs.Encode.{encode_all}
 use Rattle.token.specs.Kind.{error, colon, curly_open, curly_close}
 use Rattle.symbols.specs.Symbols.{symbol_of}
-use Rattle.symbols.specs.declared.SymbolAt.{SymbolAt}
-use Rattle.symbols.specs.declared.SymbolAt.TheVariants.{Is, Nothing}
+use Rattle.symbols.specs.declared.Symbol.{Symbol}
 use Rattle.state.specs.Modes.{template_expr, template_expr_inline_map, template_expr_format, mode_code}
 use Rattle.token.specs.Token.{token_of}
 use Rattle.state.specs.Lexer.{advanced_line, token_along}
@@ -28,10 +27,10 @@ symbol_change mode kind =
     (pick (eqb kind curly_close) Pop Keep)))
     (pick (eqb mode (mode_code template_expr_inline_map 0)) (pick (eqb kind curly_close) Pop Keep) Keep)
 
-abbrev pub symbol_token : SymbolAt → Lexer → Taken
-symbol_token (Is kind len) l =
-    record { token = token_of kind; lexer = advanced_line len l; change = symbol_change l.mode kind }
-symbol_token Nothing l = token_along error 1 l
+abbrev pub symbol_token : Option Symbol → Lexer → Taken
+symbol_token (Some x) l =
+    record { token = token_of x.kind; lexer = advanced_line x.len l; change = symbol_change l.mode x.kind }
+symbol_token None l = token_along error 1 l
 
 -- cs are the characters that are left
 abbrev pub consume_symbol : List ℕ → Lexer → Taken

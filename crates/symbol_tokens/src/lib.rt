@@ -7,7 +7,6 @@ ghost use Rattle.state.specs.Lexer.{reach_of};
 ghost use Rattle.symbol_tokens.specs.ConsumeSymbol.{symbol_change, consume_symbol};
 
 use state::{Change, Lexer, Taken};
-use symbols::SymbolAt;
 use token::{kinds, token_of};
 
 // What a symbol does to the modes of a template; in map mode "{" pushes nothing.
@@ -41,12 +40,12 @@ pub fn consume_symbol(source: &[u8], lexer: Lexer) -> Taken
     ensures { result ≡ consume_symbol (chars_from source.now (reach_of lexer)) lexer }
 {
     let at = lexer.place.current_byte.0;
-    match symbols::symbol(source, at) {
-        SymbolAt::Is { kind, len } => Taken {
-            token: token_of(kind),
-            lexer: lexer.advance_line(len),
-            change: symbol_change(lexer.mode, kind),
+    match symbols::symbol_at(source, at) {
+        Some(symbol) => Taken {
+            token: token_of(symbol.kind),
+            lexer: lexer.advance_line(symbol.len),
+            change: symbol_change(lexer.mode, symbol.kind),
         },
-        SymbolAt::Nothing => lexer.token(kinds::ERROR, 1),
+        None => lexer.token(kinds::ERROR, 1),
     }
 }

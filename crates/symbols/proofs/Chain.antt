@@ -6,21 +6,21 @@ use mathlib.Core.Bool.{Bool, true, false}
 use mathlib.Core.List.{List, [], ◌∷◌}
 use Prim.Native.Nat.{ℕ}
 use lib.ListN.{length}
+use Rattle.std.specs.Prelude.{Option, Some, None}
 use Rattle.words.specs.Words.{Entry, starts_with, first_in}
-use Rattle.symbols.specs.Symbols.{symbol_in}
-use Rattle.symbols.specs.declared.SymbolAt.{SymbolAt}
-use Rattle.symbols.specs.declared.SymbolAt.TheVariants.{Is, Nothing}
+use Rattle.symbols.specs.Symbols.{symbol_in, symbol}
+use Rattle.symbols.specs.declared.Symbol.{Symbol}
 
-pub nothing : (l : List ℕ) → Nothing ≡ symbol_in [] l
+pub nothing : (l : List ℕ) → None ≡ symbol_in [] l
 unfolding symbol_in first_in
 nothing l = refl
 
 -- t is what the test of the first entry answered
 module _ (l : List ℕ) (e : Entry) (es : List Entry) {t : Bool} (told : t ≡ starts_with e.text l) where
-  pub here : {n : ℕ} → t ≡ true → length e.text ≡ n → Is e.kind n ≡ symbol_in (e ∷ es) l
+  pub here : {n : ℕ} → t ≡ true → length e.text ≡ n → Some (symbol e.kind n) ≡ symbol_in (e ∷ es) l
   unfolding symbol_in first_in
   here h m = rw (← told, h, m)
 
-  pub past : {r : SymbolAt} → t ≡ false → r ≡ symbol_in es l → r ≡ symbol_in (e ∷ es) l
+  pub past : {r : Option Symbol} → t ≡ false → r ≡ symbol_in es l → r ≡ symbol_in (e ∷ es) l
   unfolding symbol_in first_in
   past h a = rw (← told, h) a

@@ -10,12 +10,12 @@ use native.Mathlib.Omega.{arith}
 use lib.Dec.{eqb, ltb}
 use lib.ListN.{length, get_or, drop, length-drop, drop_of_length-le}
 use lib.Seq.{get_or-drop}
+use Rattle.std.specs.Prelude.{Option, None}
 use Rattle.words.specs.Words.{bytes, starts_with, first_in}
 use Rattle.words.specs.WordsLaws.{narrowed, Outside, among, outside_other}
 use Rattle.symbols.specs.Symbols.{found, symbols, symbol_in, symbol_of}
+use Rattle.symbols.specs.declared.Symbol.{Symbol}
 use Rattle.symbols.specs.Groups.{symbols_of}
-use Rattle.symbols.specs.declared.SymbolAt.{SymbolAt}
-use Rattle.symbols.specs.declared.SymbolAt.TheVariants.{Nothing}
 
 -- a symbol that does not begin with the source's first byte is not there
 not_first : (text l : List ℕ) → ltb 0 (length text) ≡ true → 0 < length l → eqb (get_or l 0 0) (get_or text 0 0) ≡ false → starts_with text l ≡ false
@@ -36,11 +36,11 @@ module _ (s : List ℕ) (at : ℕ) (h : at < length s) where
   inside = simp length-drop (omega arith)
 
   -- b is the byte at the place
-  pub by_symbol : (b : ℕ) {r : SymbolAt} → get_or s at 0 ≡ b → r ≡ symbol_in (symbols_of b) (drop at s) → r ≡ symbol_of (drop at s)
+  pub by_symbol : (b : ℕ) {r : Option Symbol} → get_or s at 0 ≡ b → r ≡ symbol_in (symbols_of b) (drop at s) → r ≡ symbol_of (drop at s)
   unfolding symbol_in symbol_of
   by_symbol b is a =
       a
-      ∙ narrowed found Nothing (λ e. ltb 0 (length e.text)) (λ e. eqb b (get_or e.text 0 0)) (λ e. starts_with e.text (drop at s))
+      ∙ narrowed found None (λ e. ltb 0 (length e.text)) (λ e. eqb b (get_or e.text 0 0)) (λ e. starts_with e.text (drop at s))
       (λ e. starts_with e.text (drop at s))
       (λ e _ _. refl)
       (λ e p k. not_first e.text (drop at s) p inside (rw (first_byte, is) k))
@@ -48,10 +48,10 @@ module _ (s : List ℕ) (at : ℕ) (h : at < length s) where
       refl
 
   -- the byte at the place begins no symbol
-  pub by_none : Outside (get_or s at 0) first_bytes → Nothing ≡ symbol_of (drop at s)
+  pub by_none : Outside (get_or s at 0) first_bytes → None ≡ symbol_of (drop at s)
   unfolding symbol_in symbol_of first_in
   by_none o =
-      narrowed found Nothing (λ e. ltb 0 (length e.text) && among (get_or e.text 0 0) first_bytes) (λ e. false) (λ e. starts_with e.text (drop at s))
+      narrowed found None (λ e. ltb 0 (length e.text) && among (get_or e.text 0 0) first_bytes) (λ e. false) (λ e. starts_with e.text (drop at s))
       (λ e. starts_with e.text (drop at s))
       (λ e _ _. refl)
       (λ e p _.
@@ -60,6 +60,6 @@ module _ (s : List ℕ) (at : ℕ) (h : at < length s) where
       symbols
       refl
 
-pub past_end : (s : List ℕ) (at : ℕ) → length s ≤ at → Nothing ≡ symbol_of (drop at s)
+pub past_end : (s : List ℕ) (at : ℕ) → length s ≤ at → None ≡ symbol_of (drop at s)
 unfolding symbol_of symbol_in first_in starts_with
 past_end s at h = rw (drop_of_length-le s h)

@@ -1,13 +1,12 @@
 -- lexer.rs `check_symbol!`: symbols as fixed byte strings, in the Rust's order ("longest first where 000 does", document 01). A symbol is
 -- told by the bytes that are left to read.
 -- Assumes nothing.
-use Rattle.std.specs.Prelude.{List, [], ◌∷◌, ℕ, length}
+use Rattle.std.specs.Prelude.{List, [], ◌∷◌, ℕ, length, Option, Some, None}
 use Rattle.token.specs.Kind.{at_kind, colon, comma, dot, ellipsis, function, round_open, round_close, square_open, square_close, curly_open, curly_close, range, range_inclusive, semicolon, question_mark}
 use Rattle.token.specs.Kind.{add, subtract, multiply, divide, remainder, power, assign, add_assign, subtract_assign, multiply_assign, divide_assign, remainder_assign, power_assign}
 use Rattle.token.specs.Kind.{equal, not_equal, greater, greater_or_equal, less, less_or_equal, arrow}
 use Rattle.words.specs.Words.{Entry, entry, starts_with, first_in}
-use Rattle.symbols.specs.declared.SymbolAt.{SymbolAt}
-use Rattle.symbols.specs.declared.SymbolAt.TheVariants.{Is, Nothing}
+use Rattle.symbols.specs.declared.Symbol.{Symbol}
 
 -- `check_symbol!`
 abbrev pub symbols : List Entry
@@ -50,14 +49,18 @@ symbols =
     ∷ entry "}" curly_close
     ∷ []
 
+-- a symbol by its kind and how many bytes it has
+abbrev pub symbol : ℕ → ℕ → Symbol
+symbol kind len = record { kind = kind; len = len }
+
 -- an entry as the symbol that was found
-abbrev pub found : Entry → SymbolAt
-found e = Is e.kind (length e.text)
+abbrev pub found : Entry → Option Symbol
+found e = Some (symbol e.kind (length e.text))
 
 -- the first of some symbols that the bytes l begin with
-unfoldable pub symbol_in : List Entry → List ℕ → SymbolAt
-symbol_in es l = first_in (λ e. starts_with e.text l) found Nothing es
+unfoldable pub symbol_in : List Entry → List ℕ → Option Symbol
+symbol_in es l = first_in (λ e. starts_with e.text l) found None es
 
 -- the symbol that the bytes l begin with
-unfoldable pub symbol_of : List ℕ → SymbolAt
+unfoldable pub symbol_of : List ℕ → Option Symbol
 symbol_of l = symbol_in symbols l

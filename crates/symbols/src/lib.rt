@@ -16,21 +16,21 @@ use token::kinds::{
 };
 use words::starts_with;
 
-// The symbol at a place: its kind, and how many bytes it has.
-#[derive(Clone, Copy)]
-pub enum SymbolAt {
-    Is { kind: u8, len: usize },
-    Nothing,
+// A symbol: its kind, and how many bytes it has.
+#[derive(Clone, Copy, Debug, PartialEq, Eq)]
+pub struct Symbol {
+    pub kind: u8,
+    pub len: usize,
 }
 
 // The symbol `text`, if the bytes at `at` begin with it.
-fn check_symbol(source: &[u8], at: usize, text: [u8; 1], kind: u8) -> SymbolAt
+fn check_symbol(source: &[u8], at: usize, text: [u8; 1], kind: u8) -> Option<Symbol>
     ensures { result ≡ symbol_in (word text kind ∷ []) (drop at source.now) }
 {
     if starts_with(source, at, &text) {
-        return SymbolAt::Is { kind, len: 1 };
+        return Some(Symbol { kind, len: 1 });
     }
-    SymbolAt::Nothing
+    None
 }
 
 // The symbol `text`, or else the shorter symbol `other`, if the bytes at `at` begin with it.
@@ -41,66 +41,66 @@ fn check_two(
     kind: u8,
     other: [u8; 1],
     other_kind: u8,
-) -> SymbolAt
+) -> Option<Symbol>
     ensures { result ≡ symbol_in (word text kind ∷ word other other_kind ∷ []) (drop at source.now) }
 {
     if starts_with(source, at, &text) {
-        return SymbolAt::Is { kind, len: 2 };
+        return Some(Symbol { kind, len: 2 });
     }
     check_symbol(source, at, other, other_kind)
 }
 
 // The symbol "!=": "!" alone is none.
-fn check_not_equal(source: &[u8], at: usize) -> SymbolAt
+fn check_not_equal(source: &[u8], at: usize) -> Option<Symbol>
     ensures { result ≡ symbol_in (symbols_of 33) (drop at source.now) }
 {
     if starts_with(source, at, b"!=") {
-        return SymbolAt::Is {
+        return Some(Symbol {
             kind: NOT_EQUAL,
             len: 2,
-        };
+        });
     }
-    SymbolAt::Nothing
+    None
 }
 
 // The symbols that begin with ".".
-fn check_dots(source: &[u8], at: usize) -> SymbolAt
+fn check_dots(source: &[u8], at: usize) -> Option<Symbol>
     ensures { result ≡ symbol_in (symbols_of 46) (drop at source.now) }
 {
     if starts_with(source, at, b"...") {
-        return SymbolAt::Is {
+        return Some(Symbol {
             kind: ELLIPSIS,
             len: 3,
-        };
+        });
     }
     if starts_with(source, at, b"..=") {
-        return SymbolAt::Is {
+        return Some(Symbol {
             kind: RANGE_INCLUSIVE,
             len: 3,
-        };
+        });
     }
     check_two(source, at, *b"..", RANGE, *b".", DOT)
 }
 
 // The symbols that begin with "-".
-fn check_minus(source: &[u8], at: usize) -> SymbolAt
+fn check_minus(source: &[u8], at: usize) -> Option<Symbol>
     ensures { result ≡ symbol_in (symbols_of 45) (drop at source.now) }
 {
     if starts_with(source, at, b"->") {
-        return SymbolAt::Is {
+        return Some(Symbol {
             kind: ARROW,
             len: 2,
-        };
+        });
     }
     check_two(source, at, *b"-=", SUBTRACT_ASSIGN, *b"-", SUBTRACT)
 }
 
 // The symbol that the bytes at `at` begin with.
-pub fn symbol(source: &[u8], at: usize) -> SymbolAt
+pub fn symbol_at(source: &[u8], at: usize) -> Option<Symbol>
     ensures { result ≡ symbol_of (drop at source.now) }
 {
     if source.len() <= at {
-        return SymbolAt::Nothing;
+        return None;
     }
     let first = source[at];
     match first {
@@ -127,6 +127,6 @@ pub fn symbol(source: &[u8], at: usize) -> SymbolAt
         b'{' => check_symbol(source, at, *b"{", CURLY_OPEN),
         b'|' => check_symbol(source, at, *b"|", FUNCTION),
         b'}' => check_symbol(source, at, *b"}", CURLY_CLOSE),
-        _ => SymbolAt::Nothing,
+        _ => None,
     }
 }

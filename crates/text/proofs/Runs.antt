@@ -6,7 +6,7 @@
 use Prim.Native.Nat.{ℕ, ◌+◌, ◌-◌, ◌≤◌, ◌<◌}
 use native.Mathlib.Omega.{arith}
 use mathlib.Core.Path.{◌≡◌, refl, sym, ap, subst, ◌∙◌}
-use mathlib.Core.Bool.{true, false}
+use mathlib.Core.Bool.{Bool, true, false}
 use mathlib.Core.List.{List}
 use lib.ListN.{length, get_or, drop}
 use Rattle.base.specs.Refusal.{source_most}
@@ -19,17 +19,17 @@ use Rattle.utf8.specs.CharsLaws.{at_char, rest_at, ascii_at}
 use Rattle.property.specs.Parts.{width_of}
 use Rattle.property.specs.Table.{properties_at}
 use Rattle.fitness.specs.Fit.{FitTable}
-use Rattle.text.specs.Tests.{test_of, test_utf8_of, at_once}
+use Rattle.text.specs.Tests.{test_utf8_of}
 use Rattle.text.specs.Count.{count_while, run_utf8}
 use Rattle.text.specs.Stands.{Stands}
 use Rattle.text.specs.Chars.{CharIs}
-use Rattle.text.specs.CountLaws.{test_ascii, count_more, count_stop, count_end, run_more, run_stop, run_end_lem, along_stands, width_most_lem, once_ascii, Once, at_once_lem}
+use Rattle.text.specs.CountLaws.{count_more, count_stop, count_end, run_more, run_stop, run_end_lem, along_stands, width_most_lem, Once, AtOnce}
 use Rattle.text.specs.declared.Char.{Char}
 
-module _ (test : ℕ) (s : List ℕ) where
+module _ (test : ℕ → Bool) (ascii : (c : ℕ) → test c ≡ true → c < 128) (s : List ℕ) where
   -- the run from i on, as the byte after it
   abbrev end : ℕ → ℕ
-  end i = i + count_while (test_of test) (chars (drop i s))
+  end i = i + count_while test (chars (drop i s))
 
   pub record Counting (at i : ℕ) : Type 0 where
     pub well : WellFormed (drop i s)
@@ -39,18 +39,18 @@ module _ (test : ℕ) (s : List ℕ) where
   counting at w = record { well = w; same = refl }
 
   module _ (at i : ℕ) (g : Counting at i) where
-    pub counts_on : i < length s → test_of test (get_or s i 0) ≡ true → Counting at (i + 1)
+    pub counts_on : i < length s → test (get_or s i 0) ≡ true → Counting at (i + 1)
     counts_on h t =
-        let m = count_more (test_of test) (λ c. test_ascii c test) s i g.well h t in
+        let m = count_more test ascii s i g.well h t in
         record { well = m.1; same = omega (arith, m.0, g.same) }
 
-    pub counts_stop : i < length s → test_of test (get_or s i 0) ≡ false → i ≡ end at
-    counts_stop h t = omega (arith, count_stop (test_of test) (λ c. test_ascii c test) s i g.well h t, g.same)
+    pub counts_stop : i < length s → test (get_or s i 0) ≡ false → i ≡ end at
+    counts_stop h t = omega (arith, count_stop test ascii s i g.well h t, g.same)
 
     pub counts_end : length s ≤ i → i ≡ end at
-    counts_end h = omega (arith, count_end (test_of test) s i h, g.same)
+    counts_end h = omega (arith, count_end test s i h, g.same)
 
-module _ (test : ℕ) (s table : List ℕ) where
+module _ (test : ℕ → ℕ → Bool) (s table : List ℕ) where
   -- how far the run from r on reaches
   abbrev reached : Reach → Reach
   reached r = run_utf8 (properties_at table) (test_utf8_of (properties_at table) test) r (chars (drop r.byte.0 s))
@@ -103,13 +103,13 @@ module _ (test : ℕ) (s table : List ℕ) where
           omega (arith, there.at.some, there.at.fits, g.at)
 
     -- a character that passes at once
-    module _ (fit : FitTable table) (h : i < length s) (t : at_once test (get_or s i 0) ≡ true) where
+    module _ {at_once : ℕ → Bool} (law : AtOnce test at_once) (fit : FitTable table) (h : i < length s) (t : at_once (get_or s i 0) ≡ true) where
       once : Once table test (get_or s i 0)
-      once = at_once_lem table fit test (get_or s i 0) (once_ascii (get_or s i 0) test t) t
+      once = law.passes table fit (get_or s i 0) t
 
       here : CharIs s table i (record { code = get_or s i 0; len = 1; properties = properties_at table (get_or s i 0) })
       here =
-          let r = ascii_at s i h (once_ascii (get_or s i 0) test t) in
+          let r = ascii_at s i h (law.ascii (get_or s i 0) t) in
           record { at = at_char s i _ _ r; properties = refl; well = rest_at s i _ _ runs_well r }
 
       along : {q : Reach} → q ≡ along_by 1 1 r → q ≡ along_by 1 (width_of (properties_at table (get_or s i 0))) r

@@ -4,7 +4,7 @@
 use Rattle.std.specs.Prelude.{ℕ, suc, ◌+◌, Bool, true, false, List, [], ◌∷◌, length}
 use Rattle.position.specs.Place.{along_by}
 use Rattle.position.specs.declared.Reach.{Reach}
-use Rattle.utf8.specs.Encode.{encode, WellFormed}
+use Rattle.utf8.specs.Encode.{encode}
 use Rattle.property.specs.Parts.{width_of}
 use Rattle.text.specs.Tests.{test_utf8_of}
 
@@ -27,6 +27,6 @@ unfoldable pub run_utf8 : (ℕ → ℕ) → (ℕ → Bool) → Reach → List �
 run_utf8 look f r [] = r
 run_utf8 look f r (c ∷ cs) = elim (f c) [ true ↦ run_utf8 look f (along_by (len_utf8 c) (width_of (look c)) r) cs | false ↦ r ]
 
--- the same, with the test by its number
-abbrev pub run_test : (ℕ → ℕ) → ℕ → Reach → List ℕ → Reach
+-- the same, with a test of the properties too
+abbrev pub run_test : (ℕ → ℕ) → (ℕ → ℕ → Bool) → Reach → List ℕ → Reach
 run_test look test r cs = run_utf8 look (test_utf8_of look test) r cs

@@ -1,15 +1,15 @@
 -- Laws of the runs of characters that pass a test, at a place of the bytes.
 --     ascii_properties_lem         the tests of `Ascii` give what a fit table gives
---     test_ascii               only ASCII characters pass a numbered test
---     once_ascii, at_once_lem      what passes at once is ASCII, passes, and takes one column
+--     whitespace_ascii .. hash_ascii   only ASCII characters pass a test of `run_end`
+--     no_line_end_once, id_continue_once    what passes at once is ASCII, passes, and takes one column
 --     count_more, count_stop, count_end     one turn of `run_end`, and its ways out
 --     run_more, run_stop, run_end_lem           the same of `run_utf8`
 --     Skips, skip_none, skip_one, skip_run  ASCII characters that are passed are so many bytes too
 --     count_within, run_stands              where a run ends, a character begins within the source, or it is the end
 -- Assumes nothing.
-use Rattle.std.specs.Prelude.{ℕ, zero, suc, ◌+◌, ◌*◌, ◌-◌, ◌≤◌, ◌<◌, ◌≡◌, refl, Bool, true, false, not, ◌&&◌, ◌||◌, List, ◌∷◌, eqb, length, get_or, drop}
+use Rattle.std.specs.Prelude.{ℕ, zero, suc, ◌+◌, ◌-◌, ◌≤◌, ◌<◌, ◌≡◌, refl, Bool, true, false, not, ◌&&◌, ◌||◌, List, ◌∷◌, eqb, length, get_or, drop}
 use Rattle.std.proofs.Common.{arith, sym, ap, subst, ◌∙◌, drop-drop, eqb-true, lt-ltb}
-use Rattle.base.specs.PickLaws.{by_eq, split_lt}
+use Rattle.base.specs.PickLaws.{split_lt}
 use Rattle.base.specs.Range.{inside}
 use Rattle.base.specs.RangeLaws.{inside_is}
 use Rattle.position.specs.Place.{along_by}
@@ -27,7 +27,7 @@ use Rattle.fitness.specs.Fit.{FitTable}
 use Rattle.fitness.specs.FitLaws.{ascii_rule}
 use Rattle.fitness.specs.Ascii.{is_letter, is_name_part, is_printable}
 use Rattle.text.specs.Bytes.{byte_at}
-use Rattle.text.specs.Tests.{is_whitespace, is_binary_digit, is_octal_digit, is_decimal_digit, is_hex_digit, is_line_end, test_of, test_utf8, test_utf8_of, at_once}
+use Rattle.text.specs.Tests.{is_whitespace, is_binary_digit, is_octal_digit, is_decimal_digit, is_hex_digit, is_hash, is_line_end, no_line_end, id_continue, test_utf8_of}
 use Rattle.text.specs.Ascii.{ascii_properties}
 use Rattle.text.specs.Count.{len_utf8, count_while, run_utf8}
 use Rattle.text.specs.Stands.{Stands}
@@ -37,7 +37,7 @@ pub ascii_properties_lem : (table : List ℕ) → FitTable table → (c : ℕ) �
 unfolding ascii_properties inside first_bad last_from small_table
 ascii_properties_lem table fit c h = eqb-true _ _ (ascii_rule table fit c (λ k p. eqb (ascii_properties k) p) refl h)
 
--- ---- the numbered tests
+-- ---- the tests
 
 module _ (c : ℕ) where
   -- a test that only ASCII passes
@@ -54,32 +54,50 @@ module _ (c : ℕ) where
   either true t f g e = f refl
   either false t f g e = g e
 
-  pub test_ascii : (test : ℕ) → test_of test c ≡ true → c < 128
-  unfolding test_of is_whitespace is_binary_digit is_octal_digit is_decimal_digit is_hex_digit
-  test_ascii test =
-      by_eq Narrow test 0 (λ _. either (eqb c 32) (eqb c 9) (is_char 32 (omega arith)) (is_char 9 (omega arith)))
-      (λ _. by_eq Narrow test 1 (λ _. either (inside c 48 49) (eqb c 95) (in_range 48 49 (omega arith)) (is_char 95 (omega arith)))
-      (λ _. by_eq Narrow test 2 (λ _. either (inside c 48 55) (eqb c 95) (in_range 48 55 (omega arith)) (is_char 95 (omega arith)))
-      (λ _. by_eq Narrow test 3 (λ _. either (inside c 48 57) (eqb c 95) (in_range 48 57 (omega arith)) (is_char 95 (omega arith)))
-      (λ _. by_eq Narrow test 4
-      (λ _. either (inside c 48 57) _ (in_range 48 57 (omega arith))
-      (either (inside c 97 102) _ (in_range 97 102 (omega arith))
-      (either (inside c 65 70) (eqb c 95) (in_range 65 70 (omega arith)) (is_char 95 (omega arith)))))
-      (λ _. is_char 35 (omega arith))))))
+  pub whitespace_ascii : is_whitespace c ≡ true → c < 128
+  unfolding is_whitespace
+  whitespace_ascii = either (eqb c 32) (eqb c 9) (is_char 32 (omega arith)) (is_char 9 (omega arith))
 
-  pub once_ascii : (test : ℕ) → at_once test c ≡ true → c < 128
-  unfolding at_once
-  once_ascii test =
-      by_eq Narrow test 1
-      (λ _. either (is_letter c) _
+  pub binary_ascii : is_binary_digit c ≡ true → c < 128
+  unfolding is_binary_digit
+  binary_ascii = either (inside c 48 49) (eqb c 95) (in_range 48 49 (omega arith)) (is_char 95 (omega arith))
+
+  pub octal_ascii : is_octal_digit c ≡ true → c < 128
+  unfolding is_octal_digit
+  octal_ascii = either (inside c 48 55) (eqb c 95) (in_range 48 55 (omega arith)) (is_char 95 (omega arith))
+
+  pub decimal_ascii : is_decimal_digit c ≡ true → c < 128
+  unfolding is_decimal_digit
+  decimal_ascii = either (inside c 48 57) (eqb c 95) (in_range 48 57 (omega arith)) (is_char 95 (omega arith))
+
+  pub hex_ascii : is_hex_digit c ≡ true → c < 128
+  unfolding is_hex_digit
+  hex_ascii =
+      either (inside c 48 57) _ (in_range 48 57 (omega arith))
+      (either (inside c 97 102) _ (in_range 97 102 (omega arith))
+      (either (inside c 65 70) (eqb c 95) (in_range 65 70 (omega arith)) (is_char 95 (omega arith))))
+
+  pub hash_ascii : is_hash c ≡ true → c < 128
+  hash_ascii = is_char 35 (omega arith)
+
+  name_part_ascii : is_name_part c ≡ true → c < 128
+  name_part_ascii =
+      either (is_letter c) _
       (either (inside c 65 90) (inside c 97 122) (in_range 65 90 (omega arith)) (in_range 97 122 (omega arith)))
-      (either (inside c 48 57) (eqb c 95) (in_range 48 57 (omega arith)) (is_char 95 (omega arith))))
-      (λ _. in_range 32 126 (omega arith))
+      (either (inside c 48 57) (eqb c 95) (in_range 48 57 (omega arith)) (is_char 95 (omega arith)))
+
+  printable_ascii : is_printable c ≡ true → c < 128
+  printable_ascii = in_range 32 126 (omega arith)
 
 -- what passes at once passes, and takes one column
-pub record Once (table : List ℕ) (test c : ℕ) : Type 0 where
+pub record Once (table : List ℕ) (test : ℕ → ℕ → Bool) (c : ℕ) : Type 0 where
   pub passes : test_utf8_of (properties_at table) test c ≡ true
   pub wide : width_of (properties_at table c) ≡ 1
+
+-- `at_once` tells characters that are ASCII and pass the test at once, whatever the table
+pub record AtOnce (test : ℕ → ℕ → Bool) (at_once : ℕ → Bool) : Type 0 where
+  pub ascii : (c : ℕ) → at_once c ≡ true → c < 128
+  pub passes : (table : List ℕ) → FitTable table → (c : ℕ) → at_once c ≡ true → Once table test c
 
 -- a rule that is asked only of some
 abbrev asked : Bool → Bool → ℕ → Bool
@@ -91,17 +109,23 @@ told true true w e f = (refl, eqb-true w 1 e)
 told true false w e f = let z : ◌≡◌ {A = ℕ} 0 1 = cc in absurd (omega arith)
 told false t w e f = let z : ◌≡◌ {A = ℕ} 0 1 = cc in absurd (omega arith)
 
-pub at_once_lem : (table : List ℕ) → FitTable table → (test c : ℕ) → c < 128 → at_once test c ≡ true → Once table test c
-unfolding at_once test_utf8 is_line_end inside first_bad last_from small_table
-at_once_lem table fit test c h e = go (eqb test 1) refl
-  where
-    go : (t : Bool) → eqb test 1 ≡ t → Once table test c
-    go true q =
-        let k = told _ _ _ (ascii_rule table fit c (λ k p. asked (is_name_part k) (xid_continue p) (width_of p)) refl h) (rw q at e) in
-        record { passes = rw q k.0; wide = k.1 }
-    go false q =
-        let k = told _ _ _ (ascii_rule table fit c (λ k p. asked (is_printable k) (not (is_line_end k)) (width_of p)) refl h) (rw q at e) in
-        record { passes = rw q k.0; wide = k.1 }
+name_part_passes : (table : List ℕ) → FitTable table → (c : ℕ) → is_name_part c ≡ true → Once table id_continue c
+unfolding id_continue inside first_bad last_from small_table
+name_part_passes table fit c e =
+    let k = told _ _ _ (ascii_rule table fit c (λ k p. asked (is_name_part k) (xid_continue p) (width_of p)) refl (name_part_ascii c e)) e in
+    record { passes = k.0; wide = k.1 }
+
+printable_passes : (table : List ℕ) → FitTable table → (c : ℕ) → is_printable c ≡ true → Once table no_line_end c
+unfolding no_line_end is_line_end inside first_bad last_from small_table
+printable_passes table fit c e =
+    let k = told _ _ _ (ascii_rule table fit c (λ k p. asked (is_printable k) (not (is_line_end k)) (width_of p)) refl (printable_ascii c e)) e in
+    record { passes = k.0; wide = k.1 }
+
+pub no_line_end_once : AtOnce no_line_end is_printable
+no_line_end_once = record { ascii = printable_ascii; passes = printable_passes }
+
+pub id_continue_once : AtOnce id_continue is_name_part
+id_continue_once = record { ascii = name_part_ascii; passes = name_part_passes }
 
 -- ---- a run of characters that pass a test which only ASCII passes
 
@@ -169,8 +193,9 @@ module _ (f : ℕ → Bool) (ascii : (c : ℕ) → f c ≡ true → c < 128) (s 
   all_ends (suc fuel) i h w =
       split_lt i (length s) (λ k. one_ends i w k _ refl (λ v. all_ends fuel (i + 1) (omega arith) v)) (λ k. none_ends i w (count_end f s i k))
 
-pub count_within : (test : ℕ) (s : List ℕ) (i : ℕ) → WellFormed (drop i s) → Ends s i (i + count_while (test_of test) (chars (drop i s)))
-count_within test s i w = all_ends (test_of test) (λ c. test_ascii c test) s (length s - i) i (omega arith) w
+pub count_within : {f : ℕ → Bool} → ((c : ℕ) → f c ≡ true → c < 128) → (s : List ℕ) (i : ℕ) → WellFormed (drop i s)
+    → Ends s i (i + count_while f (chars (drop i s)))
+count_within {f} ascii s i w = all_ends f ascii s (length s - i) i (omega arith) w
 
 -- ---- a run of any characters, with what they reach
 
@@ -296,5 +321,6 @@ module _ (f : ℕ → Bool) (ascii : (c : ℕ) → f c ≡ true → c < 128) (s 
       split_lt i (length s) (λ k. one_skip i w k _ refl (λ v. all_skip fuel (i + 1) (omega arith) v)) (λ k. no_skip i w (count_end f s i k))
 
 -- a run of characters that pass a numbered test
-pub skip_run : (test : ℕ) (s : List ℕ) (i : ℕ) → WellFormed (drop i s) → Skips s i (count_while (test_of test) (chars (drop i s)))
-skip_run test s i w = all_skip (test_of test) (λ c. test_ascii c test) s (length s - i) i (omega arith) w
+pub skip_run : {f : ℕ → Bool} → ((c : ℕ) → f c ≡ true → c < 128) → (s : List ℕ) (i : ℕ) → WellFormed (drop i s)
+    → Skips s i (count_while f (chars (drop i s)))
+skip_run {f} ascii s i w = all_skip f ascii s (length s - i) i (omega arith) w

@@ -7,12 +7,11 @@
 --     follow_by               what holds wherever a loop over turns can come to, holds of what it comes to
 --     follow_lands            where the loop comes to stands in the source
 -- Assumes nothing.
-use Prim.Native.Nat.{ℕ, zero, suc, ◌+◌, ◌*◌, ◌-◌, ◌≤◌, ◌<◌}
-use Rattle.std.proofs.Common.{arith, sym, subst, ◌∙◌, drop_of_length-le, length-append, lt-ltb, le-ltb, eq-eqb, ne_eqb}
-use Rattle.std.specs.Prelude.{◌≡◌, Bool, true, false, ltb, eqb, length, get_or, drop}
+use Prim.Native.Nat.{ℕ, zero, suc, ◌+◌, ◌-◌, ◌≤◌, ◌<◌}
+use Rattle.std.proofs.Common.{arith, sym, subst, ◌∙◌, drop_of_length-le, lt-ltb, le-ltb, ne_eqb}
+use Rattle.std.specs.Prelude.{◌≡◌, eqb, length, get_or, drop}
 use Rattle.std.proofs.Math.Path.{refl, ap}
 use mathlib.Core.List.{List, [], ◌∷◌, ◌++◌, append_assoc}
-use Rattle.base.specs.Pick.{pick}
 use Rattle.base.specs.PickLaws.{by_lt, split_lt}
 use Rattle.base.specs.Refusal.{source_most}
 use Rattle.position.specs.Position.{column_most}

@@ -1,11 +1,8 @@
--- lexer.rs, the predicates on characters, of a code point. The code has no closures, so `test_of` numbers the predicates that
--- `consume_and_count` is called with, and `test_utf8_of` those of `consume_and_count_utf8`.
+-- lexer.rs, the predicates on characters, of a code point. Those that `consume_and_count_utf8` is called with take its properties too.
 -- Assumes nothing.
 use Rattle.std.specs.Prelude.{ℕ, Bool, not, ◌||◌, eqb}
-use Rattle.base.specs.Pick.{pick}
 use Rattle.base.specs.Range.{inside}
 use Rattle.property.specs.Parts.{xid_continue}
-use Rattle.fitness.specs.Ascii.{is_name_part, is_printable}
 
 -- ---- the characters that are named here
 
@@ -107,53 +104,24 @@ is_decimal_digit c = is_digit c || eqb c underscore
 unfoldable pub is_hex_digit : ℕ → Bool
 is_hex_digit c = is_digit c || (inside c 97 102 || (inside c 65 70 || eqb c underscore))
 
+-- `|c| c == '#'`
+abbrev pub is_hash : ℕ → Bool
+is_hash c = eqb c hash
+
 -- '\r' or '\n'
 unfoldable pub is_line_end : ℕ → Bool
 is_line_end c = eqb c lf || eqb c cr
 
--- ---- the predicates by their numbers
+-- ---- the predicates that `consume_and_count_utf8` is called with, of a code point and its properties
 
-abbrev pub whitespace_test : ℕ
-whitespace_test = 0
+-- no end of a line
+unfoldable pub no_line_end : ℕ → ℕ → Bool
+no_line_end c properties = not (is_line_end c)
 
-abbrev pub binary_test : ℕ
-binary_test = 1
+-- `is_id_continue` asks for the properties
+unfoldable pub id_continue : ℕ → ℕ → Bool
+id_continue c properties = xid_continue properties
 
-abbrev pub octal_test : ℕ
-octal_test = 2
-
-abbrev pub decimal_test : ℕ
-decimal_test = 3
-
-abbrev pub hex_test : ℕ
-hex_test = 4
-
-abbrev pub hash_test : ℕ
-hash_test = 5
-
--- the predicate of this number; any other number is the hash's
-unfoldable pub test_of : ℕ → ℕ → Bool
-test_of test c =
-    pick (eqb test whitespace_test) (is_whitespace c)
-    (pick (eqb test binary_test) (is_binary_digit c)
-    (pick (eqb test octal_test) (is_octal_digit c)
-    (pick (eqb test decimal_test) (is_decimal_digit c)
-    (pick (eqb test hex_test) (is_hex_digit c) (eqb c hash)))))
-
--- of those that `consume_and_count_utf8` is called with: no end of a line, and `is_id_continue`
-abbrev pub no_line_end_test : ℕ
-no_line_end_test = 0
-
-abbrev pub id_continue_test : ℕ
-id_continue_test = 1
-
--- `is_id_continue` asks for the properties; any other number is that of no end of a line
-unfoldable pub test_utf8 : ℕ → ℕ → ℕ → Bool
-test_utf8 test c properties = pick (eqb test id_continue_test) (xid_continue properties) (not (is_line_end c))
-
-abbrev pub test_utf8_of : (ℕ → ℕ) → ℕ → ℕ → Bool
-test_utf8_of look test c = test_utf8 test c (look c)
-
--- an ASCII character that passes the test of this number and takes one column, whatever the table (`CountLaws`)
-unfoldable pub at_once : ℕ → ℕ → Bool
-at_once test c = pick (eqb test id_continue_test) (is_name_part c) (is_printable c)
+-- such a predicate, with the properties looked up
+abbrev pub test_utf8_of : (ℕ → ℕ) → (ℕ → ℕ → Bool) → ℕ → Bool
+test_utf8_of look test c = test c (look c)

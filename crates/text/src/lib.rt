@@ -1,16 +1,17 @@
 // Reading along a source: the byte and the character at a place, runs of characters that pass a test, and what a loop over characters
-// does at one of them. It carries over `consume_and_count` and `consume_and_count_utf8` of lexer.rs, whose predicates are numbered
-// tests here, and the ASCII predicates beside them. It knows no tokens.
+// does at one of them. It carries over `consume_and_count` and `consume_and_count_utf8` of lexer.rs, whose predicates are types with a
+// test here, and the ASCII predicates beside them. It knows no tokens.
 #![tactic(auto)]
 
-ghost use Rattle.std.specs.Prelude.{◌≡◌, ◌+◌, ◌<◌, length, drop};
+ghost use Rattle.std.specs.Prelude.{◌≡◌, ◌+◌, ◌<◌, ℕ, Bool, true, length, drop};
 ghost use Rattle.utf8.specs.Encode.{WellFormed};
 ghost use Rattle.utf8.specs.Chars.{chars};
 ghost use Rattle.property.specs.Table.{properties_at};
 ghost use Rattle.fitness.specs.Fit.{FitTable};
-ghost use Rattle.fitness.specs.Ascii.{is_name_part};
+ghost use Rattle.fitness.specs.Ascii.{is_name_part, is_printable};
 ghost use Rattle.text.specs.Bytes.{byte_at};
-ghost use Rattle.text.specs.Tests.{is_whitespace, is_binary_digit, is_octal_digit, is_decimal_digit, is_hex_digit, is_line_end, test_of, test_utf8, at_once};
+ghost use Rattle.text.specs.Tests.{is_whitespace, is_binary_digit, is_octal_digit, is_decimal_digit, is_hex_digit, is_hash, is_line_end, no_line_end, id_continue};
+ghost use Rattle.text.specs.CountLaws.{whitespace_ascii, binary_ascii, octal_ascii, decimal_ascii, hex_ascii, hash_ascii, AtOnce, no_line_end_once, id_continue_once};
 ghost use Rattle.text.specs.Ascii.{ascii_properties};
 ghost use Rattle.text.specs.Count.{count_while, run_test};
 ghost use Rattle.text.specs.Stands.{Stands};
@@ -39,19 +40,6 @@ pub struct Char {
     pub len: usize,
     pub properties: u32,
 }
-
-// The predicates that `run_end` and `run_utf8` take by number.
-pub const WHITESPACE: u8 = 0;
-
-pub const BINARY_DIGIT: u8 = 1;
-
-pub const OCTAL_DIGIT: u8 = 2;
-
-pub const DECIMAL_DIGIT: u8 = 3;
-
-pub const HEX_DIGIT: u8 = 4;
-
-pub const HASH: u8 = 5;
 
 // The byte at `at`, or 256 past the end.
 pub fn byte_at(source: &[u8], at: usize) -> u32
@@ -98,36 +86,96 @@ fn is_hex_digit(b: u8) -> bool
     between(b, b'0', b'9') || (between(b, b'a', b'f') || (between(b, b'A', b'F') || b == b'_'))
 }
 
-// The predicate of this number.
-fn passes(test: u8, b: u8) -> bool
-    ensures { result ≡ test_of test b }
-{
-    if test == WHITESPACE {
-        return is_whitespace(b);
+// A predicate that only ASCII characters pass: what `run_end` asks of each.
+pub trait ByteTest {
+    ghost test: { ℕ → Bool };
+
+    fn passes(b: u8) -> bool
+        ensures { result ≡ test b };
+
+    ghost ascii: { (c : ℕ) → test c ≡ true → c < 128 };
+}
+
+pub struct Whitespace;
+
+impl ByteTest for Whitespace {
+    ghost test = { is_whitespace };
+
+    fn passes(b: u8) -> bool {
+        is_whitespace(b)
     }
-    if test == BINARY_DIGIT {
-        return is_binary_digit(b);
+
+    ghost ascii = { whitespace_ascii };
+}
+
+pub struct BinaryDigit;
+
+impl ByteTest for BinaryDigit {
+    ghost test = { is_binary_digit };
+
+    fn passes(b: u8) -> bool {
+        is_binary_digit(b)
     }
-    if test == OCTAL_DIGIT {
-        return is_octal_digit(b);
+
+    ghost ascii = { binary_ascii };
+}
+
+pub struct OctalDigit;
+
+impl ByteTest for OctalDigit {
+    ghost test = { is_octal_digit };
+
+    fn passes(b: u8) -> bool {
+        is_octal_digit(b)
     }
-    if test == DECIMAL_DIGIT {
-        return is_decimal_digit(b);
+
+    ghost ascii = { octal_ascii };
+}
+
+pub struct DecimalDigit;
+
+impl ByteTest for DecimalDigit {
+    ghost test = { is_decimal_digit };
+
+    fn passes(b: u8) -> bool {
+        is_decimal_digit(b)
     }
-    if test == HEX_DIGIT {
-        return is_hex_digit(b);
+
+    ghost ascii = { decimal_ascii };
+}
+
+pub struct HexDigit;
+
+impl ByteTest for HexDigit {
+    ghost test = { is_hex_digit };
+
+    fn passes(b: u8) -> bool {
+        is_hex_digit(b)
     }
-    b == b'#'
+
+    ghost ascii = { hex_ascii };
+}
+
+pub struct Hash;
+
+impl ByteTest for Hash {
+    ghost test = { is_hash };
+
+    fn passes(b: u8) -> bool {
+        b == b'#'
+    }
+
+    ghost ascii = { hash_ascii };
 }
 
 // lexer.rs `consume_and_count`: the byte after the run of characters from `at` on that pass the test, all ASCII.
-pub fn run_end(source: &[u8], at: usize, test: u8) -> usize
+pub fn run_end<T: ByteTest>(source: &[u8], at: usize) -> usize
     requires { WellFormed (drop at source.now) }
-    ensures { result ≡ at + count_while (test_of test) (chars (drop at source.now)) }
+    ensures { result ≡ at + count_while T.test (chars (drop at source.now)) }
 {
     let mut i = at;
     while i < source.len() {
-        if !passes(test, source[i]) {
+        if !T::passes(source[i]) {
             return i;
         }
         i += 1;
@@ -276,21 +324,6 @@ fn is_line_end(code: u32) -> bool
     code == 10 || code == 13
 }
 
-// The tests of `run_utf8`.
-pub const NO_LINE_END: u8 = 0;
-
-pub const ID_CONTINUE: u8 = 1;
-
-// The predicate of this number, of a character.
-fn passes_utf8(test: u8, code: u32, properties: u32) -> bool
-    ensures { result ≡ test_utf8 test code properties }
-{
-    if test == ID_CONTINUE {
-        return property::is_id_continue(properties);
-    }
-    !is_line_end(code)
-}
-
 // A letter, a digit or the underscore.
 fn is_name_part(b: u8) -> bool
     ensures { result ≡ is_name_part b }
@@ -298,33 +331,77 @@ fn is_name_part(b: u8) -> bool
     between(b, b'A', b'Z') || (between(b, b'a', b'z') || (between(b, b'0', b'9') || b == b'_'))
 }
 
-// An ASCII character that passes the test of this number and takes one column, whatever the table.
-fn passes_at_once(test: u8, b: u8) -> bool
-    ensures { result ≡ at_once test b }
-{
-    if test == ID_CONTINUE {
-        return is_name_part(b);
+// A predicate on characters, by their code point and their properties: what `run_utf8` asks of each.
+pub trait CharTest {
+    ghost test: { ℕ → ℕ → Bool };
+
+    ghost at_once: { ℕ → Bool };
+
+    fn passes(code: u32, properties: u32) -> bool
+        ensures { result ≡ test code properties };
+
+    // An ASCII character that passes and takes one column, whatever the table.
+    fn passes_at_once(b: u8) -> bool
+        ensures { result ≡ at_once b };
+
+    ghost once: { AtOnce test at_once };
+}
+
+pub struct NoLineEnd;
+
+impl CharTest for NoLineEnd {
+    ghost test = { no_line_end };
+
+    ghost at_once = { is_printable };
+
+    #[tactic(auto, unfolding(crate::specs::Tests::no_line_end))]
+    fn passes(code: u32, properties: u32) -> bool {
+        !is_line_end(code)
     }
-    between(b, b' ', b'~')
+
+    fn passes_at_once(b: u8) -> bool {
+        between(b, b' ', b'~')
+    }
+
+    ghost once = { no_line_end_once };
+}
+
+pub struct IdContinue;
+
+impl CharTest for IdContinue {
+    ghost test = { id_continue };
+
+    ghost at_once = { is_name_part };
+
+    #[tactic(auto, unfolding(crate::specs::Tests::id_continue))]
+    fn passes(code: u32, properties: u32) -> bool {
+        property::is_id_continue(properties)
+    }
+
+    fn passes_at_once(b: u8) -> bool {
+        is_name_part(b)
+    }
+
+    ghost once = { id_continue_once };
 }
 
 // lexer.rs `consume_and_count_utf8`: how far the run of characters from `start` on that pass the test reaches.
-pub fn run_utf8(source: &[u8], table: &[u32], start: Reach, test: u8) -> Reach
+pub fn run_utf8<T: CharTest>(source: &[u8], table: &[u32], start: Reach) -> Reach
     requires { Stands source.now start × FitTable table.now }
-    ensures { result ≡ run_test (properties_at table.now) test start (chars (drop start.byte.0 source.now)) }
+    ensures { result ≡ run_test (properties_at table.now) T.test start (chars (drop start.byte.0 source.now)) }
 {
     let mut reach = start;
     let mut i = reach.byte.0;
     // The run of the last character that was looked up: in a name most others are in it too.
     let mut near = 0;
     while i < source.len() {
-        if passes_at_once(test, source[i]) {
+        if T::passes_at_once(source[i]) {
             reach = reach.along_ascii(1);
             i = reach.byte.0;
             continue;
         }
         let c = char_near(source, table, i, near);
-        if !passes_utf8(test, c.char.code, c.char.properties) {
+        if !T::passes(c.char.code, c.char.properties) {
             return reach;
         }
         reach = reach.along(c.char.len, property::width_of(c.char.properties));

@@ -11,42 +11,21 @@ ghost use Rattle.words.specs.Words.{is_word, starts_with, else_word, else_if_wor
 pub fn within(source: &[u8], at: usize, len: usize) -> usize
     ensures { result ≡ length (take len (drop at source.now)) }
 {
-    if source.len() <= at {
-        return 0;
-    }
-    let left = source.len() - at;
-    if left < len {
-        return left;
-    }
-    len
+    source.len().saturating_sub(at).min(len)
 }
 
 // Do the bytes at `at` begin with the word?
 pub fn starts_with(source: &[u8], at: usize, word: &[u8]) -> bool
     ensures { result ≡ starts_with word.now (drop at source.now) }
 {
-    let len = word.len();
-    if within(source, at, len) < len {
-        return false;
-    }
-    let mut i = 0;
-    while i < len {
-        if source[at + i] != word[i] {
-            return false;
-        }
-        i += 1;
-    }
-    true
+    source[at.min(source.len())..].starts_with(word)
 }
 
 // Are the `len` bytes at `at` the word?
 fn is_word(source: &[u8], at: usize, len: usize, word: &[u8]) -> bool
     ensures { result ≡ is_word word.now (take len (drop at source.now)) }
 {
-    if within(source, at, len) != word.len() {
-        return false;
-    }
-    starts_with(source, at, word)
+    within(source, at, len) == word.len() && starts_with(source, at, word)
 }
 
 // Are the `len` bytes at `at` "else"?

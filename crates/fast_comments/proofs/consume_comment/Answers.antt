@@ -7,6 +7,8 @@ use Rattle.position.specs.Place.{along_by}
 use Rattle.position.specs.declared.Reach.{Reach}
 use Rattle.property.specs.Table.{properties_at}
 use Rattle.token.specs.Kind.{comment_single}
+use Rattle.text.specs.Tests.{no_line_end}
+use Rattle.text.specs.CountLaws.{no_line_end_once}
 use Rattle.text.specs.Stands.{Stands}
 use Rattle.text.specs.FollowLaws.{one_ascii}
 use Rattle.state.specs.Lexer.{reach_of, token_to}
@@ -47,8 +49,8 @@ stands : (c : After-byte_at) → Stands c.args.source.now c.along_ascii-start.re
 stands c = subst (Stands _) (sym (begins (goal.at.After-byte_at c).After-along_ascii-start)) (behind (goal.at.After-byte_at c).Start)
 
 -- past what stays
-ran : (c : After-pass-near) → Ran (properties_at c.args.table.now) 0 c.args.source.now c.along_ascii-start.result c.pass-near.result
-ran c = past_ran _ _ c.requires.stands.1 0 line_stays (stands (goal.at.After-pass-near c).After-byte_at) c.pass-near.ensures
+ran : (c : After-pass-near) → Ran (properties_at c.args.table.now) no_line_end c.args.source.now c.along_ascii-start.result c.pass-near.result
+ran c = past_ran _ _ c.requires.stands.1 no_line_end_once line_stays (stands (goal.at.After-pass-near c).After-byte_at) c.pass-near.ensures
 
 pub pass-near-requires : goal.pass-near-requires
 pass-near-requires c = stands (goal.at.pass-near-requires c).After-byte_at

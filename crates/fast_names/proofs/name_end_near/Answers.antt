@@ -8,12 +8,13 @@ use Rattle.position.specs.Position.{column_most}
 use Rattle.position.specs.Place.{along_by}
 use Rattle.position.specs.declared.Reach.{Reach}
 use Rattle.property.specs.Table.{properties_at}
+use Rattle.text.specs.Tests.{id_continue}
 use Rattle.text.specs.Chars.{LenIs}
-use Rattle.text.specs.CountLaws.{along_stands}
+use Rattle.text.specs.CountLaws.{along_stands, id_continue_once}
 use Rattle.text.specs.Stands.{Stands}
 use Rattle.names.specs.NameLaws.{stands_there, len_there, name_end_at}
 use Rattle.skip.specs.PastLaws.{past_end, past_from, Ran, past_ran}
-use Rattle.name_runs.specs.RunsLaws.{part_once, name_over}
+use Rattle.name_runs.specs.RunsLaws.{name_over}
 use Rattle.fast_names.proofs.name_end_near.Goals as goal
 use Rattle.fast_names.proofs.name_end_near.Goals.{After-along-start, After-parts_end-end, After-reach}
 
@@ -29,8 +30,8 @@ behind c =
 -- past the parts of the name, however the reach is written
 ran : (p : After-parts_end-end) {r : Reach}
     → r ≡ along_by (p.parts_end-end.result - p.along-start.result.byte.0) (p.parts_end-end.result - p.along-start.result.byte.0) p.along-start.result
-    → Ran (properties_at p.args.table.now) 1 p.args.source.now p.along-start.result r
-ran p e = past_ran _ _ p.requires.1 1 part_once (behind (goal.at.After-parts_end-end p).After-along-start) (past_from p.parts_end-end.ensures.passed e)
+    → Ran (properties_at p.args.table.now) id_continue p.args.source.now p.along-start.result r
+ran p e = past_ran _ _ p.requires.1 id_continue_once (λ x e. e) (behind (goal.at.After-parts_end-end p).After-along-start) (past_from p.parts_end-end.ensures.passed e)
 
 pub along-start-requires : goal.along-start-requires
 along-start-requires c =

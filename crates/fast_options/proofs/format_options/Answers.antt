@@ -5,16 +5,16 @@ use Prim.Native.Nat.{ℕ}
 use mathlib.Core.Path.{◌≡◌, refl, sym, ◌∙◌}
 use mathlib.Core.List.{List}
 use lib.ListN.{drop}
+use Rattle.std.specs.Prelude.{Some}
 use Rattle.utf8.specs.Chars.{chars}
 use Rattle.token.specs.Kind.{string_literal}
 use Rattle.text.specs.Stands.{Stands}
 use Rattle.state.specs.Lexer.{reach_of}
 use Rattle.options.specs.ConsumeFormatOptions.{find_brace}
-use Rattle.options.specs.declared.Brace.TheVariants.{At}
 use Rattle.plain.specs.PlainLaws.{plain_none, plain_token}
 use Rattle.fast_options.specs.OptionsLaws.{Apart, apart_by, lands, options_to, brace_on}
 use Rattle.fast_options.proofs.format_options.Goals as goal
-use Rattle.fast_options.proofs.format_options.Goals.{After-skip_ascii, In-At}
+use Rattle.fast_options.proofs.format_options.Goals.{After-skip_ascii, In-Some}
 
 abbrev src : After-skip_ascii → List ℕ
 src k = k.args.source.now
@@ -31,9 +31,9 @@ apart k =
     (sym k.stand_apart.ensures ∙ k.if-not-stand_apart.false)
 
 -- the brace that is found from there on
-found : (e : In-At)
-    → (At e.in-At.end ≡ find_brace e.skip_ascii.result (chars (drop e.skip_ascii.result (src (goal.at.In-At e).After-skip_ascii))))
-found e = sym e.in-At.is ∙ e.find_brace.ensures
+found : (e : In-Some)
+    → (Some e.in-Some.end ≡ find_brace e.skip_ascii.result (chars (drop e.skip_ascii.result (src (goal.at.In-Some e).After-skip_ascii))))
+found e = sym e.in-Some.is ∙ e.find_brace.ensures
 
 pub returns-then-source-at-lt3 : goal.returns-then-source-at-lt3
 returns-then-source-at-lt3 c table fit edition = plain_none c.none.ensures
@@ -49,9 +49,9 @@ returns-in_default c table fit edition = plain_none c.none-in_default.ensures
 
 pub overflow_sub-result : goal.overflow_sub-result
 overflow_sub-result c =
-    brace_on (src (goal.at.overflow_sub-result c).After-skip_ascii) (at (goal.at.overflow_sub-result c).After-skip_ascii) (apart (goal.at.overflow_sub-result c).After-skip_ascii) (stands (goal.at.overflow_sub-result c).After-skip_ascii).well _ _ c.skip_ascii.ensures (found (goal.at.overflow_sub-result c).In-At)
+    brace_on (src (goal.at.overflow_sub-result c).After-skip_ascii) (at (goal.at.overflow_sub-result c).After-skip_ascii) (apart (goal.at.overflow_sub-result c).After-skip_ascii) (stands (goal.at.overflow_sub-result c).After-skip_ascii).well _ _ c.skip_ascii.ensures (found (goal.at.overflow_sub-result c).In-Some)
 
 pub returns : goal.returns
 returns c table fit edition =
     plain_token string_literal _ refl
-    (sym (options_to table fit edition (src (goal.at.returns c).After-skip_ascii) c.args.lexer (stands (goal.at.returns c).After-skip_ascii) (apart (goal.at.returns c).After-skip_ascii) _ c.skip_ascii.ensures (At c.in-At.end) (found (goal.at.returns c).In-At)))
+    (sym (options_to table fit edition (src (goal.at.returns c).After-skip_ascii) c.args.lexer (stands (goal.at.returns c).After-skip_ascii) (apart (goal.at.returns c).After-skip_ascii) _ c.skip_ascii.ensures (Some c.in-Some.end) (found (goal.at.returns c).In-Some)))

@@ -19,7 +19,7 @@ use Rattle.turns.specs.TurnsLaws.{writable_kept, written_token, room_most_lem}
 use Rattle.fast_turns.specs.Steps.{Inside}
 use Rattle.fast_turns.specs.StepsLaws.{at_stands, ready_blank, ready_plain, ready_feed, code_none, code_kept}
 use Rattle.fast_turns.proofs.code_turn.Goals as goal
-use Rattle.fast_turns.proofs.code_turn.Goals.{After-blank_end, Else-b-ne10, Else-not-is_inside, Then-plain-ne-ERROR}
+use Rattle.fast_turns.proofs.code_turn.Goals.{After-run_end, Else-b-ne10, Else-not-is_inside, Then-plain-ne-ERROR}
 
 inside_at : (e : Else-not-is_inside)
     → Inside e.args.layout e.args.source.now e.args.list.now e.args.count e.args.lexer
@@ -46,32 +46,32 @@ pub bounds-source-at : goal.bounds-source-at
 bounds-source-at c = (inside_at (goal.at.bounds-source-at c).Else-not-is_inside).within
 
 -- ---- blanks
-pub blank_end-requires : goal.blank_end-requires
-blank_end-requires c = (stands_at (goal.at.blank_end-requires c).Else-not-is_inside).well
+pub run_end-requires : goal.run_end-requires
+run_end-requires c = (stands_at (goal.at.run_end-requires c).Else-not-is_inside).well
 
 -- the blanks that were counted
-counted : (b : After-blank_end)
-    → b.blank_end.result - (reach_of b.args.lexer).byte.0
+counted : (b : After-run_end)
+    → b.run_end.result - (reach_of b.args.lexer).byte.0
     ≡ count_while is_whitespace (chars_from b.args.source.now (reach_of b.args.lexer))
-counted b = omega (arith, b.blank_end.ensures)
+counted b = omega (arith, b.run_end.ensures)
 
-blank_ready : (b : After-blank_end)
-    → ReadyAt (goal.at.After-blank_end b).Else-not-is_inside
-    (token_along whitespace (b.blank_end.result - (reach_of b.args.lexer).byte.0)
-    (indented (b.blank_end.result - (reach_of b.args.lexer).byte.0) (settled b.args.lexer)))
+blank_ready : (b : After-run_end)
+    → ReadyAt (goal.at.After-run_end b).Else-not-is_inside
+    (token_along whitespace (b.run_end.result - (reach_of b.args.lexer).byte.0)
+    (indented (b.run_end.result - (reach_of b.args.lexer).byte.0) (settled b.args.lexer)))
 blank_ready b =
     let p = b.requires in
-    ready_blank b.args.edition p.0 (inside_at (goal.at.After-blank_end b).Else-not-is_inside) p.2 b.if-b-eq32.true (counted b)
+    ready_blank b.args.edition p.0 (inside_at (goal.at.After-run_end b).Else-not-is_inside) p.2 b.if-b-eq32.true (counted b)
 
 pub blank-requires : goal.blank-requires
-blank-requires c = writable_kept (blank_ready (goal.at.blank-requires c).After-blank_end) refl
+blank-requires c = writable_kept (blank_ready (goal.at.blank-requires c).After-run_end) refl
 
 pub overflow_add-result : goal.overflow_add-result
 overflow_add-result c = omega (arith, one_more_lem (goal.at.overflow_add-result c).Else-not-is_inside)
 
 pub returns-then-b-eq32 : goal.returns-then-b-eq32
 returns-then-b-eq32 c =
-    code_kept (blank_ready (goal.at.returns-then-b-eq32 c).After-blank_end) refl refl c.blank.ensures
+    code_kept (blank_ready (goal.at.returns-then-b-eq32 c).After-run_end) refl refl c.blank.ensures
 
 pub code_plain-plain-requires : goal.code_plain-plain-requires
 code_plain-plain-requires c =

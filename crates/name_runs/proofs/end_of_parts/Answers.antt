@@ -7,11 +7,11 @@ use mathlib.Core.Path.{◌≡◌, sym, ap, ◌∙◌}
 use lib.ListN.{length}
 use Rattle.position.specs.Place.{along_by}
 use Rattle.property.specs.Parts.{width_of, xid_continue}
-use Rattle.text.specs.Tests.{test_utf8}
+use Rattle.text.specs.Tests.{id_continue}
 use Rattle.text.specs.Chars.{CharIs}
-use Rattle.text.specs.CountLaws.{width_most_lem}
+use Rattle.text.specs.CountLaws.{width_most_lem, id_continue_once}
 use Rattle.text.proofs.Runs.{running, runs_well, runs_fit, runs_on, runs_fall, runs_stop, runs_end, once_on, once_fall}
-use Rattle.name_runs.specs.RunsLaws.{char_by, point_is, part_once, name_over}
+use Rattle.name_runs.specs.RunsLaws.{char_by, point_is, name_over}
 use Rattle.name_runs.proofs.end_of_parts.Goals as goal
 use Rattle.name_runs.proofs.end_of_parts.Goals.{After-along-reach, After-run_with-run}
 
@@ -31,13 +31,13 @@ along_ascii-reach-requires c =
 
 pub loop-i-smaller-then-b-lt128 : goal.loop-i-smaller-then-b-lt128
 loop-i-smaller-then-b-lt128 c =
-    once_fall _ _ _ c.loop-i.invariant.0 c.requires.1 c.loop-i-test.true
-    (part_once _ (sym c.is_part.ensures ∙ c.if-not-is_part.false)) _ c.along_ascii-reach.ensures
+    once_fall _ _ _ c.loop-i.invariant.0 id_continue_once c.requires.1 c.loop-i-test.true
+    (sym c.is_part.ensures ∙ c.if-not-is_part.false) _ c.along_ascii-reach.ensures
 
 pub loop-i-preserved-then-b-lt128 : goal.loop-i-preserved-then-b-lt128
 loop-i-preserved-then-b-lt128 c = (
-  once_on _ _ _ c.loop-i.invariant.0 c.requires.1 c.loop-i-test.true
-      (part_once _ (sym c.is_part.ensures ∙ c.if-not-is_part.false)) _ c.along_ascii-reach.ensures,
+  once_on _ _ _ c.loop-i.invariant.0 id_continue_once c.requires.1 c.loop-i-test.true
+      (sym c.is_part.ensures ∙ c.if-not-is_part.false) _ c.along_ascii-reach.ensures,
   c.loop-i.invariant.1,
 )
 
@@ -55,7 +55,7 @@ char : (d : After-run_with-run)
 char d = point_is (runs_well _ _ _ d.loop-i.invariant.0) d.decode-c.ensures d.run_with-run.ensures
 
 pub returns-then-not-is_id_continue : goal.returns-then-not-is_id_continue
-unfolding test_utf8
+unfolding id_continue
 returns-then-not-is_id_continue c =
     runs_stop _ _ _ c.loop-i.invariant.0 _ (char (goal.at.returns-then-not-is_id_continue c).After-run_with-run)
     (ap xid_continue (sym c.run_with-run.ensures.has) ∙ sym c.is_id_continue.ensures ∙ c.if-not-is_id_continue.true)
@@ -76,7 +76,7 @@ loop-i-smaller c =
     runs_fall _ _ _ c.loop-i.invariant.0 _ (char (goal.at.loop-i-smaller c).After-run_with-run) _ (after c)
 
 pub loop-i-preserved : goal.loop-i-preserved
-unfolding test_utf8
+unfolding id_continue
 loop-i-preserved c = (
   runs_on _ _ _ c.loop-i.invariant.0 _ (char (goal.at.loop-i-preserved c).After-run_with-run)
       (ap xid_continue (sym c.run_with-run.ensures.has)

@@ -2,6 +2,7 @@
 -- Assumes nothing.
 use native.Mathlib.Omega.{arith}
 use mathlib.Core.Path.{refl, sym, ap, subst, ◌∙◌}
+use Rattle.std.specs.Prelude.{Some, None}
 use Rattle.base.specs.CasesLaws.{pick_yes, pick_no}
 use Rattle.position.specs.declared.Reach.{Reach}
 use Rattle.names.specs.NameLaws.{name_token_at, decided_at}
@@ -32,19 +33,19 @@ returns-then-is_else c =
 pub raw_string_start-requires : goal.raw_string_start-requires
 raw_string_start-requires c =
     let o = c.requires.0 in
-    let d = subst Small c.in-Opens.is c.raw_start.ensures.small in
+    let d = subst Small c.in-Some.is c.raw_start.ensures.small in
     record { lexer_bound = omega (arith, o.small, o.inside, o.columns, d); lexer_bound_2 = omega (arith, o.small, o.inside, o.columns, d) }
 
-pub returns-in-Opens : goal.returns-in-Opens
-returns-in-Opens c =
+pub returns-in-Some : goal.returns-in-Some
+returns-in-Some c =
     c.raw_string_start.ensures
     ∙ sym
     (decided_at _ _ _ c.requires.0 _ c.reach-reach.ensures
-    (sym c.is_else.ensures ∙ c.if-is_else.false) c.raw_start.ensures c.in-Opens.is)
+    (sym c.is_else.ensures ∙ c.if-is_else.false) c.raw_start.ensures c.in-Some.is)
 
-pub returns-in-Nothing : goal.returns-in-Nothing
-returns-in-Nothing c =
+pub returns-in-None : goal.returns-in-None
+returns-in-None c =
     c.keyword_or_id.ensures
     ∙ sym
     (decided_at _ _ _ c.requires.0 _ c.reach-reach.ensures
-    (sym c.is_else.ensures ∙ c.if-is_else.false) c.raw_start.ensures c.in-Nothing.is)
+    (sym c.is_else.ensures ∙ c.if-is_else.false) c.raw_start.ensures c.in-None.is)

@@ -2,6 +2,7 @@
 -- Assumes nothing.
 use native.Mathlib.Omega.{arith}
 use mathlib.Core.Path.{sym, ◌∙◌}
+use Rattle.text.specs.CountLaws.{decimal_ascii}
 use Rattle.numbers.specs.PlaceLaws.{bytes, next_place, run_place}
 use Rattle.numbers.specs.NumberLaws.{tail_at}
 use Rattle.numbers.proofs.tail_end.Goals as goal
@@ -19,7 +20,7 @@ pub run_end-requires : goal.run_end-requires
 run_end-requires c = (next_place c.requires (omega arith)).well
 
 pub exponent_end-requires-2 : goal.exponent_end-requires-2
-exponent_end-requires-2 c = rw c.run_end.ensures (run_place (next_place c.requires (omega arith)) 3)
+exponent_end-requires-2 c = rw c.run_end.ensures (run_place (next_place c.requires (omega arith)) decimal_ascii)
 
 pub returns : goal.returns
 returns c =

@@ -19,15 +19,15 @@ found start = ap symbol_of (sym (chars_well _ start.requires.0.well).0)
 
 pub advance_line-requires : goal.advance_line-requires
 advance_line-requires c =
-    let i = symbol_is (drop (reach_of c.args.lexer).byte.0 c.args.source.now) (sym c.symbol.ensures ∙ c.in-Is.is) in
+    let i = symbol_is (drop (reach_of c.args.lexer).byte.0 c.args.source.now) (sym c.symbol_at.ensures ∙ c.in-Some.is) in
     omega (arith, i.few, c.requires)
 
-pub returns-in-Is : goal.returns-in-Is
-returns-in-Is c =
-    let e = found (goal.at.returns-in-Is c).Start ∙ sym c.symbol.ensures ∙ c.in-Is.is in
+pub returns-in-Some : goal.returns-in-Some
+returns-in-Some c =
+    let e = found (goal.at.returns-in-Some c).Start ∙ sym c.symbol_at.ensures ∙ c.in-Some.is in
     rw e (cc)
 
-pub returns-in-Nothing : goal.returns-in-Nothing
-returns-in-Nothing c =
-    let e = found (goal.at.returns-in-Nothing c).Start ∙ sym c.symbol.ensures ∙ c.in-Nothing.is in
+pub returns-in-None : goal.returns-in-None
+returns-in-None c =
+    let e = found (goal.at.returns-in-None c).Start ∙ sym c.symbol_at.ensures ∙ c.in-None.is in
     rw e c.token.ensures

@@ -6,7 +6,7 @@ use Rattle.text.proofs.Runs.{Counting}
 use Rattle.text.proofs.run_end.Given as goal
 
 abbrev pub invariant-loop-i : goal.invariant-loop-i
-invariant-loop-i l = Counting l.test l.source l.at l.i
+invariant-loop-i g l = Counting g.T.ByteTest.test g.met.T.ByteTest.ascii l.source l.at l.i
 
 abbrev pub decreases-loop-i : goal.decreases-loop-i
-decreases-loop-i l = length l.source - l.i
+decreases-loop-i g l = length l.source - l.i

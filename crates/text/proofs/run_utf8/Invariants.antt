@@ -6,7 +6,7 @@ use Rattle.text.proofs.Runs.{Running}
 use Rattle.text.proofs.run_utf8.Given as goal
 
 abbrev pub invariant-loop-i : goal.invariant-loop-i
-invariant-loop-i l = Running l.test l.source l.table l.initial.reach l.reach l.i
+invariant-loop-i g l = Running g.T.CharTest.test l.source l.table l.initial.reach l.reach l.i
 
 abbrev pub decreases-loop-i : goal.decreases-loop-i
-decreases-loop-i l = length l.source - l.i
+decreases-loop-i g l = length l.source - l.i

@@ -1,24 +1,21 @@
--- `words::starts_with` meets its contract: `Going` holds at each turn, and each way out of the loop is one of its laws. Assumes nothing.
-use Rattle.words.proofs.Compare.{lacking, begins, goes_on, differs, ends}
+-- `words::starts_with` meets its contract: std's test of what is left of the source asks the same. Assumes nothing.
+use native.Mathlib.Omega.{arith}
+use mathlib.Core.Path.{◌≡◌, ap, ◌∙◌}
+use mathlib.Core.List.{List}
+use Prim.Native.Nat.{ℕ, ◌-◌}
+use lib.Dec.{eqb}
+use lib.ListN.{length, take, drop, length-drop}
+use Rattle.std.specs.List as std
+use Rattle.std.proofs.lemmas.List.{drop_min, take_all}
+use Rattle.words.proofs.Compare.{starts_is}
 use Rattle.words.proofs.starts_with.Goals as goal
 
-pub returns-then-within-len : goal.returns-then-within-len
-returns-then-within-len c =
-    let a = c.args in
-    lacking a.source.now a.at a.word.now c.within.ensures c.if-within-len.true
-
-pub loop-i-init : goal.loop-i-init
-loop-i-init c =
-    let a = c.args in
-    begins a.source.now a.at a.word.now c.within.ensures c.if-within-len.false
-
-pub returns-then-source-at : goal.returns-then-source-at
-returns-then-source-at c =
-    differs _ _ _ _ c.loop-i.invariant c.loop-i-test.true c.if-source-at.true
-
-pub loop-i-preserved : goal.loop-i-preserved
-loop-i-preserved c =
-    goes_on _ _ _ _ c.loop-i.invariant c.loop-i-test.true c.if-source-at.false
-
 pub returns : goal.returns
-returns c = ends _ _ _ _ c.loop-i.invariant c.loop-i-test.false
+returns c =
+    let s = c.args.source.now in
+    let w = c.args.word.now in
+    let at = c.min.result in
+    let left : take (length s - at) (drop at s) ≡ drop c.args.at s =
+    take_all _ _ (omega (arith, length-drop at s)) ∙ ap (λ (n : ℕ). drop n s) c.min.ensures ∙ drop_min c.args.at s
+    in
+    c.starts_with.ensures.value ∙ ap (λ (l : List ℕ). std.starts_with eqb l w) left ∙ starts_is w (drop c.args.at s)

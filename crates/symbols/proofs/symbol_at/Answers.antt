@@ -1,16 +1,17 @@
--- `symbols::symbol` meets its contract: only the symbols that begin with the first byte can be there. Assumes nothing.
+-- `symbols::symbol_at` meets its contract: only the symbols that begin with the first byte can be there. Assumes nothing.
 use mathlib.Core.Path.{◌≡◌}
 use Prim.Native.Nat.{ℕ}
 use lib.ListN.{get_or, drop}
+use Rattle.std.specs.Prelude.{Option}
 use Rattle.symbols.specs.Symbols.{symbol_in, symbol_of}
+use Rattle.symbols.specs.declared.Symbol.{Symbol}
 use Rattle.symbols.specs.Groups.{symbols_of}
-use Rattle.symbols.specs.declared.SymbolAt.{SymbolAt}
 use Rattle.symbols.proofs.Narrow.{by_symbol, by_none, past_end}
-use Rattle.symbols.proofs.symbol.Goals as goal
-use Rattle.symbols.proofs.symbol.Goals.{After-shared_slice_known-2-1}
+use Rattle.symbols.proofs.symbol_at.Goals as goal
+use Rattle.symbols.proofs.symbol_at.Goals.{After-shared_slice_known-2-1}
 
 -- b is the byte that was read, and r what was answered of the symbols that begin with it
-arm : (p : After-shared_slice_known-2-1) (b : ℕ) {r : SymbolAt} → get_or p.args.source.now p.args.at 0 ≡ b
+arm : (p : After-shared_slice_known-2-1) (b : ℕ) {r : Option Symbol} → get_or p.args.source.now p.args.at 0 ≡ b
     → r ≡ symbol_in (symbols_of b) (drop p.args.at p.args.source.now)
     → r ≡ symbol_of (drop p.args.at p.args.source.now)
 arm p b = let a = p.args in by_symbol a.source.now a.at p.if-source-at.false b
