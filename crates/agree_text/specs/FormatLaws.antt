@@ -3,7 +3,7 @@
 --     read_agrees      the reading without a pool
 -- Assumes nothing.
 use Prim.Native.Nat.{ℕ, zero, suc, ◌+◌, ◌-◌}
-use Rattle.std.specs.Prelude.{◌≡◌, length, take}
+use Rattle.std.specs.Prelude.{◌≡◌, length, take, Err}
 use Rattle.std.proofs.Math.Path.{refl}
 use mathlib.Core.List.{List, [], ◌∷◌}
 use Rattle.utf8.specs.Encode.{encode_all}
@@ -12,6 +12,7 @@ use Rattle.format_options.specs.Options.{no_options}
 use Rattle.format_options.specs.declared.Options.{Options}
 use Rattle.format_options.specs.declared.Part.{Part}
 use Rattle.format_number.specs.Number.{peeked}
+use Rattle.format_arms.specs.declared.Position.{Position}
 use Rattle.format_arms.specs.Arms.{start, alignment, arm_of}
 use Rattle.format_arms.specs.declared.Arm.{Arm}
 use Rattle.format_arms.specs.declared.Arm.TheVariants as arm
@@ -35,13 +36,13 @@ module _ (f g : ℕ → ℕ) (edition : ℕ) where
   body_agrees at o c cs a arm.Unexpected = refl
 
   module _ {P : Type 0} (add : P → Part → P) where
-    from_agrees : (k at position : ℕ) (o : Options) (pool : P) (cs : List ℕ) → Agree f g cs
+    from_agrees : (k at : ℕ) (position : Position) (o : Options) (pool : P) (cs : List ℕ) → Agree f g cs
         → parse_from add f edition k at position o pool cs ≡ parse_from add g edition k at position o pool cs
     unfolding parse_from
     from_agrees k at position o pool [] a = refl
     from_agrees (suc k) at position o pool (c ∷ cs) a = from_agrees k (at + len_utf8 c) position o pool cs a.1
     from_agrees zero at position o pool (c ∷ cs) a =
-        λ i. elim (body_agrees at o c cs a (arm_of c (peeked cs) position) i) [ Goes result next k fill ↦ from_agrees k (at + len_utf8 c) next result (add_fill add pool fill) cs a.1 i | Fails e ↦ record { options = o; outcome = e; pool = pool } ]
+        λ i. elim (body_agrees at o c cs a (arm_of c (peeked cs) position) i) [ Goes result next k fill ↦ from_agrees k (at + len_utf8 c) next result (add_fill add pool fill) cs a.1 i | Fails e ↦ record { options = o; outcome = Err e; pool = pool } ]
 
     pub parse_agrees : (pool : P) (cs : List ℕ) → Agree f g cs → parse_with add f edition pool cs ≡ parse_with add g edition pool cs
     parse_agrees pool cs a = from_agrees 0 0 start no_options pool cs a

@@ -1,7 +1,7 @@
 -- C-14, of `parse`: fit tables that agree on the code points of a format string give the same call, with its answer and the pool after it.
 --     call_agrees, parses_agree
 -- Assumes nothing.
-use Rattle.std.specs.Prelude.{ℕ, ◌≡◌, List}
+use Rattle.std.specs.Prelude.{ℕ, ◌≡◌, List, Err}
 use Rattle.std.proofs.Common.{ap, ◌∙◌}
 use Rattle.base.specs.Pick.{pick}
 use Rattle.base.specs.Refusal.{format_most}
@@ -17,7 +17,7 @@ use Rattle.pool_rows.specs.declared.Counts.{Counts}
 use Rattle.format.specs.Parse.{string_of}
 use Rattle.parse.specs.Call.{Pool, add_to, lent, parsed, answer, Comes, comes, call, Parses}
 use Rattle.parse.specs.declared.After.{After}
-use Rattle.parse.specs.declared.Parsed.TheVariants.{Refused, BadState}
+use Rattle.parse.specs.declared.ParseError.TheVariants.{Refused, BadState}
 use Rattle.agree.specs.ScanLaws.{inputs_agree}
 use Rattle.agree_text.specs.FormatLaws.{parse_agrees}
 
@@ -31,8 +31,8 @@ module _ (format t u : List ℕ) (edition : ℕ) (fit : table_check t ≡ Fit) (
   pub call_agrees : (p : Pool) → call format t edition p ≡ call format u edition p
   unfolding call
   call_agrees p =
-      λ i. on_input (λ (x : Refusal). comes (Refused x) p) (inputs_agree format_most format t u edition fit also i)
-      (pick (fit_pool p.bytes p.entries p.counts) (comes (answer (parsed_agrees p i)) (parsed_agrees p i).pool) (comes BadState p))
+      λ i. on_input (λ (x : Refusal). comes (Err (Refused x)) p) (inputs_agree format_most format t u edition fit also i)
+      (pick (fit_pool p.bytes p.entries p.counts) (comes (answer (parsed_agrees p i)) (parsed_agrees p i).pool) (comes (Err BadState) p))
 
   pub parses_agree : {bytes entries new_bytes new_entries : List ℕ} {counts : Counts} {r : After}
       → Parses format t edition bytes entries counts new_bytes new_entries r → Parses format u edition bytes entries counts new_bytes new_entries r

@@ -2,17 +2,14 @@
 -- (`alignment_number` and `representation_number` of `format_options`, `given_number` and `shown_number` of `parse`), read back.
 -- `FieldsLaws` proves that they are read back.
 -- Assumes nothing.
-use Rattle.std.specs.Prelude.{ℕ, Bool, ◌&&◌, ◌||◌, leb, eqb}
+use Rattle.std.specs.Prelude.{ℕ, Bool, ◌&&◌, ◌||◌, leb, eqb, Option, Some, None}
 use Rattle.base.specs.Pick.{pick}
 use Rattle.fills.specs.Pad.{right, is_width}
 use Rattle.parse.specs.Numbers.{no_number}
 use Rattle.format_options.specs.declared.Alignment.{Alignment}
 use Rattle.format_options.specs.declared.Alignment.TheVariants.{Default, Left, Center, Right}
 use Rattle.format_options.specs.declared.Representation.TheVariants.{Debug, HexLower, HexUpper, Binary, Octal, ExpLower, ExpUpper}
-use Rattle.format_options.specs.declared.OptionalNumber.{OptionalNumber}
-use Rattle.format_options.specs.declared.OptionalNumber.TheVariants.{Number, Nothing}
-use Rattle.format_options.specs.declared.Shown.{Shown}
-use Rattle.format_options.specs.declared.Shown.TheVariants.{As, Plain}
+use Rattle.format_options.specs.declared.Representation.{Representation}
 use Rattle.asked.specs.declared.Fields.{Fields}
 
 -- ---- which numbers are some
@@ -34,19 +31,19 @@ are_fields alignment width precision representation = leb alignment right && (ar
 unfoldable pub alignment_of : ℕ → Alignment
 alignment_of n = pick (eqb n 1) Left (pick (eqb n 2) Center (pick (eqb n 3) Right Default))
 
-unfoldable pub number_of : ℕ → OptionalNumber
-number_of n = pick (eqb n no_number) Nothing (Number n)
+unfoldable pub number_of : ℕ → Option ℕ
+number_of n = pick (eqb n no_number) None (Some n)
 
-unfoldable pub shown_of : ℕ → Shown
+unfoldable pub shown_of : ℕ → Option Representation
 shown_of n =
-    pick (eqb n 0) (As Debug)
-    (pick (eqb n 1) (As HexLower)
-    (pick (eqb n 2) (As HexUpper)
-    (pick (eqb n 3) (As Binary)
-    (pick (eqb n 4) (As Octal)
-    (pick (eqb n 5) (As ExpLower)
-    (pick (eqb n 6) (As ExpUpper)
-    Plain))))))
+    pick (eqb n 0) (Some Debug)
+    (pick (eqb n 1) (Some HexLower)
+    (pick (eqb n 2) (Some HexUpper)
+    (pick (eqb n 3) (Some Binary)
+    (pick (eqb n 4) (Some Octal)
+    (pick (eqb n 5) (Some ExpLower)
+    (pick (eqb n 6) (Some ExpUpper)
+    None))))))
 
 abbrev pub fields_of : ℕ → ℕ → ℕ → ℕ → Fields
 fields_of alignment width precision representation =

@@ -4,7 +4,7 @@
 --     HasNumbers, has_numbers           the options of four numbers have these numbers
 --     OneOf, one_of                     and no other options have
 -- Assumes nothing.
-use Rattle.std.specs.Prelude.{ℕ, zero, suc, ◌≤◌, ◌≡◌, refl, true, leb}
+use Rattle.std.specs.Prelude.{ℕ, zero, suc, ◌≤◌, ◌≡◌, refl, true, leb, Option, Some, None}
 use Rattle.std.proofs.Common.{arith, sym, ap, subst, ◌∙◌, leb-true, le-leb, ne_eqb}
 use Rattle.base.specs.PickLaws.{by_eq, split_eq}
 use Rattle.base.specs.AllLaws.{and_left, and_right}
@@ -15,17 +15,14 @@ use Rattle.format_options.specs.Options.{alignment_number}
 use Rattle.format_options.specs.declared.Alignment.{Alignment}
 use Rattle.format_options.specs.declared.Alignment.TheVariants as alignment
 use Rattle.format_options.specs.declared.Representation.TheVariants as representation
-use Rattle.format_options.specs.declared.OptionalNumber.{OptionalNumber}
-use Rattle.format_options.specs.declared.OptionalNumber.TheVariants.{Number, Nothing}
-use Rattle.format_options.specs.declared.Shown.{Shown}
-use Rattle.format_options.specs.declared.Shown.TheVariants.{As, Plain}
+use Rattle.format_options.specs.declared.Representation.{Representation}
 use Rattle.asked.specs.Fields.{is_shown_number, are_numbers, are_fields, alignment_of, number_of, shown_of, fields_of}
 use Rattle.asked.specs.declared.Fields.{Fields}
 
 -- a number of 32 bits, or none
-abbrev pub Small : OptionalNumber → Type 0
-Small (Number n) = n ≤ width_most
-Small Nothing = Unit {0}
+abbrev pub Small : Option ℕ → Type 0
+Small (Some n) = n ≤ width_most
+Small None = Unit {0}
 
 -- the numbers that a parse tells of the options f
 pub record HasNumbers (alignment width precision representation : ℕ) (f : Fields) : Type 0 where
@@ -53,7 +50,7 @@ alignment_back n h =
 
 number_back : (n : ℕ) → given_number (number_of n) ≡ n
 unfolding number_of
-number_back n = by_eq (λ (g : OptionalNumber). given_number g ≡ n) n no_number (λ e. sym e) (λ _. refl)
+number_back n = by_eq (λ (g : Option ℕ). given_number g ≡ n) n no_number (λ e. sym e) (λ _. refl)
 
 shown_back : (n : ℕ) → is_shown_number n ≡ true → shown_number (shown_of n) ≡ n
 unfolding shown_of is_shown_number
@@ -68,7 +65,7 @@ shown_back n t =
     (λ h. split_eq n no_number (λ e. sym e)
     (λ i. absurd (none n (leb-true n 6 (rw (ne_eqb n no_number i) at t)) a b c d f g h)))))))))
   where
-    P : Shown → Type 0
+    P : Option Representation → Type 0
     P x = shown_number x ≡ n
 
     none : (n : ℕ) → n ≤ 6 → (n ≡ 0 → ⊥) → (n ≡ 1 → ⊥) → (n ≡ 2 → ⊥) → (n ≡ 3 → ⊥) → (n ≡ 4 → ⊥) → (n ≡ 5 → ⊥) → (n ≡ 6 → ⊥) → ⊥
@@ -123,37 +120,37 @@ alignment_low alignment.Left = refl
 alignment_low alignment.Center = refl
 alignment_low alignment.Right = refl
 
-number_of_lem : (g : OptionalNumber) → Small g → number_of (given_number g) ≡ g
+number_of_lem : (g : Option ℕ) → Small g → number_of (given_number g) ≡ g
 unfolding number_of
-number_of_lem (Number n) h = rw (ne_eqb n no_number (λ e. omega arith))
-number_of_lem Nothing h = refl
+number_of_lem (Some n) h = rw (ne_eqb n no_number (λ e. omega arith))
+number_of_lem None h = refl
 
-number_is : (g : OptionalNumber) → Small g → is_width (given_number g) ≡ true
+number_is : (g : Option ℕ) → Small g → is_width (given_number g) ≡ true
 unfolding is_width
-number_is (Number n) h = rw (ne_eqb n no_number (λ e. omega arith), le-leb n width_most h)
-number_is Nothing h = refl
+number_is (Some n) h = rw (ne_eqb n no_number (λ e. omega arith), le-leb n width_most h)
+number_is None h = refl
 
-shown_of_lem : (x : Shown) → shown_of (shown_number x) ≡ x
+shown_of_lem : (x : Option Representation) → shown_of (shown_number x) ≡ x
 unfolding shown_of
-shown_of_lem (As representation.Debug) = refl
-shown_of_lem (As representation.HexLower) = refl
-shown_of_lem (As representation.HexUpper) = refl
-shown_of_lem (As representation.Binary) = refl
-shown_of_lem (As representation.Octal) = refl
-shown_of_lem (As representation.ExpLower) = refl
-shown_of_lem (As representation.ExpUpper) = refl
-shown_of_lem Plain = refl
+shown_of_lem (Some representation.Debug) = refl
+shown_of_lem (Some representation.HexLower) = refl
+shown_of_lem (Some representation.HexUpper) = refl
+shown_of_lem (Some representation.Binary) = refl
+shown_of_lem (Some representation.Octal) = refl
+shown_of_lem (Some representation.ExpLower) = refl
+shown_of_lem (Some representation.ExpUpper) = refl
+shown_of_lem None = refl
 
-shown_is : (x : Shown) → is_shown_number (shown_number x) ≡ true
+shown_is : (x : Option Representation) → is_shown_number (shown_number x) ≡ true
 unfolding is_shown_number
-shown_is (As representation.Debug) = refl
-shown_is (As representation.HexLower) = refl
-shown_is (As representation.HexUpper) = refl
-shown_is (As representation.Binary) = refl
-shown_is (As representation.Octal) = refl
-shown_is (As representation.ExpLower) = refl
-shown_is (As representation.ExpUpper) = refl
-shown_is Plain = refl
+shown_is (Some representation.Debug) = refl
+shown_is (Some representation.HexLower) = refl
+shown_is (Some representation.HexUpper) = refl
+shown_is (Some representation.Binary) = refl
+shown_is (Some representation.Octal) = refl
+shown_is (Some representation.ExpLower) = refl
+shown_is (Some representation.ExpUpper) = refl
+shown_is None = refl
 
 -- four numbers are some options', and f are those
 pub record OneOf (alignment width precision representation : ℕ) (f : Fields) : Type 0 where

@@ -7,15 +7,15 @@ ghost use Rattle.fills.specs.Pad.{is_width};
 ghost use Rattle.asked.specs.Fields.{is_shown_number, are_numbers, are_fields, alignment_of, number_of, shown_of, fields_of};
 
 use fills::{NONE, RIGHT, is_width};
-use format_options::{Alignment, OptionalNumber, Representation, Shown};
+use format_options::{Alignment, Representation};
 
 // `StringFormatOptions` without its fill.
-#[derive(Clone, Copy)]
+#[derive(Clone, Copy, Debug, PartialEq, Eq)]
 pub struct Fields {
     pub alignment: Alignment,
-    pub width: OptionalNumber,
-    pub precision: OptionalNumber,
-    pub representation: Shown,
+    pub width: Option<u32>,
+    pub precision: Option<u32>,
+    pub representation: Option<Representation>,
 }
 
 // The greatest number of a representation.
@@ -46,55 +46,39 @@ pub fn are_fields(alignment: u64, width: u64, precision: u64, representation: u6
 fn alignment_of(number: u64) -> Alignment
     ensures { result ≡ alignment_of number }
 {
-    if number == 1 {
-        return Alignment::Left;
+    match number {
+        1 => Alignment::Left,
+        2 => Alignment::Center,
+        3 => Alignment::Right,
+        _ => Alignment::Default,
     }
-    if number == 2 {
-        return Alignment::Center;
-    }
-    if number == 3 {
-        return Alignment::Right;
-    }
-    Alignment::Default
 }
 
 // The width, or the precision, of a number.
-fn number_of(number: u64) -> OptionalNumber
+fn number_of(number: u64) -> Option<u32>
     requires { is_width number ≡ true }
     ensures { result ≡ number_of number }
 {
     if number == NONE {
-        return OptionalNumber::Nothing;
+        return None;
     }
-    OptionalNumber::Number(number as u32)
+    Some(number as u32)
 }
 
 // The representation of a number.
-fn shown_of(number: u64) -> Shown
+fn shown_of(number: u64) -> Option<Representation>
     ensures { result ≡ shown_of number }
 {
-    if number == 0 {
-        return Shown::As(Representation::Debug);
+    match number {
+        0 => Some(Representation::Debug),
+        1 => Some(Representation::HexLower),
+        2 => Some(Representation::HexUpper),
+        3 => Some(Representation::Binary),
+        4 => Some(Representation::Octal),
+        5 => Some(Representation::ExpLower),
+        6 => Some(Representation::ExpUpper),
+        _ => None,
     }
-    if number == 1 {
-        return Shown::As(Representation::HexLower);
-    }
-    if number == 2 {
-        return Shown::As(Representation::HexUpper);
-    }
-    if number == 3 {
-        return Shown::As(Representation::Binary);
-    }
-    if number == 4 {
-        return Shown::As(Representation::Octal);
-    }
-    if number == 5 {
-        return Shown::As(Representation::ExpLower);
-    }
-    if number == 6 {
-        return Shown::As(Representation::ExpUpper);
-    }
-    Shown::Plain
 }
 
 // The options of four numbers that are some.

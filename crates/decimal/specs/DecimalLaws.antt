@@ -5,16 +5,15 @@
 --     Taken, number_taken             whatever `consume_u32` reads as n is the digits of n, or longer
 --     Spelled, spelled, number_read   `consume_u32` reads the digits of n as n, where no digit follows
 -- Assumes nothing.
-use Rattle.std.specs.Prelude.{ℕ, zero, suc, ◌+◌, ◌-◌, ◌/◌, ◌%◌, ◌<◌, ◌≤◌, ◌≡◌, refl, Bool, true, false, List, [], ◌∷◌, ◌++◌, length, take}
+use Rattle.std.specs.Prelude.{ℕ, zero, suc, ◌+◌, ◌-◌, ◌/◌, ◌%◌, ◌<◌, ◌≤◌, ◌≡◌, refl, Bool, true, false, List, [], ◌∷◌, ◌++◌, length, take, Err}
 use Rattle.std.proofs.Common.{arith, sym, ap, subst, ◌∙◌, append_assoc, append-nil, length-append, lt-ltb, le-ltb, ne_eqb}
 use Rattle.base.specs.PickLaws.{split_lt}
 use Rattle.base.specs.RangeLaws.{is_inside}
 use Rattle.format_options.specs.Letters.{zero_digit, is_sign, is_digit}
 use Rattle.format_options.specs.LettersLaws.{digit_is}
-use Rattle.format_number.specs.Number.{index_max, peeked, digits_from, consume_u32}
-use Rattle.format_number.specs.NumberLaws.{with, step_more, step_large, step_stop}
-use Rattle.format_number.specs.declared.Consumed.TheVariants.{Value, Wrong}
-use Rattle.format_options.specs.declared.Outcome.TheVariants.{TooLarge, ExpectedNumber}
+use Rattle.format_number.specs.Number.{value, index_max, peeked, digits_from, consume_u32}
+use Rattle.format_number.specs.NumberLaws.{same_value, with, step_more, step_large, step_stop}
+use Rattle.format_options.specs.declared.FormatError.TheVariants.{TooLarge, ExpectedNumber}
 use Rattle.decimal.specs.Decimal.{digits_in, digits}
 use Rattle.decimal.specs.Over.{Over, same, longer, over_append}
 
@@ -97,10 +96,11 @@ pub record Taken (p cs : List ℕ) (m k j : ℕ) : Type 0 where
   pub small : m ≤ index_max
   pub over : Over (digits m) (p ++ take count cs)
 
-taken_none : (n k : ℕ) (cs p : List ℕ) (m j : ℕ) → n ≤ index_max → Over (digits n) p → Value n k ≡ Value m j → Taken p cs m k j
+taken_none : (n k : ℕ) (cs p : List ℕ) (m j : ℕ) → n ≤ index_max → Over (digits n) p → value n k ≡ value m j → Taken p cs m k j
 taken_none n k cs p m j s o e =
-    let a : n ≡ m = cc in
-    let b : k ≡ j = cc in
+    let q = same_value n k m j e in
+    let a = q.0 in
+    let b = q.1 in
     record {
       count = 0;
       is = omega arith;
@@ -119,18 +119,18 @@ taken_one k c cs p m j t =
       over = subst (Over (digits m)) (append_assoc p (c ∷ []) (take t.count cs)) t.over;
     }
 
-taken : (n k : ℕ) (cs p : List ℕ) (m j : ℕ) → n ≤ index_max → 0 < length p → Over (digits n) p → digits_from n k cs ≡ Value m j → Taken p cs m k j
+taken : (n k : ℕ) (cs p : List ℕ) (m j : ℕ) → n ≤ index_max → 0 < length p → Over (digits n) p → digits_from n k cs ≡ value m j → Taken p cs m k j
 unfolding digits_from
 taken n k [] p m j s h o e = taken_none n k [] p m j s o e
 taken n k (c ∷ cs) p m j s h o e =
     go (is_digit c) refl (λ i v x. taken (with n c) (k + 1) cs (p ++ c ∷ []) m j i (omega (arith, length-append p (c ∷ []))) v x)
   where
     go : (t : Bool) → is_digit c ≡ t
-        → (with n c ≤ index_max → Over (digits (with n c)) (p ++ c ∷ []) → digits_from (with n c) (k + 1) cs ≡ Value m j → Taken (p ++ c ∷ []) cs m (k + 1) j)
+        → (with n c ≤ index_max → Over (digits (with n c)) (p ++ c ∷ []) → digits_from (with n c) (k + 1) cs ≡ value m j → Taken (p ++ c ∷ []) cs m (k + 1) j)
         → Taken p (c ∷ cs) m k j
     go true t ih =
         split_lt index_max (with n c)
-        (λ l. let x : Wrong (TooLarge (with n c)) ≡ Value m j = sym (step_large n k c cs t l) ∙ e in
+        (λ l. let x : Err (TooLarge (with n c)) ≡ value m j = sym (step_large n k c cs t l) ∙ e in
         absurd (let z : ◌≡◌ {A = ℕ} 0 1 = cc in omega arith))
         (λ l. taken_one k c cs p m j (ih l (more_over n c p t h o) (sym (step_more n k c cs t l) ∙ e)))
     go false t ih = taken_none n k (c ∷ cs) p m j s o (rw t at e)
@@ -141,7 +141,7 @@ pub record Number (c : ℕ) (cs : List ℕ) (m j : ℕ) : Type 0 where
   pub small : m ≤ index_max
   pub over : Over (digits m) (c ∷ take j cs)
 
-pub number_taken : (c : ℕ) (cs : List ℕ) (m j : ℕ) → consume_u32 c cs ≡ Value m j → Number c cs m j
+pub number_taken : (c : ℕ) (cs : List ℕ) (m j : ℕ) → consume_u32 c cs ≡ value m j → Number c cs m j
 unfolding consume_u32
 number_taken c cs m j e = go (is_digit c) refl
   where
@@ -159,7 +159,7 @@ number_taken c cs m j e = go (is_digit c) refl
           over = subst (λ (x : ℕ). Over (digits m) (c ∷ take x cs)) q v.over;
         }
     go false t =
-        let x : Wrong (ExpectedNumber c) ≡ Value m j = rw t at e in
+        let x : Err (ExpectedNumber c) ≡ value m j = rw t at e in
         absurd (let z : ◌≡◌ {A = ℕ} 0 1 = cc in omega arith)
 
 -- ---- the digits of n are read as n
@@ -197,7 +197,7 @@ spelled_one n h =
 spelled_more : (n : ℕ) → 10 ≤ n → n ≤ index_max → Spelled (n / 10) → Spelled n
 spelled_more n h s w =
     let c = zero_digit + n % 10 in
-    let value : with (n / 10) c ≡ n = omega arith in
+    let same_number : with (n / 10) c ≡ n = omega arith in
     record {
       first = w.first;
       more = w.more ++ c ∷ [];
@@ -211,7 +211,7 @@ spelled_more n h s w =
           ap (digits_from (w.first - zero_digit) 0) (append_assoc w.more (c ∷ []) rest)
           ∙ w.reads (c ∷ rest)
           ∙ step_more (n / 10) (length w.more) c rest (is_digit_lem c (omega arith) (omega arith)) (omega arith)
-          ∙ ap (λ (x : ℕ). digits_from x (length w.more + 1) rest) value
+          ∙ ap (λ (x : ℕ). digits_from x (length w.more + 1) rest) same_number
           ∙ ap (λ (x : ℕ). digits_from n x rest) (sym (length-append w.more (c ∷ [])));
     }
 
@@ -221,6 +221,6 @@ spelled (suc most) n h s =
     split_lt n 10 (λ l. spelled_one n l) (λ l. spelled_more n l s (spelled most (n / 10) (omega arith) (omega arith)))
 
 pub number_read : (n : ℕ) (rest : List ℕ) (w : Spelled n) → is_digit (peeked rest) ≡ false
-    → consume_u32 w.first (w.more ++ rest) ≡ Value n (length w.more)
+    → consume_u32 w.first (w.more ++ rest) ≡ value n (length w.more)
 unfolding consume_u32
 number_read n rest w e = rw w.digit (w.reads rest ∙ step_stop n (length w.more) rest e)

@@ -1,7 +1,7 @@
 -- Document 02, C-12: a format parse for a desk. It is the parse of `parse/specs/Call` in which each addition is one for the desk, one after the
 -- other. Refusals 1, 17, 2, 3 or 15, 8 come first, in this order, and leave everything; strings added before 10 to 13 stay.
 -- Assumes nothing.
-use Rattle.std.specs.Prelude.{ℕ, ◌≡◌, List, Bool, true, false}
+use Rattle.std.specs.Prelude.{ℕ, ◌≡◌, List, Bool, true, false, Option, Some, None, Result, Err}
 use Rattle.base.specs.Pick.{pick}
 use Rattle.base.specs.Refusal.{format_most}
 use Rattle.utf8.specs.Chars.{chars}
@@ -11,11 +11,10 @@ use Rattle.input.specs.declared.Refusal.{Refusal}
 use Rattle.pool.specs.declared.Added.{Added}
 use Rattle.pool.specs.declared.Added.TheVariants as pool
 use Rattle.format.specs.Parse.{OnePass, parse_with, string_of}
-use Rattle.format_options.specs.declared.OptionalNumber.{OptionalNumber}
-use Rattle.format_options.specs.declared.OptionalNumber.TheVariants.{Number, Nothing}
 use Rattle.parse.specs.Call.{answer_of}
 use Rattle.parse.specs.declared.Parsed.{Parsed}
-use Rattle.parse.specs.declared.Parsed.TheVariants.{Refused, BadState}
+use Rattle.parse.specs.declared.ParseError.{ParseError}
+use Rattle.parse.specs.declared.ParseError.TheVariants.{Refused, BadState}
 use Rattle.desks.specs.Desks.{Shared, fit_desks}
 use Rattle.desks.specs.declared.Which.{Which}
 use Rattle.desk_add.specs.Add.{added_for, shared_after}
@@ -24,17 +23,17 @@ use Rattle.desk_parse.specs.declared.ParsedFor.{ParsedFor}
 -- the shared pool in a parse, the index that the last addition answered, and whether an addition found no room
 pub record Pool : Type 0 where
   pub state : Shared
-  pub index : OptionalNumber
+  pub index : Option ℕ
   pub full : Bool
 
 -- the one that is lent
 abbrev pub lent : Shared → Pool
-lent s = record { state = s; index = Nothing; full = false }
+lent s = record { state = s; index = None; full = false }
 
 -- what an addition of the string x makes of it
 abbrev pub on_added : Which → Pool → List ℕ → Added → Pool
 on_added which p x (pool.Index i counts) =
-    record { state = shared_after which p.state x (pool.Index i counts); index = Number i; full = false }
+    record { state = shared_after which p.state x (pool.Index i counts); index = Some i; full = false }
 on_added which p x pool.PoolFull = record { state = p.state; index = p.index; full = true }
 on_added which p x (pool.BadUtf8 place) = p
 on_added which p x (pool.CutUtf8 place) = p
@@ -51,10 +50,10 @@ parsed format table edition which s =
 
 -- what a call comes to: its answer, and the shared pool after it
 pub record Comes : Type 0 where
-  pub answer : Parsed
+  pub answer : Result Parsed ParseError
   pub state : Shared
 
-abbrev pub comes : Parsed → Shared → Comes
+abbrev pub comes : Result Parsed ParseError → Shared → Comes
 comes r s = record { answer = r; state = s }
 
 abbrev pub ended : OnePass Pool → Comes
@@ -62,8 +61,8 @@ ended r = comes (answer_of r.options r.outcome r.pool.index r.pool.full) r.pool.
 
 unfoldable pub call : List ℕ → List ℕ → ℕ → Which → Shared → Comes
 call format table edition which s =
-    on_input (λ (x : Refusal). comes (Refused x) s) (input_check format_most format table edition)
-    (pick (fit_desks s) (ended (parsed format table edition which s)) (comes BadState s))
+    on_input (λ (x : Refusal). comes (Err (Refused x)) s) (input_check format_most format table edition)
+    (pick (fit_desks s) (ended (parsed format table edition which s)) (comes (Err BadState) s))
 
 -- what `parse` ensures: its answer, and the counts, the desks and every word of the rows after it
 pub record ParsesFor (format table : List ℕ) (edition : ℕ) (which : Which) (s : Shared) (new_bytes new_entries newOwners : List ℕ) (r : ParsedFor)

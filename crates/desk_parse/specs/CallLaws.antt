@@ -7,7 +7,7 @@
 --     parse_fits, parse_keeps, parse_means_same      a parse, refused or not, leaves a fit state, the other desk, and what an index means
 --     one_answer          no second answer fits
 -- Assumes nothing.
-use Rattle.std.specs.Prelude.{ℕ, ◌*◌, ◌<◌, ◌≤◌, ◌≡◌, Bool, List, ◌++◌, length, take, drop}
+use Rattle.std.specs.Prelude.{ℕ, ◌*◌, ◌<◌, ◌≤◌, ◌≡◌, Bool, List, ◌++◌, length, take, drop, Result, Err}
 use Rattle.std.proofs.Common.{arith, sym, ap, ◌∙◌, take-append-drop}
 use Rattle.std.proofs.Math.Path.{refl, subst}
 use Rattle.std.proofs.Math.Bool.{true, false}
@@ -31,8 +31,8 @@ use Rattle.parse.specs.Call as parse
 use Rattle.parse.specs.Plan.{input_of}
 use Rattle.parse.specs.declared.After.{After}
 use Rattle.parse.specs.declared.Parsed.{Parsed}
-use Rattle.parse.specs.declared.Parsed.TheVariants as said
-use Rattle.parse.specs.declared.FormatInput.TheVariants as read
+use Rattle.parse.specs.declared.ParseError.{ParseError}
+use Rattle.parse.specs.declared.ParseError.TheVariants as said
 use Rattle.desks.specs.Desks.{Shared, owner_of, desk_of, other, fit_desks, Fits, entries_for, bytes_for}
 use Rattle.desks.specs.FitLaws.{fit_of}
 use Rattle.desks.specs.declared.Which.{Which}
@@ -50,12 +50,12 @@ module _ (format table : List ℕ) (edition : ℕ) (which : Which) (s : Shared) 
   -- ---- the answer, by what is checked first
 
   pub refused_is : {x : Refusal} → input_check format_most format table edition ≡ input.Refused x
-      → call format table edition which s ≡ comes (said.Refused x) s
+      → call format table edition which s ≡ comes (Err (said.Refused x)) s
   unfolding call
   refused_is e = rw e
 
   module _ (e : input_check format_most format table edition ≡ input.Fine) where
-    pub bad_state_is : fit_desks s ≡ false → call format table edition which s ≡ comes said.BadState s
+    pub bad_state_is : fit_desks s ≡ false → call format table edition which s ≡ comes (Err said.BadState) s
     unfolding call
     bad_state_is f = rw (e, f)
 
@@ -65,16 +65,16 @@ module _ (format table : List ℕ) (edition : ℕ) (which : Which) (s : Shared) 
 
   -- ---- where the desks are unfit
 
-  unfit_is : fit_desks s ≡ false → call format table edition which s ≡ comes (unfit_answer (input_of format table edition false)) s
+  unfit_is : fit_desks s ≡ false → call format table edition which s ≡ comes (Err (unfit_answer (input_of format table edition false))) s
   unfolding call input_of
   unfit_is e = rw e (go (input_check format_most format table edition))
     where
-      go : (c : Input) → on_input (λ (x : Refusal). comes (said.Refused x) s) c (comes said.BadState s)
-          ≡ comes (unfit_answer (on_input (λ (x : Refusal). read.Refused (said.Refused x)) c (read.Refused said.BadState))) s
+      go : (c : Input) → on_input (λ (x : Refusal). comes (Err (said.Refused x)) s) c (comes (Err said.BadState) s)
+          ≡ comes (Err (unfit_answer (on_input (λ (x : Refusal). Err (said.Refused x)) c (Err said.BadState)))) s
       go input.Fine = refl
       go (input.Refused x) = refl
 
-  pub settled_unfit : fit_desks s ≡ false → (r : ParsedFor) → r.answer ≡ unfit_answer (input_of format table edition false) → r.counts ≡ s.counts
+  pub settled_unfit : fit_desks s ≡ false → (r : ParsedFor) → r.answer ≡ Err (unfit_answer (input_of format table edition false)) → r.counts ≡ s.counts
       → r.desks ≡ s.desks → ParsesFor format table edition which s s.bytes s.entries s.owners r
   settled_unfit e r a n d =
       let u = unfit_is e in
@@ -174,7 +174,7 @@ module _ (format table : List ℕ) (edition : ℕ) (which : Which) (s : Shared) 
       pub entries_are : d.pool.entries ≡ take (2 * e) c.state.entries
       pub counts_are : d.pool.counts ≡ c.state.counts
 
-    following : (a : Parsed) {c : Parsed} {p : Pool} {q : parse.Pool} → c ≡ a → Pooled p q → Follows (comes c p.state) (parse.comes a q)
+    following : (a : Result Parsed ParseError) {c : Result Parsed ParseError} {p : Pool} {q : parse.Pool} → c ≡ a → Pooled p q → Follows (comes c p.state) (parse.comes a q)
     following a f n =
         record { answer_is = f; beside = n.beside; bytes_are = n.bytes_are; entries_are = n.entries_are; counts_are = n.counts_are }
 
@@ -201,7 +201,7 @@ module _ (format table : List ℕ) (edition : ℕ) (which : Which) (s : Shared) 
       where
         go : (c : Input) → input_check format_most format table edition ≡ c
             → Follows (call format table edition which s) (parse.call format table edition part)
-        go (input.Refused x) h = rw h (following (said.Refused x) refl at_first)
+        go (input.Refused x) h = rw h (following (Err (said.Refused x)) refl at_first)
         go input.Fine h = rw (h, ok, part_ok) read_on
 
     -- how much is in use after the parse in the part, of which this is said

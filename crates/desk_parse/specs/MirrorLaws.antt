@@ -3,15 +3,14 @@
 --     Mirrored, mirrors
 -- Assumes nothing.
 use Prim.Native.Nat.{ℕ, zero, suc, ◌+◌}
-use Rattle.std.specs.Prelude.{◌≡◌, refl}
+use Rattle.std.specs.Prelude.{◌≡◌, refl, Option, Some, None, Err}
 use mathlib.Core.List.{List, [], ◌∷◌}
 use Rattle.format.specs.Parse.{len_utf8, Body, Goes, Fails, body_of, OnePass, add_fill, parse_from, parse_with}
 use Rattle.format_options.specs.Options.{no_options}
 use Rattle.format_options.specs.declared.Part.{Part}
-use Rattle.format_options.specs.declared.Fill.{Fill}
-use Rattle.format_options.specs.declared.Fill.TheVariants.{Is, NoFill}
 use Rattle.format_options.specs.declared.Options.{Options}
 use Rattle.format_number.specs.Number.{peeked}
+use Rattle.format_arms.specs.declared.Position.{Position}
 use Rattle.format_arms.specs.Arms.{start, arm_of}
 
 module _ {P Q : Type 0} (R : P → Q → Type 0) where
@@ -22,11 +21,11 @@ module _ {P Q : Type 0} (R : P → Q → Type 0) where
 
   module _ (add : P → Part → P) (put : Q → Part → Q) (step : (p : P) (q : Q) (part : Part) → R p q → R (add p part) (put q part))
       (look : ℕ → ℕ) (edition : ℕ) where
-    filled : (p : P) (q : Q) (fill : Fill) → R p q → R (add_fill add p fill) (add_fill put q fill)
-    filled p q (Is part) r = step p q part r
-    filled p q NoFill r = r
+    filled : (p : P) (q : Q) (fill : Option Part) → R p q → R (add_fill add p fill) (add_fill put q fill)
+    filled p q (Some part) r = step p q part r
+    filled p q None r = r
 
-    from : (k at position : ℕ) (o : Options) (p : P) (q : Q) (cs : List ℕ) → R p q
+    from : (k at : ℕ) (position : Position) (o : Options) (p : P) (q : Q) (cs : List ℕ) → R p q
         → Mirrored (parse_from add look edition k at position o p cs) (parse_from put look edition k at position o q cs)
     unfolding parse_from
     from k at position o p q [] r = record { options = refl; outcome = refl; pools = r }
@@ -36,17 +35,17 @@ module _ {P Q : Type 0} (R : P → Q → Type 0) where
         (λ k next result fill. from k (at + len_utf8 c) next result (add_fill add p fill) (add_fill put q fill) cs (filled p q fill r))
       where
         go : (body : Body)
-            → ((k next : ℕ) (result : Options) (fill : Fill)
+            → ((k : ℕ) (next : Position) (result : Options) (fill : Option Part)
             → Mirrored (parse_from add look edition k (at + len_utf8 c) next result (add_fill add p fill) cs)
             (parse_from put look edition k (at + len_utf8 c) next result (add_fill put q fill) cs))
             → Mirrored
             (elim body [
               | Goes result next k fill ↦ parse_from add look edition k (at + len_utf8 c) next result (add_fill add p fill) cs
-              | Fails e ↦ record { options = o; outcome = e; pool = p }
+              | Fails e ↦ record { options = o; outcome = Err e; pool = p }
             ])
             (elim body [
               | Goes result next k fill ↦ parse_from put look edition k (at + len_utf8 c) next result (add_fill put q fill) cs
-              | Fails e ↦ record { options = o; outcome = e; pool = q }
+              | Fails e ↦ record { options = o; outcome = Err e; pool = q }
             ])
         go (Goes result next k fill) on = on k next result fill
         go (Fails e) on = record { options = refl; outcome = refl; pools = r }

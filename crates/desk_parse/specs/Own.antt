@@ -1,12 +1,11 @@
 -- What the code makes of a parse in the part of the pool that a desk may fill: what was added is owned by the desk, and charged to it. No public
 -- contract cites it.
 -- Assumes nothing.
-use Rattle.std.specs.Prelude.{ℕ, ◌+◌, ◌-◌, List, ◌++◌, take, drop, replicate}
+use Rattle.std.specs.Prelude.{ℕ, ◌+◌, ◌-◌, List, ◌++◌, take, drop, replicate, Result, Ok, Err}
 use Rattle.pool_rows.specs.declared.Counts.{Counts}
-use Rattle.parse.specs.declared.Parsed.{Parsed}
-use Rattle.parse.specs.declared.Parsed.TheVariants.{BadState}
-use Rattle.parse.specs.declared.FormatInput.{FormatInput}
-use Rattle.parse.specs.declared.FormatInput.TheVariants.{Refused, Read}
+use Rattle.format.specs.declared.FormatRead.{FormatRead}
+use Rattle.parse.specs.declared.ParseError.{ParseError}
+use Rattle.parse.specs.declared.ParseError.TheVariants.{BadState}
 use Rattle.desks.specs.declared.Desk.{Desk}
 use Rattle.desks.specs.declared.Desks.{Desks}
 use Rattle.desks.specs.declared.Which.{Which}
@@ -33,6 +32,6 @@ abbrev pub owned_up : ℕ → List ℕ → ℕ → ℕ → List ℕ
 owned_up owner owners n m = take n owners ++ (replicate (m - n) owner ++ drop m owners)
 
 -- the refusal where the desks are unfit, from what `parse::read` answers for an unfit pool, which is one
-abbrev pub unfit_answer : FormatInput → Parsed
-unfit_answer (Refused a) = a
-unfit_answer (Read r) = BadState
+abbrev pub unfit_answer : Result FormatRead ParseError → ParseError
+unfit_answer (Ok r) = BadState
+unfit_answer (Err e) = e

@@ -9,24 +9,24 @@ ghost use Rattle.desk_parse.specs.Own.{unfit_answer, owned_up, charged_up, desks
 ghost use Rattle.desk_parse.specs.Call.{ParsesFor};
 
 use desks::{Desk, Desks, Which};
-use parse::{FormatInput, Parsed, Terms};
+use parse::{ParseError, Parsed, Terms};
 use pool_rows::Counts;
 
 // The answer, with the counts and both desks after it.
 #[derive(Clone, Copy)]
 pub struct ParsedFor {
-    pub answer: Parsed,
+    pub answer: Result<Parsed, ParseError>,
     pub counts: Counts,
     pub desks: Desks,
 }
 
-// The answer where the desks are unfit: a format string, an edition or a table that is refused is told first.
-pub fn refuse(format: &[u8], table: &[u32], terms: Terms) -> Parsed
+// The refusal where the desks are unfit: a format string, an edition or a table that is refused is told first.
+pub fn refuse(format: &[u8], table: &[u32], terms: Terms) -> ParseError
     ensures { result ≡ unfit_answer (input_of format.now table.now terms.edition false) }
 {
     match parse::read(format, table, terms, false) {
-        FormatInput::Refused(answer) => answer,
-        FormatInput::Read(_) => Parsed::BadState,
+        Ok(_) => ParseError::BadState,
+        Err(error) => error,
     }
 }
 
@@ -98,7 +98,7 @@ pub fn parse(
     let counts = terms.counts;
     if !desks::is_fit(bytes, entries, owners, counts, desks) {
         return ParsedFor {
-            answer: refuse(format, table, terms),
+            answer: Err(refuse(format, table, terms)),
             counts,
             desks,
         };

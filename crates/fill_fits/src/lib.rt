@@ -8,73 +8,45 @@ ghost use Rattle.utf8.specs.Chars.{chars};
 ghost use Rattle.property.specs.Table.{properties_at, Rises};
 ghost use Rattle.fitness.specs.Fit.{FitTable};
 ghost use Rattle.wanted.specs.Wanted.{Bytes, Unfilled};
-ghost use Rattle.wanted.specs.Candidate.{wanted_by, is_given, is_shown, is_default, has_tail, is_taken, one_fits, chars_fit, fill_fits};
+ghost use Rattle.wanted.specs.Candidate.{wanted_by, is_default, has_tail, is_taken, one_fits, chars_fit, fill_fits};
 ghost use Rattle.fill_fits.specs.Apart.{last_of, joins_sign, Begins};
 
 use asked::Fields;
 use base::chars::{DOT, LESS, ZERO};
 use format_number::peek;
 use format_options::letters::{NO_CHAR, is_digit, is_sign, representation_of};
-use format_options::{Alignment, OptionalNumber, Shown};
+use format_options::Alignment;
 use uax29::{Left, is_joined};
 
 fn is_default(alignment: Alignment) -> bool
     ensures { result ≡ is_default alignment }
 {
-    match alignment {
-        Alignment::Default => true,
-        Alignment::Left => false,
-        Alignment::Center => false,
-        Alignment::Right => false,
-    }
-}
-
-fn is_given(number: OptionalNumber) -> bool
-    ensures { result ≡ is_given number }
-{
-    match number {
-        OptionalNumber::Number(_) => true,
-        OptionalNumber::Nothing => false,
-    }
-}
-
-fn is_shown(shown: Shown) -> bool
-    ensures { result ≡ is_shown shown }
-{
-    match shown {
-        Shown::As(_) => true,
-        Shown::Plain => false,
-    }
+    matches!(alignment, Alignment::Default)
 }
 
 // Whether anything stands behind the sign.
 fn has_tail(fields: Fields) -> bool
     ensures { result ≡ has_tail fields.width fields.precision fields.representation }
 {
-    let width = fields.width;
-    let precision = fields.precision;
-    let representation = fields.representation;
-    is_given(width) || (is_given(precision) || is_shown(representation))
+    fields.width.is_some() || (fields.precision.is_some() || fields.representation.is_some())
 }
 
 // Whether an arm before that of a cluster takes the character, whatever follows it.
 fn is_taken(c: u32) -> bool
     ensures { result ≡ is_taken c }
 {
-    is_sign(c) || (is_digit(c) || is_shown(representation_of(c)))
+    is_sign(c) || (is_digit(c) || representation_of(c).is_some())
 }
 
 // Whether a fill of one character fits.
 fn one_fits(c: u32, fields: Fields) -> bool
     ensures { result ≡ one_fits (wanted_by fields Unfilled) c }
 {
-    let alignment = fields.alignment;
-    let width = fields.width;
-    if !is_default(alignment) {
+    if !is_default(fields.alignment) {
         return true;
     }
     if c == ZERO {
-        return is_given(width);
+        return fields.width.is_some();
     }
     if has_tail(fields) {
         return false;
@@ -113,7 +85,6 @@ fn many_fits(fill: &[u8], table: &[u32], edition: u32, fields: Fields, c: u32, d
     requires { Begins (chars fill.now) c d × WellFormed fill.now × FitTable table.now }
     ensures { result ≡ chars_fit (properties_at table.now) edition (wanted_by fields Unfilled) (chars fill.now) }
 {
-    let alignment = fields.alignment;
     if is_taken(c) {
         return false;
     }
@@ -126,7 +97,7 @@ fn many_fits(fill: &[u8], table: &[u32], edition: u32, fields: Fields, c: u32, d
     if cluster::cluster_end(fill, table, edition, 0) < fill.len() {
         return false;
     }
-    if is_default(alignment) {
+    if is_default(fields.alignment) {
         return !has_tail(fields);
     }
     !joins_sign(fill, table, edition)

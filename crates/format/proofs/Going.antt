@@ -1,9 +1,9 @@
 -- What the loop of `read_format` keeps: the reading from here on is the whole reading.
---     Errs, body_errs             an arm that fails does so with an error, so that an outcome that is fine tells that it goes on
 --     Going                       it stands at the start of a character, or at the end, and nothing has failed
 --     begins, ends                it holds before the first turn; what it gives where no character is left
 --     Onward, Turned, turned      it holds after a turn that goes on, at a later place; a turn that fails ends as the whole reading does
 -- Assumes nothing.
+use Rattle.std.specs.Prelude.{Option, Ok, is_err}
 use Prim.Native.Nat.{ℕ, zero, suc, ◌+◌, ◌≤◌, ◌<◌}
 use native.Mathlib.Omega.{arith}
 use native.Mathlib.Nat.{add-zero}
@@ -18,49 +18,17 @@ use Rattle.utf8.specs.Read.{read_at}
 use Rattle.utf8.specs.Chars.{chars, At}
 use Rattle.utf8.specs.CharsLaws.{Stops, at_char, After, after_chars}
 use Rattle.utf8.specs.declared.Read.TheVariants.{Char}
-use Rattle.format_options.specs.Options.{is_fine}
-use Rattle.format_options.specs.declared.Fill.{Fill}
 use Rattle.format_options.specs.declared.Options.{Options}
-use Rattle.format_options.specs.declared.Outcome.{Outcome}
-use Rattle.format_options.specs.declared.Outcome.TheVariants.{Fine}
-use Rattle.format_number.specs.Number.{peeked, consume_u32}
 use Rattle.format_number.specs.PeekLaws.{none_left}
-use Rattle.format_number.specs.NumberLaws as number
-use Rattle.format_number.specs.declared.Consumed.{Consumed}
-use Rattle.format_number.specs.declared.Consumed.TheVariants.{Value, Wrong}
-use Rattle.format_arms.specs.Arms.{arm_of}
-use Rattle.format_arms.specs.declared.Arm.{Arm}
-use Rattle.format_arms.specs.declared.Arm.TheVariants as arm
+use Rattle.format_options.specs.declared.Part.{Part}
+use Rattle.format_options.specs.declared.FormatError.{FormatError}
+use Rattle.format_arms.specs.declared.Position.{Position}
 use Rattle.format_state.specs.State.{keep, start_parsing, goes_to, fails_with}
 use Rattle.format_state.specs.declared.Strings.{Strings}
 use Rattle.format_state.specs.declared.Parsing.{Parsing}
 use Rattle.format.specs.Parse as parse
-use Rattle.format.specs.Parse.{add_fill, on_consumed, body_of, OnePass, parse_from, len_utf8}
+use Rattle.format.specs.Parse.{add_fill, OnePass, parse_from, len_utf8}
 use Rattle.format.specs.Read.{reading_of, read_format, ended, turn_of, body_at, turn_at, Here}
-
--- ---- an arm that fails
-
--- it does so with an error
-abbrev Errs : parse.Body → Type 0
-Errs (parse.Goes o q k fill) = Unit {0}
-Errs (parse.Fails e) = is_fine e ≡ false
-
--- of an arm with a number, f is what it does with it
-module _ (f : ℕ → ℕ → parse.Body) (goes : (n k : ℕ) → Errs (f n k)) where
-  consumed_errs : (r : Consumed) → number.Errs r → Errs (on_consumed r f)
-  consumed_errs (Value n k) e = goes n k
-  consumed_errs (Wrong o) e = e
-
-body_errs : (look : ℕ → ℕ) (edition : ℕ) (at : ℕ) (o : Options) (c : ℕ) (cs : List ℕ) (a : Arm) → Errs (body_of look edition at o c cs a)
-body_errs look edition at o c cs arm.FillSign = tt
-body_errs look edition at o c cs arm.Align = tt
-body_errs look edition at o c cs arm.ZeroFill = tt
-body_errs look edition at o c cs arm.MinWidth = consumed_errs _ (λ n k. tt) (consume_u32 c cs) (number.number_errs c cs)
-body_errs look edition at o c cs arm.Precision =
-    consumed_errs _ (λ n k. tt) (consume_u32 (peeked cs) (drop 1 cs)) (number.number_errs (peeked cs) (drop 1 cs))
-body_errs look edition at o c cs (arm.Represent r) = tt
-body_errs look edition at o c cs arm.FillCluster = tt
-body_errs look edition at o c cs arm.Unexpected = refl
 
 -- ---- the loop
 
@@ -85,22 +53,22 @@ module _ (look : ℕ → ℕ) (edition : ℕ) where
 
   module _ (p : Parsing) (c : ℕ) (cs : List ℕ) where
     -- a turn of the definition that goes on, and one that fails
-    turns : (o : Options) (q k : ℕ) (fill : Fill) → body_at look edition p c cs ≡ parse.Goes o q k fill
+    turns : (o : Options) (q : Position) (k : ℕ) (fill : Option Part) → body_at look edition p c cs ≡ parse.Goes o q k fill
         → from 0 p (c ∷ cs) ≡ from k (goes_to o q (p.at + len_utf8 c) (add_fill keep p.added fill)) cs
     unfolding parse_from
     turns o q k fill e = rw (e, parse_from)
 
-    breaks : (o : Outcome) → body_at look edition p c cs ≡ parse.Fails o → reading_of (from 0 p (c ∷ cs)) ≡ ended (fails_with p o)
+    breaks : (o : FormatError) → body_at look edition p c cs ≡ parse.Fails o → reading_of (from 0 p (c ∷ cs)) ≡ ended (fails_with p o)
     unfolding parse_from
     breaks o e = rw (e, parse_from)
 
-  nothing : (p : Parsing) → p.outcome ≡ Fine → ended p ≡ reading_of (from 0 p [])
+  nothing : (p : Parsing) → p.outcome ≡ Ok tt → ended p ≡ reading_of (from 0 p [])
   unfolding parse_from
   nothing p e = rw e
 
   module _ (s : List ℕ) where
     pub record Going (p : Parsing) : Type 0 where
-      pub fine : p.outcome ≡ Fine
+      pub fine : p.outcome ≡ Ok tt
       pub small : length s ≤ format_most
       pub within : p.at ≤ length s
       pub well : WellFormed (drop p.at s)
@@ -133,7 +101,7 @@ module _ (look : ℕ → ℕ) (edition : ℕ) where
           pub going : Going next
           pub later : p.at < next.at
 
-        onward : (o : Options) (q k : ℕ) (fill : Fill) → body_at look edition p c cs ≡ parse.Goes o q k fill
+        onward : (o : Options) (q : Position) (k : ℕ) (fill : Option Part) → body_at look edition p c cs ≡ parse.Goes o q k fill
             → Onward (goes_to o q (p.at + length (encode_all (take (suc k) (c ∷ cs)))) (add_fill keep p.added fill))
         unfolding encode_all
         onward o q k fill e =
@@ -156,15 +124,15 @@ module _ (look : ℕ → ℕ) (edition : ℕ) where
               later = omega (arith, encode_some c, length-append (encode c) (encode_all (take k cs)));
             }
 
-        -- after a turn, by whether it is fine
+        -- after a turn, by whether it has failed
         abbrev pub Turned : Bool → Parsing → Type 0
-        Turned true next = Onward next
-        Turned false next = ended next ≡ read_format look edition (chars s)
+        Turned false next = Onward next
+        Turned true next = ended next ≡ read_format look edition (chars s)
 
-        by_body : (b : parse.Body) → body_at look edition p c cs ≡ b → Errs b → Turned (is_fine (turn_of p (c ∷ cs) b).outcome) (turn_of p (c ∷ cs) b)
-        by_body (parse.Goes o q k fill) e w = onward o q k fill e
-        by_body (parse.Fails x) e w = rw w (sym (breaks p c cs x e) ∙ whole)
+        by_body : (b : parse.Body) → body_at look edition p c cs ≡ b → Turned (is_err (turn_of p (c ∷ cs) b).outcome) (turn_of p (c ∷ cs) b)
+        by_body (parse.Goes o q k fill) e = onward o q k fill e
+        by_body (parse.Fails x) e = sym (breaks p c cs x e) ∙ whole
 
-        pub turned : (next : Parsing) (t : Bool) → next ≡ turn_at look edition p c cs → is_fine next.outcome ≡ t → Turned t next
+        pub turned : (next : Parsing) (t : Bool) → next ≡ turn_at look edition p c cs → is_err next.outcome ≡ t → Turned t next
         turned next t e f =
-            rw (← f, e) (by_body _ refl (body_errs look edition p.at p.result c cs (arm_of c (peeked cs) p.position)))
+            rw (← f, e) (by_body _ refl)

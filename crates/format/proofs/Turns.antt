@@ -3,6 +3,7 @@
 --     filled, goes, fails         by what the arm's body is
 --     turn_fill_sign .. turn_unexpected    by the arm
 -- Assumes nothing.
+use Rattle.std.specs.Prelude.{Option, Some, None, Result, Ok, Err}
 use Prim.Native.Nat.{ℕ, suc, ◌+◌, ◌-◌, ◌≤◌, ◌<◌}
 use native.Mathlib.Omega.{arith}
 use mathlib.Core.Path.{◌≡◌, refl, sym, ap, subst, ◌∙◌}
@@ -19,20 +20,18 @@ use Rattle.format_options.specs.Options.{with_alignment, with_width, with_precis
 use Rattle.format_options.specs.Letters.{is_digit, char_to_alignment}
 use Rattle.format_options.specs.LettersLaws.{sign_low, digit_is}
 use Rattle.format_options.specs.declared.Part.{Part}
-use Rattle.format_options.specs.declared.Fill.{Fill}
-use Rattle.format_options.specs.declared.Fill.TheVariants.{Is, NoFill}
 use Rattle.format_options.specs.declared.Representation.{Representation}
 use Rattle.format_options.specs.declared.Options.{Options}
-use Rattle.format_options.specs.declared.Outcome.{Outcome}
-use Rattle.format_options.specs.declared.Outcome.TheVariants.{UnexpectedToken}
+use Rattle.format_options.specs.declared.FormatError.TheVariants.{UnexpectedToken}
 use Rattle.format_number.specs.Number.{peeked, consume_u32}
 use Rattle.format_number.specs.PeekLaws.{ascii_here, peek_within}
 use Rattle.format_number.specs.NumberLaws.{began}
-use Rattle.format_number.specs.declared.Consumed.{Consumed}
-use Rattle.format_number.specs.declared.Consumed.TheVariants.{Value, Wrong}
+use Rattle.format_options.specs.declared.FormatError.{FormatError}
+use Rattle.format_number.specs.declared.Number.{Number}
 use Rattle.format_arms.specs.Arms as arms
 use Rattle.format_arms.specs.Arms.{arm_of}
 use Rattle.format_arms.specs.ArmsLaws.{ArmIs, arm_is}
+use Rattle.format_arms.specs.declared.Position.{Position}
 use Rattle.format_arms.specs.declared.Arm.{Arm}
 use Rattle.format_arms.specs.declared.Arm.TheVariants as arm
 use Rattle.format_state.specs.State.{keep, goes_to, goes_filled, number_to, fails_with}
@@ -71,18 +70,18 @@ module _ (look : ℕ → ℕ) (edition : ℕ) (s : List ℕ) (p : Parsing) (c n 
   unfolding encode_all
   bytes k = omega (arith, here.width, length-append (encode c) (encode_all (take k cs)))
 
-  goes : (o : Options) (q k : ℕ) (fill : Fill) (e : ℕ) → body ≡ parse.Goes o q k fill → e ≡ at + n + length (encode_all (take k cs))
+  goes : (o : Options) (q : Position) (k : ℕ) (fill : Option Part) (e : ℕ) → body ≡ parse.Goes o q k fill → e ≡ at + n + length (encode_all (take k cs))
       → goes_to o q e (add_fill keep p.added fill) ≡ turn
   goes o q k fill e b w =
       ap {B = Parsing} (λ (i : ℕ). goes_to o q i (add_fill keep p.added fill)) (w ∙ sym (bytes k)) ∙ sym (ap (turn_of p (c ∷ cs)) b)
 
-  filled : (o : Options) (q k len end e : ℕ) → body ≡ parse.goes_filled o q k (record { place = at; len = len }) → len ≡ end - at
+  filled : (o : Options) (q : Position) (k len end e : ℕ) → body ≡ parse.goes_filled o q k (record { place = at; len = len }) → len ≡ end - at
       → e ≡ at + n + length (encode_all (take k cs)) → goes_filled p o q end e ≡ turn
   filled o q k len end e b l w =
       let fill : Part = record { place = at; len = end - at } in
-      goes (with_fill fill o) q k (Is fill) e (b ∙ ap {B = parse.Body} (λ (m : ℕ). parse.goes_filled o q k (record { place = at; len = m })) l) w
+      goes (with_fill fill o) q k (Some fill) e (b ∙ ap {B = parse.Body} (λ (m : ℕ). parse.goes_filled o q k (record { place = at; len = m })) l) w
 
-  fails : (e : Outcome) → body ≡ parse.Fails e → fails_with p e ≡ turn
+  fails : (e : FormatError) → body ≡ parse.Fails e → fails_with p e ≡ turn
   fails e b = sym (ap (turn_of p (c ∷ cs)) b)
 
   module _ (a : Arm) (e : arm_of c (peeked cs) p.position ≡ a) where
@@ -106,7 +105,7 @@ module _ (look : ℕ → ℕ) (edition : ℕ) (s : List ℕ) (p : Parsing) (c n 
   pub turn_align : arm_of c (peeked cs) p.position ≡ arm.Align
       → goes_to (with_alignment (char_to_alignment c) p.result) arms.min_width (at + n) p.added ≡ turn
   unfolding encode_all
-  turn_align e = goes (with_alignment (char_to_alignment c) p.result) _ 0 NoFill _ (by_arm arm.Align e) (omega arith)
+  turn_align e = goes (with_alignment (char_to_alignment c) p.result) _ 0 None _ (by_arm arm.Align e) (omega arith)
 
   pub turn_zero_fill : arm_of c (peeked cs) p.position ≡ arm.ZeroFill → goes_filled p p.result arms.min_width (at + n) (at + n) ≡ turn
   unfolding encode_all
@@ -115,7 +114,7 @@ module _ (look : ℕ → ℕ) (edition : ℕ) (s : List ℕ) (p : Parsing) (c n 
   pub turn_represent : (r : Representation) → arm_of c (peeked cs) p.position ≡ arm.Represent r
       → goes_to (with_representation r p.result) arms.end (at + n) p.added ≡ turn
   unfolding encode_all
-  turn_represent r e = goes (with_representation r p.result) _ 0 NoFill _ (by_arm (arm.Represent r) e) (omega arith)
+  turn_represent r e = goes (with_representation r p.result) _ 0 None _ (by_arm (arm.Represent r) e) (omega arith)
 
   pub turn_unexpected : arm_of c (peeked cs) p.position ≡ arm.Unexpected → fails_with p (UnexpectedToken c) ≡ turn
   turn_unexpected e = fails _ (by_arm arm.Unexpected e)
@@ -124,18 +123,18 @@ module _ (look : ℕ → ℕ) (edition : ℕ) (s : List ℕ) (p : Parsing) (c n 
   turn_width e = go (consume_u32 c cs) refl
     where
       f : ℕ → ℕ → parse.Body
-      f m k = parse.Goes (with_width m p.result) arms.precision k NoFill
+      f m k = parse.Goes (with_width m p.result) arms.precision k None
 
-      is : (r : Consumed) → consume_u32 c cs ≡ r → body ≡ on_consumed r f
-      is r x = by_arm arm.MinWidth e ∙ ap (λ (y : Consumed). on_consumed y f) x
+      is : (r : Result Number FormatError) → consume_u32 c cs ≡ r → body ≡ on_consumed r f
+      is r x = by_arm arm.MinWidth e ∙ ap (λ (y : Result Number FormatError). on_consumed y f) x
 
-      go : (r : Consumed) → consume_u32 c cs ≡ r → number_to p false (at + n) r ≡ turn
-      go (Value m k) x =
-          let t = (began c cs m k x).rest in
-          let w : k ≡ t.more = omega (arith, t.is) in
-          let v : at + n + k ≡ at + n + length (encode_all (take k cs)) = rw w (omega (arith, t.bytes)) in
-          goes (with_width m p.result) _ k NoFill _ (is (Value m k) x) v
-      go (Wrong o) x = fails o (is (Wrong o) x)
+      go : (r : Result Number FormatError) → consume_u32 c cs ≡ r → number_to p false (at + n) r ≡ turn
+      go (Ok v) x =
+          let t = (began c cs v.n v.digits x).rest in
+          let w : v.digits ≡ t.more = omega (arith, t.is) in
+          let l : at + n + v.digits ≡ at + n + length (encode_all (take v.digits cs)) = rw w (omega (arith, t.bytes)) in
+          goes (with_width v.n p.result) _ v.digits None _ (is (Ok v) x) l
+      go (Err o) x = fails o (is (Err o) x)
 
   -- what follows the first digit of a precision
   same_number : consume_u32 (peeked cs) (drop 1 cs) ≡ consume_u32 (peeked cs) (chars (drop (at + n + 1) s))
@@ -164,22 +163,23 @@ module _ (look : ℕ → ℕ) (edition : ℕ) (s : List ℕ) (p : Parsing) (c n 
       rest = chars (drop (at + n + 1) s)
 
       f : ℕ → ℕ → parse.Body
-      f m k = parse.Goes (with_precision m p.result) arms.type (suc k) NoFill
+      f m k = parse.Goes (with_precision m p.result) arms.type (suc k) None
 
-      is : (r : Consumed) → consume_u32 d rest ≡ r → body ≡ on_consumed r f
-      is r x = by_arm arm.Precision e ∙ ap (λ (y : Consumed). on_consumed y f) (same_number ∙ x)
+      is : (r : Result Number FormatError) → consume_u32 d rest ≡ r → body ≡ on_consumed r f
+      is r x = by_arm arm.Precision e ∙ ap (λ (y : Result Number FormatError). on_consumed y f) (same_number ∙ x)
 
-      go : (r : Consumed) → consume_u32 d rest ≡ r → number_to p true (at + n + 1) r ≡ turn
-      go (Value m k) x =
-          let b = began d rest m k x in
+      go : (r : Result Number FormatError) → consume_u32 d rest ≡ r → number_to p true (at + n + 1) r ≡ turn
+      go (Ok v) x =
+          let k = v.digits in
+          let b = began d rest v.n k x in
           let low : d < 128 = omega (arith, digit_is d b.digit) in
           let a = ascii_here s (at + n) d refl low in
           let w : k ≡ b.rest.more = omega (arith, b.rest.is) in
           let y : length (encode_all (take k rest)) ≡ k = rw w b.rest.bytes in
           let z : length (encode_all (take (suc k) cs)) ≡ suc k =
           ap (λ (l : List ℕ). length (encode_all (take (suc k) l))) a.rest ∙ one_more_lem k d rest low y in
-          goes (with_precision m p.result) _ (suc k) NoFill _ (is (Value m k) x) (omega (arith, z))
-      go (Wrong o) x = fails o (is (Wrong o) x)
+          goes (with_precision v.n p.result) _ (suc k) None _ (is (Ok v) x) (omega (arith, z))
+      go (Err o) x = fails o (is (Err o) x)
 
   pub turn_cluster : arm_of c (peeked cs) p.position ≡ arm.FillCluster
       → cluster_to p (first_end look edition at (chars (drop at s))) ≡ turn

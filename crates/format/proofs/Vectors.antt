@@ -1,5 +1,6 @@
 -- Document 01's format strings, read with the small table and computed in one go: the options, how each reading ends, and the strings to add.
 -- Assumes nothing.
+use Rattle.std.specs.Prelude.{Some, None, Result, Ok, Err}
 use Prim.Native.Nat.{ℕ}
 use mathlib.Core.Path.{◌≡◌, refl}
 use mathlib.Core.List.{List, [], ◌∷◌}
@@ -14,11 +15,10 @@ use Rattle.format_options.specs.Letters.{is_sign, is_digit, char_to_alignment, r
 use Rattle.format_options.specs.declared.Alignment.TheVariants.{Left, Center}
 use Rattle.format_options.specs.declared.Representation.TheVariants.{ExpLower}
 use Rattle.format_options.specs.declared.Part.{Part}
-use Rattle.format_options.specs.declared.Fill.TheVariants.{Is, NoFill}
 use Rattle.format_options.specs.declared.Options.{Options}
-use Rattle.format_options.specs.declared.Outcome.{Outcome}
-use Rattle.format_options.specs.declared.Outcome.TheVariants.{Fine, ExpectedNumber, TooLarge, UnexpectedToken}
+use Rattle.format_options.specs.declared.FormatError.TheVariants.{ExpectedNumber, TooLarge, UnexpectedToken}
 use Rattle.format_number.specs.Number.{peeked, digits_from, consume_u32}
+use Rattle.format_options.specs.declared.FormatError.{FormatError}
 use Rattle.format_arms.specs.Arms.{letter_of, last_arm, arm_of}
 use Rattle.format_state.specs.State.{nothing_added}
 use Rattle.format_state.specs.declared.Strings.{Strings}
@@ -33,12 +33,15 @@ abbrev part : ℕ → ℕ → Part
 part place len = record { place = place; len = len }
 
 abbrev one : Part → Strings
-one first = record { first = Is first; second = NoFill }
+one first = record { first = Some first; second = None }
 
 abbrev two : Part → Part → Strings
-two first second = record { first = Is first; second = Is second }
+two first second = record { first = Some first; second = Some second }
 
-abbrev is : Outcome → Options → Strings → FormatRead
+abbrev fine : Result Unit FormatError
+fine = Ok tt
+
+abbrev is : Result Unit FormatError → Options → Strings → FormatRead
 is outcome options added = record { options = options; outcome = outcome; added = added }
 
 vectors :
@@ -62,16 +65,16 @@ vectors :
     -- a, U+0301, <
     ∷ read (97 ∷ 769 ∷ 60 ∷ [])
     ∷ []
-    ≡ is Fine no_options nothing_added
-    ∷ is Fine (with_fill (part 0 1) no_options) (one (part 0 1))
-    ∷ is (UnexpectedToken 46) (with_width 5 no_options) nothing_added
-    ∷ is Fine (with_fill (part 1 1) (with_width 0 no_options)) (two (part 0 1) (part 1 1))
-    ∷ is (UnexpectedToken 62) (with_fill (part 0 1) (with_alignment Center no_options)) (one (part 0 1))
-    ∷ is (ExpectedNumber 120) no_options nothing_added
-    ∷ is Fine (with_width 4294967295 no_options) nothing_added
-    ∷ is (TooLarge 4294967296) no_options nothing_added
-    ∷ is (UnexpectedToken 769) (with_representation ExpLower no_options) nothing_added
-    ∷ is Fine (with_fill (part 0 3) (with_alignment Left no_options)) (one (part 0 3))
+    ≡ is fine no_options nothing_added
+    ∷ is fine (with_fill (part 0 1) no_options) (one (part 0 1))
+    ∷ is (Err (UnexpectedToken 46)) (with_width 5 no_options) nothing_added
+    ∷ is fine (with_fill (part 1 1) (with_width 0 no_options)) (two (part 0 1) (part 1 1))
+    ∷ is (Err (UnexpectedToken 62)) (with_fill (part 0 1) (with_alignment Center no_options)) (one (part 0 1))
+    ∷ is (Err (ExpectedNumber 120)) no_options nothing_added
+    ∷ is fine (with_width 4294967295 no_options) nothing_added
+    ∷ is (Err (TooLarge 4294967296)) no_options nothing_added
+    ∷ is (Err (UnexpectedToken 769)) (with_representation ExpLower no_options) nothing_added
+    ∷ is fine (with_fill (part 0 3) (with_alignment Left no_options)) (one (part 0 3))
     ∷ []
 unfolding inside encode encode_all last_from small_table is_control gb3 gb6 gb7 gb8 gb9 pair_rule ends_pict ends_pict_zwj ends_odd ends_consonant ends_linked gb9c gb11 gb12 go_on peeked is_sign is_digit char_to_alignment digits_from consume_u32 representation_of letter_of last_arm arm_of parse_from read_format
 vectors = refl

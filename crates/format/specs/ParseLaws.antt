@@ -4,9 +4,9 @@
 --     Keeps, parse_keeps       what is kept by a first fill, by a zero and by every other arm holds at the end: the way to show something of
 --                              all that `parse` adds
 -- Assumes nothing.
-use Prim.Native.Nat.{ℕ, zero, suc, ◌+◌, ◌≤◌, ◌<◌}
-use Rattle.std.proofs.Common.{arith, ◌∙◌, take-append-drop, drop-drop}
-use Rattle.std.specs.Prelude.{◌≡◌}
+use Prim.Native.Nat.{ℕ, zero, suc, ◌+◌, ◌≤◌}
+use Rattle.std.proofs.Common.{arith, ◌∙◌, take-append-drop, drop-drop, Option, Some, None, Result, Ok, Err}
+use Rattle.std.specs.Prelude.{◌≡◌, ◌≢◌}
 use Rattle.std.proofs.Math.Path.{refl, sym, ap, subst}
 use mathlib.Core.List.{List, [], ◌∷◌, ◌++◌, append-nil}
 use Rattle.std.proofs.Math.ListN.{length, take, drop, length-append, length-drop}
@@ -19,14 +19,13 @@ use Rattle.cluster.specs.First.{first_size, first_end}
 use Rattle.format_options.specs.Options.{no_options, with_precision}
 use Rattle.format_options.specs.Letters.{zero_digit}
 use Rattle.format_options.specs.declared.Part.{Part}
-use Rattle.format_options.specs.declared.Fill.{Fill}
-use Rattle.format_options.specs.declared.Fill.TheVariants.{Is, NoFill}
 use Rattle.format_options.specs.declared.Options.{Options}
 use Rattle.format_number.specs.Number.{peeked, consume_u32}
-use Rattle.format_number.specs.declared.Consumed.{Consumed}
-use Rattle.format_number.specs.declared.Consumed.TheVariants.{Value, Wrong}
+use Rattle.format_options.specs.declared.FormatError.{FormatError}
+use Rattle.format_number.specs.declared.Number.{Number}
 use Rattle.format_arms.specs.Arms.{start, alignment, min_width, precision, type, end, arm_of}
 use Rattle.format_arms.specs.ArmsLaws.{ArmIs, arm_is}
+use Rattle.format_arms.specs.declared.Position.{Position}
 use Rattle.format_arms.specs.declared.Arm.{Arm}
 use Rattle.format_arms.specs.declared.Arm.TheVariants as arm
 use Rattle.format.specs.Parse.{len_utf8, Body, Goes, Fails, on_consumed, body_of, OnePass, add_fill, parse_from, parse_with, append, parse, string_of, PartIn, add_all}
@@ -44,11 +43,11 @@ module _ {P : Type 0} (add : P → Part → P) (look : ℕ → ℕ) (edition : �
   abbrev pub poured : OnePass (List Part) → OnePass P
   poured r = record { options = r.options; outcome = r.outcome; pool = add_all add pool r.pool }
 
-  add_fill_lem : (parts : List Part) (fill : Fill) → add_fill add (add_all add pool parts) fill ≡ add_all add pool (add_fill append parts fill)
-  add_fill_lem parts (Is part) = sym (add_last add pool parts part)
-  add_fill_lem parts NoFill = refl
+  add_fill_lem : (parts : List Part) (fill : Option Part) → add_fill add (add_all add pool parts) fill ≡ add_all add pool (add_fill append parts fill)
+  add_fill_lem parts (Some part) = sym (add_last add pool parts part)
+  add_fill_lem parts None = refl
 
-  adds : (k at position : ℕ) (o : Options) (parts : List Part) (cs : List ℕ)
+  adds : (k at : ℕ) (position : Position) (o : Options) (parts : List Part) (cs : List ℕ)
       → parse_from add look edition k at position o (add_all add pool parts) cs ≡ poured (parse_from append look edition k at position o parts cs)
   unfolding parse_from
   adds k at position o parts [] = refl
@@ -57,7 +56,7 @@ module _ {P : Type 0} (add : P → Part → P) (look : ℕ → ℕ) (edition : �
       go (body_of look edition at o c cs (arm_of c (peeked cs) position)) refl (λ k q r more. adds k (at + len_utf8 c) q r more cs)
     where
       go : (b : Body) → body_of look edition at o c cs (arm_of c (peeked cs) position) ≡ b
-          → ((k q : ℕ) (r : Options) (more : List Part) → parse_from add look edition k (at + len_utf8 c) q r (add_all add pool more) cs
+          → ((k : ℕ) (q : Position) (r : Options) (more : List Part) → parse_from add look edition k (at + len_utf8 c) q r (add_all add pool more) cs
           ≡ poured (parse_from append look edition k (at + len_utf8 c) q r more cs))
           → parse_from add look edition 0 at position o (add_all add pool parts) (c ∷ cs)
           ≡ poured (parse_from append look edition 0 at position o parts (c ∷ cs))
@@ -136,16 +135,16 @@ module _ (s : List ℕ) where
             ap (λ (n : ℕ). take n (drop at s)) (sym (one_len c cs)) ∙ first_part at (c ∷ cs) 1 r ∙ ap (λ (d : ℕ). encode_all (d ∷ [])) e;
       }
 
-  module _ {P : Type 0} (add : P → Part → P) (I : ℕ → Fill → P → Type 0) where
+  module _ {P : Type 0} (add : P → Part → P) (I : Position → Option Part → P → Type 0) where
     -- I, of the position, the options' fill and the pool, is kept
     pub record Keeps : Type 0 where
-      pub by_fill : (q : ℕ) (fill : Fill) (pool : P) (part : Part) → I start fill pool → PartIn s part → 0 < q → I q (Is part) (add pool part)
-      pub by_zero : (p q : ℕ) (fill : Fill) (pool : P) (part : Part) → I p fill pool → ZeroIn part → 0 < q → I q (Is part) (add pool part)
-      pub by_other : (p q : ℕ) (fill : Fill) (pool : P) → I p fill pool → 0 < q → I q fill pool
+      pub by_fill : (q : Position) (fill : Option Part) (pool : P) (part : Part) → I start fill pool → PartIn s part → q ≢ start → I q (Some part) (add pool part)
+      pub by_zero : (p q : Position) (fill : Option Part) (pool : P) (part : Part) → I p fill pool → ZeroIn part → q ≢ start → I q (Some part) (add pool part)
+      pub by_other : (p q : Position) (fill : Option Part) (pool : P) → I p fill pool → q ≢ start → I q fill pool
 
     -- it holds at the end, whatever the position there
     abbrev pub Kept : OnePass P → Type 0
-    Kept r = (q : ℕ) × I q r.options.fill r.pool
+    Kept r = (q : Position) × I q r.options.fill r.pool
 
     module _ (keeps : Keeps) (look : ℕ → ℕ) (edition : ℕ) where
       -- it holds after a body
@@ -153,31 +152,31 @@ module _ (s : List ℕ) where
       After pool (Goes o q k fill) = I q o.fill (add_fill add pool fill)
       After pool (Fails e) = Unit {0}
 
-      after : (at p : ℕ) (o : Options) (pool : P) (c : ℕ) (cs : List ℕ) → Rest at (c ∷ cs) → I p o.fill pool
+      after : (at : ℕ) (p : Position) (o : Options) (pool : P) (c : ℕ) (cs : List ℕ) → Rest at (c ∷ cs) → I p o.fill pool
           → (a : Arm) → ArmIs c (peeked cs) p a → After pool (body_of look edition at o c cs a)
       after at p o pool c cs r i arm.FillSign t =
-          keeps.by_fill min_width o.fill pool _ (subst (λ (q : ℕ). I q o.fill pool) t.1 i) (part_one at c cs r) (omega arith)
-      after at p o pool c cs r i arm.Align t = keeps.by_other p min_width o.fill pool i (omega arith)
-      after at p o pool c cs r i arm.ZeroFill t = keeps.by_zero p min_width o.fill pool _ i (zero_one at c cs t r) (omega arith)
+          keeps.by_fill min_width o.fill pool _ (subst (λ (q : Position). I q o.fill pool) t.1 i) (part_one at c cs r) (λ e. cc)
+      after at p o pool c cs r i arm.Align t = keeps.by_other p min_width o.fill pool i (λ e. cc)
+      after at p o pool c cs r i arm.ZeroFill t = keeps.by_zero p min_width o.fill pool _ i (zero_one at c cs t r) (λ e. cc)
       after at p o pool c cs r i arm.MinWidth t = go _ (λ n. refl) (consume_u32 c cs)
         where
-          go : (f : ℕ → Options) → ((n : ℕ) → o.fill ≡ (f n).fill) → (x : Consumed) → After pool (on_consumed x (λ n k. Goes (f n) precision k NoFill))
-          go f same (Value n k) =
-              subst (λ (fill : Fill). I precision fill pool) (same n) (keeps.by_other p precision o.fill pool i (omega arith))
-          go f same (Wrong e) = tt
+          go : (f : ℕ → Options) → ((n : ℕ) → o.fill ≡ (f n).fill) → (x : Result Number FormatError) → After pool (on_consumed x (λ n k. Goes (f n) precision k None))
+          go f same (Ok v) =
+              subst (λ (fill : Option Part). I precision fill pool) (same v.n) (keeps.by_other p precision o.fill pool i (λ e. cc))
+          go f same (Err e) = tt
       after at p o pool c cs r i arm.Precision t = go (consume_u32 (peeked cs) (drop 1 cs))
         where
-          go : (x : Consumed) → After pool (on_consumed x (λ n k. Goes (with_precision n o) type (suc k) NoFill))
-          go (Value n k) = keeps.by_other p type o.fill pool i (omega arith)
-          go (Wrong e) = tt
-      after at p o pool c cs r i (arm.Represent x) t = keeps.by_other p end o.fill pool i (omega arith)
+          go : (x : Result Number FormatError) → After pool (on_consumed x (λ n k. Goes (with_precision n o) type (suc k) None))
+          go (Ok v) = keeps.by_other p type o.fill pool i (λ e. cc)
+          go (Err e) = tt
+      after at p o pool c cs r i (arm.Represent x) t = keeps.by_other p end o.fill pool i (λ e. cc)
       after at p o pool c cs r i arm.FillCluster t =
           let z : length (encode_all (take (first_size look edition (c ∷ cs)) (c ∷ cs))) ≡ first_end look edition 0 (c ∷ cs) = omega arith in
           let part = subst (λ (n : ℕ). PartIn s (record { place = at; len = n })) z (part_first at (c ∷ cs) (first_size look edition (c ∷ cs)) r) in
-          keeps.by_fill alignment o.fill pool _ (subst (λ (q : ℕ). I q o.fill pool) t i) part (omega arith)
+          keeps.by_fill alignment o.fill pool _ (subst (λ (q : Position). I q o.fill pool) t i) part (λ e. cc)
       after at p o pool c cs r i arm.Unexpected t = tt
 
-      kept : (k at p : ℕ) (o : Options) (pool : P) (cs : List ℕ) → Rest at cs → I p o.fill pool → Kept (parse_from add look edition k at p o pool cs)
+      kept : (k at : ℕ) (p : Position) (o : Options) (pool : P) (cs : List ℕ) → Rest at cs → I p o.fill pool → Kept (parse_from add look edition k at p o pool cs)
       unfolding parse_from
       kept k at p o pool [] r i = (p, i)
       kept (suc k) at p o pool (c ∷ cs) r i = kept k (at + len_utf8 c) p o pool cs (rest_on at c cs r) i
@@ -186,14 +185,14 @@ module _ (s : List ℕ) where
           (λ k q o' pool' j. kept k (at + len_utf8 c) q o' pool' cs (rest_on at c cs r) j)
         where
           go : (b : Body) → body_of look edition at o c cs (arm_of c (peeked cs) p) ≡ b
-              → ((k q : ℕ) (o' : Options) (pool' : P) → I q o'.fill pool' → Kept (parse_from add look edition k (at + len_utf8 c) q o' pool' cs))
+              → ((k : ℕ) (q : Position) (o' : Options) (pool' : P) → I q o'.fill pool' → Kept (parse_from add look edition k (at + len_utf8 c) q o' pool' cs))
               → Kept (parse_from add look edition 0 at p o pool (c ∷ cs))
           go (Goes o' q k fill) e ih =
               let j = subst (After pool) e (after at p o pool c cs r i (arm_of c (peeked cs) p) (arm_is c (peeked cs) p)) in
               rw (e, parse_from) (ih k q o' (add_fill add pool fill) j)
           go (Fails x) e ih = rw (e, parse_from) (p, i)
 
-      pub parse_keeps : (pool : P) → WellFormed s → I start NoFill pool → Kept (parse_with add look edition pool (chars s))
+      pub parse_keeps : (pool : P) → WellFormed s → I start None pool → Kept (parse_with add look edition pool (chars s))
       parse_keeps pool w i =
           let v = chars_well s w in
           kept 0 0 start no_options pool (chars s) (record { within = omega arith; bytes = v.0; scalars = v.1 }) i

@@ -2,14 +2,12 @@
 -- to do with a pool is `parse_two_stages` of `ReadLaws`.
 -- And what one turn of the code's loop does, at a byte place of the format string.
 -- Assumes nothing.
-use Rattle.std.specs.Prelude.{ℕ, suc, ◌+◌, ◌≤◌, ◌≡◌, List, ◌∷◌, length, take, drop}
+use Rattle.std.specs.Prelude.{ℕ, suc, ◌+◌, ◌≤◌, ◌≡◌, List, ◌∷◌, length, take, drop, Option, Some, None}
 use Rattle.base.specs.Refusal.{format_most}
 use Rattle.utf8.specs.Encode.{encode_all, WellFormed}
 use Rattle.utf8.specs.Read.{read_at}
 use Rattle.utf8.specs.declared.Read.TheVariants.{Char}
 use Rattle.format_options.specs.declared.Part.{Part}
-use Rattle.format_options.specs.declared.Fill.{Fill}
-use Rattle.format_options.specs.declared.Fill.TheVariants.{Is, NoFill}
 use Rattle.format_number.specs.Number.{peeked}
 use Rattle.format_arms.specs.Arms.{alignment, arm_of}
 use Rattle.format_state.specs.State.{nothing_added, keep, goes_to, goes_filled, fails_with}
@@ -31,11 +29,11 @@ abbrev pub add_both : {P : Type 0} → (P → Part → P) → P → Strings → 
 add_both add pool a = parse.add_fill add (parse.add_fill add pool a.first) a.second
 
 -- the last of them
-abbrev pub last_by : Fill → Fill → Fill
-last_by (Is part) first = Is part
-last_by NoFill first = first
+abbrev pub last_by : Option Part → Option Part → Option Part
+last_by (Some part) first = Some part
+last_by None first = first
 
-abbrev pub last_of : Strings → Fill
+abbrev pub last_of : Strings → Option Part
 last_of a = last_by a.second a.first
 
 -- ---- a turn

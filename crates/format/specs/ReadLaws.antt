@@ -4,16 +4,15 @@
 --     added_in                 both strings are parts of the format string, made of whole characters
 --     fill_is_last             the fill of the options is the string added last: its index in the pool is what that addition answers
 -- Assumes nothing.
-use Rattle.std.specs.Prelude.{ℕ, ◌≡◌, refl}
-use Rattle.std.proofs.Common.{arith, sym, ap, subst, ◌∙◌}
+use Rattle.std.specs.Prelude.{ℕ, ◌≡◌, refl, Option, Some, None}
+use Rattle.std.proofs.Common.{sym, ap, subst, ◌∙◌}
 use mathlib.Core.List.{List, [], ◌∷◌}
 use Rattle.utf8.specs.Encode.{WellFormed}
 use Rattle.utf8.specs.Chars.{chars}
 use Rattle.format_options.specs.Letters.{zero_digit}
 use Rattle.format_options.specs.declared.Part.{Part}
-use Rattle.format_options.specs.declared.Fill.{Fill}
-use Rattle.format_options.specs.declared.Fill.TheVariants.{Is, NoFill}
 use Rattle.format_arms.specs.Arms.{start}
+use Rattle.format_arms.specs.declared.Position.{Position}
 use Rattle.format_state.specs.State.{nothing_added, keep, keep_by}
 use Rattle.format_state.specs.declared.Strings.{Strings}
 use Rattle.format.specs.Parse.{OnePass, add_fill, parse_with, append, parse, string_of, PartIn, FillIn, add_part, add_all}
@@ -41,24 +40,24 @@ module _ (s : List ℕ) where
   tail_more (q ∷ parts) part z e = zeros_more parts part z e
 
   -- at the start nothing is added yet
-  record Listed (p : ℕ) (fill : Fill) (parts : List Part) : Type 0 where
+  record Listed (p : Position) (fill : Option Part) (parts : List Part) : Type 0 where
     none : p ≡ start → parts ≡ []
     tail : Tail parts
 
   listed : Keeps s append Listed
   listed =
       record {
-        by_fill = λ q fill parts part i v h. record { none = λ e. absurd (omega arith); tail = subst (λ (l : List Part). Tail (append l part)) (sym (i.none refl)) tt };
-        by_zero = λ p q fill parts part i v h. record { none = λ e. absurd (omega arith); tail = tail_more parts part i.tail v.zero_is };
-        by_other = λ p q fill parts i h. record { none = λ e. absurd (omega arith); tail = i.tail };
+        by_fill = λ q fill parts part i v h. record { none = λ e. absurd (h e); tail = subst (λ (l : List Part). Tail (append l part)) (sym (i.none refl)) tt };
+        by_zero = λ p q fill parts part i v h. record { none = λ e. absurd (h e); tail = tail_more parts part i.tail v.zero_is };
+        by_other = λ p q fill parts i h. record { none = λ e. absurd (h e); tail = i.tail };
       }
 
   -- ---- both strings
 
   -- a string, if there is one, is a zero
-  abbrev IsZero : Fill → Type 0
-  IsZero (Is part) = string_of s part ≡ zero_digit ∷ []
-  IsZero NoFill = Unit {0}
+  abbrev IsZero : Option Part → Type 0
+  IsZero (Some part) = string_of s part ≡ zero_digit ∷ []
+  IsZero None = Unit {0}
 
   module _ {P : Type 0} (add : P → List ℕ → P) where
     abbrev put : P → Part → P
@@ -66,20 +65,20 @@ module _ (s : List ℕ) where
 
     module _ (again : (pool : P) (x : List ℕ) → add (add pool x) x ≡ add pool x) where
       -- a zero after a zero adds nothing
-      zero_again : (pool : P) (x : Fill) (part : Part) → IsZero x → string_of s part ≡ zero_digit ∷ [] → put (add_fill put pool x) part ≡ put pool part
-      zero_again pool (Is z) part v e = rw (v, e) (again pool (zero_digit ∷ []))
-      zero_again pool NoFill part v e = refl
+      zero_again : (pool : P) (x : Option Part) (part : Part) → IsZero x → string_of s part ≡ zero_digit ∷ [] → put (add_fill put pool x) part ≡ put pool part
+      zero_again pool (Some z) part v e = rw (v, e) (again pool (zero_digit ∷ []))
+      zero_again pool None part v e = refl
 
       -- zeros after a first string and perhaps a zero
-      zeros_last : (pool : P) (first : Part) (x : Fill) (parts : List Part) → IsZero x → Zeros parts
-          → add_all put (add_fill put (put pool first) x) parts ≡ add_both put pool (add_all keep (record { first = Is first; second = x }) parts)
+      zeros_last : (pool : P) (first : Part) (x : Option Part) (parts : List Part) → IsZero x → Zeros parts
+          → add_all put (add_fill put (put pool first) x) parts ≡ add_both put pool (add_all keep (record { first = Some first; second = x }) parts)
       zeros_last pool first x [] v z = refl
       zeros_last pool first x (part ∷ parts) v z =
-          ap (λ (y : P). add_all put y parts) (zero_again (put pool first) x part v z.0) ∙ zeros_last pool first (Is part) parts z.0 z.1
+          ap (λ (y : P). add_all put y parts) (zero_again (put pool first) x part v z.0) ∙ zeros_last pool first (Some part) parts z.0 z.1
 
       same_pool : (pool : P) (parts : List Part) → Tail parts → add_all put pool parts ≡ add_both put pool (add_all keep nothing_added parts)
       same_pool pool [] z = refl
-      same_pool pool (part ∷ parts) z = zeros_last pool part NoFill parts tt z
+      same_pool pool (part ∷ parts) z = zeros_last pool part None parts tt z
 
       module _ (look : ℕ → ℕ) (edition : ℕ) where
         -- the reading, and then both strings added
@@ -99,9 +98,9 @@ module _ (s : List ℕ) where
     pub first : FillIn s a.first
     pub second : FillIn s a.second
 
-  keep_in : (a : Strings) (part : Part) (x : Fill) → a.first ≡ x → AddedIn a → PartIn s part → AddedIn (keep_by x a part)
-  keep_in a part (Is p) e i v = record { first = i.first; second = v }
-  keep_in a part NoFill e i v = record { first = v; second = tt }
+  keep_in : (a : Strings) (part : Part) (x : Option Part) → a.first ≡ x → AddedIn a → PartIn s part → AddedIn (keep_by x a part)
+  keep_in a part (Some p) e i v = record { first = i.first; second = v }
+  keep_in a part None e i v = record { first = v; second = tt }
 
   keeps_in : Keeps s keep (λ p fill a. AddedIn a)
   keeps_in =
@@ -112,9 +111,9 @@ module _ (s : List ℕ) where
       }
 
   -- the fill is the last string
-  last_kept : (a : Strings) (part : Part) (x : Fill) → Is part ≡ last_of (keep_by x a part)
-  last_kept a part (Is p) = refl
-  last_kept a part NoFill = refl
+  last_kept : (a : Strings) (part : Part) (x : Option Part) → Some part ≡ last_of (keep_by x a part)
+  last_kept a part (Some p) = refl
+  last_kept a part None = refl
 
   keeps_last : Keeps s keep (λ p fill a. fill ≡ last_of a)
   keeps_last =

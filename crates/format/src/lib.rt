@@ -17,16 +17,16 @@ ghost use Rattle.format_number.specs.Number.{consume_u32};
 ghost use Rattle.format_state.specs.State.{number_to};
 ghost use Rattle.format.specs.Read.{ended, cluster_to, Here, turn_at, read_format};
 
-use format_arms::{ALIGNMENT, Arm, MIN_WIDTH, arm_of};
+use format_arms::{Arm, Position, arm_of};
 use format_number::{consume_u32, peek};
-use format_options::{Options, Outcome};
+use format_options::{FormatError, Options};
 use format_state::{Parsing, Strings};
 
 // A reading: the options so far, how it ends, and the strings to add. An error takes no string back.
-#[derive(Clone, Copy)]
+#[derive(Clone, Copy, Debug, PartialEq, Eq)]
 pub struct FormatRead {
     pub options: Options,
-    pub outcome: Outcome,
+    pub outcome: Result<(), FormatError>,
     pub added: Strings,
 }
 
@@ -34,13 +34,10 @@ pub struct FormatRead {
 fn end(p: Parsing) -> FormatRead
     ensures { result ≡ ended p }
 {
-    let options = p.result;
-    let outcome = p.outcome;
-    let added = p.added;
     FormatRead {
-        options,
-        outcome,
-        added,
+        options: p.result,
+        outcome: p.outcome,
+        added: p.added,
     }
 }
 
@@ -67,9 +64,8 @@ fn take_cluster(format: &[u8], table: &[u32], edition: u32, p: Parsing) -> Parsi
     requires { WellFormed (drop p.at format.now) × Rises table.now }
     ensures { result ≡ cluster_to p (first_end (properties_at table.now) edition p.at (chars (drop p.at format.now))) }
 {
-    let result = p.result;
     let end = cluster::cluster_end(format, table, edition, p.at);
-    p.go_filled(result, ALIGNMENT, end, end)
+    p.go_filled(p.result, Position::Alignment, end, end)
 }
 
 // One turn of the loop, for the character c of `len` bytes, which stands at `p.at`.
@@ -79,16 +75,15 @@ fn take_turn(format: &[u8], table: &[u32], edition: u32, p: Parsing, c: u32, len
 {
     let next = p.at + len;
     let peeked = peek(format, next);
-    let result = p.result;
     match arm_of(c, peeked, p.position) {
         Arm::FillSign => p.fill_sign(peeked, next),
         Arm::Align => p.align(c, next),
-        Arm::ZeroFill => p.go_filled(result, MIN_WIDTH, next, next),
+        Arm::ZeroFill => p.go_filled(p.result, Position::MinWidth, next, next),
         Arm::MinWidth => take_width(format, p, c, next),
         Arm::Precision => take_precision(format, p, peeked, next + 1),
         Arm::Represent(representation) => p.represent(representation, next),
         Arm::FillCluster => take_cluster(format, table, edition, p),
-        Arm::Unexpected => p.fail(Outcome::UnexpectedToken(c)),
+        Arm::Unexpected => p.fail(FormatError::UnexpectedToken(c)),
     }
 }
 
@@ -103,8 +98,7 @@ pub fn read_format(format: &[u8], table: &[u32], edition: u32) -> FormatRead
             return end(p);
         };
         p = take_turn(format, table, edition, p, code, len);
-        let outcome = p.outcome;
-        if !outcome.is_fine() {
+        if p.outcome.is_err() {
             return end(p);
         }
     }

@@ -8,23 +8,21 @@ ghost use Rattle.format_arms.specs.Arms.{letter_of, last_arm, arm_of};
 
 use base::chars::{DOT, ZERO};
 use format_options::letters::{NO_CHAR, is_digit, is_sign, representation_of};
-use format_options::{Representation, Shown};
+use format_options::Representation;
 
-// `FormatParsePosition`, in its order.
-pub const START: u32 = 0;
-
-pub const ALIGNMENT: u32 = 1;
-
-pub const MIN_WIDTH: u32 = 2;
-
-pub const PRECISION: u32 = 3;
-
-pub const TYPE: u32 = 4;
-
-pub const END: u32 = 5;
+// `FormatParsePosition`
+#[derive(Clone, Copy, Debug, PartialEq, Eq)]
+pub enum Position {
+    Start,
+    Alignment,
+    MinWidth,
+    Precision,
+    Type,
+    End,
+}
 
 // The arms of `parse`, in its order; the seven of the representations are one.
-#[derive(Clone, Copy)]
+#[derive(Clone, Copy, Debug, PartialEq, Eq)]
 pub enum Arm {
     FillSign,
     Align,
@@ -37,76 +35,81 @@ pub enum Arm {
 }
 
 // `(_, Some('<' | '^' | '>'), Start)`
-fn is_fill_sign(peeked: u32, position: u32) -> bool
+fn is_fill_sign(peeked: u32, position: Position) -> bool
     ensures { result ≡ is_fill_sign peeked position }
 {
-    is_sign(peeked) && position == START
+    is_sign(peeked) && matches!(position, Position::Start)
 }
 
 // `('<' | '^' | '>', _, Start | Alignment)`
-fn is_align(c: u32, position: u32) -> bool
+fn is_align(c: u32, position: Position) -> bool
     ensures { result ≡ is_align c position }
 {
-    is_sign(c) && (position == START || position == ALIGNMENT)
+    is_sign(c) && matches!(position, Position::Start | Position::Alignment)
 }
 
 // `('0', Some('0'..='9'), Start | MinWidth)`
-fn is_zero_fill(c: u32, peeked: u32, position: u32) -> bool
+fn is_zero_fill(c: u32, peeked: u32, position: Position) -> bool
     ensures { result ≡ is_zero_fill c peeked position }
 {
-    c == ZERO && (is_digit(peeked) && (position == START || position == MIN_WIDTH))
+    c == ZERO
+        && (is_digit(peeked) && matches!(position, Position::Start | Position::MinWidth))
 }
 
 // `('0'..='9', _, Start | MinWidth)`
-fn is_width(c: u32, position: u32) -> bool
+fn is_width(c: u32, position: Position) -> bool
     ensures { result ≡ is_width c position }
 {
-    is_digit(c) && (position == START || position == MIN_WIDTH)
+    is_digit(c) && matches!(position, Position::Start | Position::MinWidth)
 }
 
 // `('.', Some(_), Start | MinWidth | Precision)`
-fn is_precision(c: u32, peeked: u32, position: u32) -> bool
+fn is_precision(c: u32, peeked: u32, position: Position) -> bool
     ensures { result ≡ is_precision c peeked position }
 {
     c == DOT
         && (peeked < NO_CHAR
-            && (position == START || (position == MIN_WIDTH || position == PRECISION)))
+            && matches!(
+                position,
+                Position::Start | Position::MinWidth | Position::Precision
+            ))
 }
 
 // `Start | MinWidth | Precision | Type`
-fn is_before_end(position: u32) -> bool
+fn is_before_end(position: Position) -> bool
     ensures { result ≡ is_before_end position }
 {
-    position == START || (position == MIN_WIDTH || (position == PRECISION || position == TYPE))
+    matches!(
+        position,
+        Position::Start | Position::MinWidth | Position::Precision | Position::Type
+    )
 }
 
 // The representation that the character names at this position.
-fn letter_of(c: u32, position: u32) -> Shown
+fn letter_of(c: u32, position: Position) -> Option<Representation>
     ensures { result ≡ letter_of c position }
 {
     if is_before_end(position) {
         return representation_of(c);
     }
-    Shown::Plain
+    None
 }
 
 // The arms from the representations on.
-fn last_arm(c: u32, position: u32) -> Arm
+fn last_arm(c: u32, position: Position) -> Arm
     ensures { result ≡ last_arm c position }
 {
     match letter_of(c, position) {
-        Shown::As(representation) => Arm::Represent(representation),
-        Shown::Plain => {
-            if position == START {
-                return Arm::FillCluster;
-            }
-            Arm::Unexpected
-        }
+        Some(representation) => Arm::Represent(representation),
+        None => match position {
+            Position::Start => Arm::FillCluster,
+            _ => Arm::Unexpected,
+        },
     }
 }
 
 // The first arm of `parse` that matches.
-pub fn arm_of(c: u32, peeked: u32, position: u32) -> Arm
+pub fn arm_of(c: u32, peeked: u32, position: Position) -> Arm
     ensures { result ≡ arm_of c peeked position }
 {
     if is_fill_sign(peeked, position) {

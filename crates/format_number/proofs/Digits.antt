@@ -3,6 +3,7 @@
 --     digits_start, digits_more       it holds before the first turn, and after one more digit
 --     digits_stop, digits_large       what it gives where no digit follows, and where the number is too large
 -- Assumes nothing.
+use Rattle.std.specs.Prelude.{Err}
 use Prim.Native.Nat.{ℕ, ◌+◌, ◌≤◌, ◌<◌}
 use native.Mathlib.Omega.{arith}
 use native.Mathlib.Nat.{add-zero}
@@ -13,11 +14,10 @@ use lib.ListN.{length, drop}
 use Rattle.utf8.specs.Chars.{chars}
 use Rattle.format_options.specs.Letters.{is_digit}
 use Rattle.format_options.specs.LettersLaws.{digit_is}
-use Rattle.format_options.specs.declared.Outcome.TheVariants.{TooLarge}
-use Rattle.format_number.specs.Number.{index_max, peeked, digits_from}
+use Rattle.format_options.specs.declared.FormatError.TheVariants.{TooLarge}
+use Rattle.format_number.specs.Number.{index_max, peeked, value, digits_from}
 use Rattle.format_number.specs.PeekLaws.{AsciiHere, ascii_here}
 use Rattle.format_number.specs.NumberLaws.{with, step_more, step_large, step_stop}
-use Rattle.format_number.specs.declared.Consumed.TheVariants.{Value, Wrong}
 
 module _ (s : List ℕ) (at first : ℕ) where
   -- n is the number after k digits
@@ -31,14 +31,14 @@ module _ (s : List ℕ) (at first : ℕ) where
       record { small = omega arith; within = omega arith; answer = ap (λ (i : ℕ). digits_from first 0 (chars (drop i s))) (add-zero at) }
 
   module _ (n k : ℕ) (v : Digits n k) where
-    pub digits_stop : is_digit (peeked (chars (drop (at + k) s))) ≡ false → Value n k ≡ digits_from first 0 (chars (drop at s))
+    pub digits_stop : is_digit (peeked (chars (drop (at + k) s))) ≡ false → value n k ≡ digits_from first 0 (chars (drop at s))
     digits_stop e = sym (step_stop n k (chars (drop (at + k) s)) e) ∙ v.answer
 
     module _ (d : ℕ) (p : d ≡ peeked (chars (drop (at + k) s))) (t : is_digit d ≡ true) where
       pub digit_here : AsciiHere s (at + k) d
       digit_here = ascii_here s (at + k) d (sym p) (omega (arith, digit_is d t))
 
-      pub digits_large : index_max < with n d → Wrong (TooLarge (with n d)) ≡ digits_from first 0 (chars (drop at s))
+      pub digits_large : index_max < with n d → Err (TooLarge (with n d)) ≡ digits_from first 0 (chars (drop at s))
       digits_large h =
           sym (step_large n k d (chars (drop (at + k + 1) s)) t h) ∙ ap (digits_from n k) (sym digit_here.rest) ∙ v.answer
 

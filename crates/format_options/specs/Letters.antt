@@ -1,14 +1,13 @@
 -- string_format_options.rs, what a single character of a format string means: the signs, the digits, and the letters of the
 -- representations.
 -- Assumes nothing.
-use Rattle.std.specs.Prelude.{ℕ, Bool, ◌||◌, eqb}
+use Rattle.std.specs.Prelude.{ℕ, Bool, ◌||◌, eqb, Option, Some, None}
 use Rattle.base.specs.Pick.{pick}
 use Rattle.base.specs.Range.{inside}
 use Rattle.format_options.specs.declared.Alignment.{Alignment}
 use Rattle.format_options.specs.declared.Alignment.TheVariants.{Left, Center, Right}
+use Rattle.format_options.specs.declared.Representation.{Representation}
 use Rattle.format_options.specs.declared.Representation.TheVariants.{Debug, HexLower, HexUpper, Binary, Octal, ExpLower, ExpUpper}
-use Rattle.format_options.specs.declared.Shown.{Shown}
-use Rattle.format_options.specs.declared.Shown.TheVariants.{As, Plain}
 
 -- no character: one more than the last code point
 abbrev pub no_char : ℕ
@@ -41,13 +40,13 @@ unfoldable pub is_digit : ℕ → Bool
 is_digit c = inside c zero_digit 57
 
 -- `'?'`, `'b'`, `'o'`, `'x'`, `'X'`, `'e'`, `'E'`
-unfoldable pub representation_of : ℕ → Shown
+unfoldable pub representation_of : ℕ → Option Representation
 representation_of c =
-    pick (eqb c 63) (As Debug)
-    (pick (eqb c 98) (As Binary)
-    (pick (eqb c 111) (As Octal)
-    (pick (eqb c 120) (As HexLower)
-    (pick (eqb c 88) (As HexUpper)
-    (pick (eqb c 101) (As ExpLower)
-    (pick (eqb c 69) (As ExpUpper)
-    Plain))))))
+    pick (eqb c 63) (Some Debug)
+    (pick (eqb c 98) (Some Binary)
+    (pick (eqb c 111) (Some Octal)
+    (pick (eqb c 120) (Some HexLower)
+    (pick (eqb c 88) (Some HexUpper)
+    (pick (eqb c 101) (Some ExpLower)
+    (pick (eqb c 69) (Some ExpUpper)
+    None))))))

@@ -1,22 +1,16 @@
--- string_format_options.rs `StringFormatOptions`: its default, its fields set one at a time, and the numbers of its enums. And which
--- outcome of a reading is no error.
+-- string_format_options.rs `StringFormatOptions`: its default, its fields set one at a time, and the numbers of its enums.
 -- Assumes nothing.
-use Rattle.std.specs.Prelude.{ℕ, Bool, true, false}
+use Rattle.std.specs.Prelude.{ℕ, Some, None}
 use Rattle.format_options.specs.declared.Alignment.{Alignment}
 use Rattle.format_options.specs.declared.Alignment.TheVariants as alignment
 use Rattle.format_options.specs.declared.Representation.{Representation}
 use Rattle.format_options.specs.declared.Representation.TheVariants as representation
-use Rattle.format_options.specs.declared.Shown.TheVariants.{As, Plain}
-use Rattle.format_options.specs.declared.OptionalNumber.TheVariants.{Number, Nothing}
 use Rattle.format_options.specs.declared.Part.{Part}
-use Rattle.format_options.specs.declared.Fill.TheVariants.{Is, NoFill}
 use Rattle.format_options.specs.declared.Options.{Options}
-use Rattle.format_options.specs.declared.Outcome.{Outcome}
-use Rattle.format_options.specs.declared.Outcome.TheVariants.{Fine, ExpectedNumber, TooLarge, UnexpectedToken}
 
 -- `Self::default()`
 abbrev pub no_options : Options
-no_options = record { alignment = alignment.Default; width = Nothing; precision = Nothing; representation = Plain; fill = NoFill }
+no_options = record { alignment = alignment.Default; width = None; precision = None; representation = None; fill = None }
 
 -- `result.alignment = ..`
 abbrev pub with_alignment : Alignment → Options → Options
@@ -26,22 +20,22 @@ with_alignment a o =
 -- `result.min_width = Some(..)`
 abbrev pub with_width : ℕ → Options → Options
 with_width n o =
-    record { alignment = o.alignment; width = Number n; precision = o.precision; representation = o.representation; fill = o.fill }
+    record { alignment = o.alignment; width = Some n; precision = o.precision; representation = o.representation; fill = o.fill }
 
 -- `result.precision = Some(..)`
 abbrev pub with_precision : ℕ → Options → Options
 with_precision n o =
-    record { alignment = o.alignment; width = o.width; precision = Number n; representation = o.representation; fill = o.fill }
+    record { alignment = o.alignment; width = o.width; precision = Some n; representation = o.representation; fill = o.fill }
 
 -- `result.representation = Some(..)`
 abbrev pub with_representation : Representation → Options → Options
 with_representation r o =
-    record { alignment = o.alignment; width = o.width; precision = o.precision; representation = As r; fill = o.fill }
+    record { alignment = o.alignment; width = o.width; precision = o.precision; representation = Some r; fill = o.fill }
 
 -- `result.fill_character = Some(..)`
 abbrev pub with_fill : Part → Options → Options
 with_fill p o =
-    record { alignment = o.alignment; width = o.width; precision = o.precision; representation = o.representation; fill = Is p }
+    record { alignment = o.alignment; width = o.width; precision = o.precision; representation = o.representation; fill = Some p }
 
 -- ---- numbers
 
@@ -61,12 +55,3 @@ representation_number representation.Binary = 3
 representation_number representation.Octal = 4
 representation_number representation.ExpLower = 5
 representation_number representation.ExpUpper = 6
-
--- ---- outcomes
-
--- no error
-abbrev pub is_fine : Outcome → Bool
-is_fine Fine = true
-is_fine (ExpectedNumber c) = false
-is_fine (TooLarge n) = false
-is_fine (UnexpectedToken c) = false

@@ -2,7 +2,7 @@
 ghost use Rattle.std.specs.Prelude.{◌≡◌};
 ghost use Rattle.format_options.specs.Letters.{is_sign, is_digit, char_to_alignment, representation_of};
 
-use crate::{Alignment, Representation, Shown};
+use crate::{Alignment, Representation};
 use base::chars::{
     CAPITAL_E, CAPITAL_X, CARET, GREATER, LESS, LETTER_B, LETTER_E, LETTER_O, LETTER_X, NINE,
     QUESTION, ZERO,
@@ -39,30 +39,30 @@ pub fn char_to_alignment(c: u32) -> Alignment
     Alignment::Right
 }
 
-// The representation that the character names.
-pub fn representation_of(c: u32) -> Shown
+// The representation that the character names, if it names one.
+pub fn representation_of(c: u32) -> Option<Representation>
     ensures { result ≡ representation_of c }
 {
     if c == QUESTION {
-        return Shown::As(Representation::Debug);
+        return Some(Representation::Debug);
     }
     if c == LETTER_B {
-        return Shown::As(Representation::Binary);
+        return Some(Representation::Binary);
     }
     if c == LETTER_O {
-        return Shown::As(Representation::Octal);
+        return Some(Representation::Octal);
     }
     if c == LETTER_X {
-        return Shown::As(Representation::HexLower);
+        return Some(Representation::HexLower);
     }
     if c == CAPITAL_X {
-        return Shown::As(Representation::HexUpper);
+        return Some(Representation::HexUpper);
     }
     if c == LETTER_E {
-        return Shown::As(Representation::ExpLower);
+        return Some(Representation::ExpLower);
     }
     if c == CAPITAL_E {
-        return Shown::As(Representation::ExpUpper);
+        return Some(Representation::ExpUpper);
     }
-    Shown::Plain
+    None
 }

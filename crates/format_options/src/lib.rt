@@ -1,16 +1,16 @@
 // The values of string_format_options.rs, for whoever reads, writes or applies format options: `StringFormatOptions` with the types of its
-// fields, the numbers of its enums, and how a reading ends. What a single character means is the module `letters`.
+// fields, the numbers of its enums, and the errors of a reading. What a single character means is the module `letters`.
 // Left out: reading a format string, the pool, the messages, the conversion from u8.
 #![tactic(auto)]
 
 pub mod letters;
 
 ghost use Rattle.std.specs.Prelude.{◌≡◌};
-ghost use Rattle.format_options.specs.Options.{alignment_number, representation_number, is_fine};
+ghost use Rattle.format_options.specs.Options.{alignment_number, representation_number};
 ghost use Rattle.format_options.specs.Options.{no_options, with_alignment, with_width, with_precision, with_representation, with_fill};
 
 // `StringAlignment`
-#[derive(Clone, Copy)]
+#[derive(Clone, Copy, Debug, PartialEq, Eq)]
 pub enum Alignment {
     Default,
     Left,
@@ -19,7 +19,7 @@ pub enum Alignment {
 }
 
 // `StringFormatRepresentation`
-#[derive(Clone, Copy)]
+#[derive(Clone, Copy, Debug, PartialEq, Eq)]
 pub enum Representation {
     Debug,
     HexLower,
@@ -57,42 +57,21 @@ pub fn representation_number(representation: Representation) -> u32
     }
 }
 
-// A representation, or none.
-#[derive(Clone, Copy)]
-pub enum Shown {
-    As(Representation),
-    Plain,
-}
-
-// A width or a precision, or none.
-#[derive(Clone, Copy)]
-pub enum OptionalNumber {
-    Number(u32),
-    Nothing,
-}
-
 // A part of the format string, in bytes.
-#[derive(Clone, Copy)]
+#[derive(Clone, Copy, Debug, PartialEq, Eq)]
 pub struct Part {
     pub place: usize,
     pub len: usize,
 }
 
-// A fill, or none.
-#[derive(Clone, Copy)]
-pub enum Fill {
-    Is(Part),
-    NoFill,
-}
-
 // `StringFormatOptions`. The fill "0" is the part that is its zero.
-#[derive(Clone, Copy)]
+#[derive(Clone, Copy, Debug, PartialEq, Eq)]
 pub struct Options {
     pub alignment: Alignment,
-    pub width: OptionalNumber,
-    pub precision: OptionalNumber,
-    pub representation: Shown,
-    pub fill: Fill,
+    pub width: Option<u32>,
+    pub precision: Option<u32>,
+    pub representation: Option<Representation>,
+    pub fill: Option<Part>,
 }
 
 impl Options {
@@ -102,10 +81,10 @@ impl Options {
     {
         Options {
             alignment: Alignment::Default,
-            width: OptionalNumber::Nothing,
-            precision: OptionalNumber::Nothing,
-            representation: Shown::Plain,
-            fill: Fill::NoFill,
+            width: None,
+            precision: None,
+            representation: None,
+            fill: None,
         }
     }
 
@@ -121,7 +100,7 @@ impl Options {
         ensures { result ≡ with_width n self }
     {
         Options {
-            width: OptionalNumber::Number(n),
+            width: Some(n),
             ..self
         }
     }
@@ -131,7 +110,7 @@ impl Options {
         ensures { result ≡ with_precision n self }
     {
         Options {
-            precision: OptionalNumber::Number(n),
+            precision: Some(n),
             ..self
         }
     }
@@ -141,7 +120,7 @@ impl Options {
         ensures { result ≡ with_representation representation self }
     {
         Options {
-            representation: Shown::As(representation),
+            representation: Some(representation),
             ..self
         }
     }
@@ -151,31 +130,16 @@ impl Options {
         ensures { result ≡ with_fill part self }
     {
         Options {
-            fill: Fill::Is(part),
+            fill: Some(part),
             ..self
         }
     }
 }
 
-// How a reading ends: fine, or with an error of `StringFormatError`, with its code point, or with the first value that is too large.
-#[derive(Clone, Copy)]
-pub enum Outcome {
-    Fine,
+// The errors of `StringFormatError` that a reading ends with: with its code point, or with the first value that is too large.
+#[derive(Clone, Copy, Debug, PartialEq, Eq)]
+pub enum FormatError {
     ExpectedNumber(u32),
     TooLarge(u64),
     UnexpectedToken(u32),
-}
-
-impl Outcome {
-    // No error so far.
-    pub fn is_fine(self) -> bool
-        ensures { result ≡ is_fine self }
-    {
-        match self {
-            Outcome::Fine => true,
-            Outcome::ExpectedNumber(_) => false,
-            Outcome::TooLarge(_) => false,
-            Outcome::UnexpectedToken(_) => false,
-        }
-    }
 }

@@ -1,15 +1,11 @@
 -- What stands behind the fill in the format string for options, and its parts that are one byte or none.
 -- Assumes nothing.
-use Rattle.std.specs.Prelude.{ℕ, List, [], ◌∷◌, ◌++◌, eqb}
-use Rattle.base.specs.Pick.{pick}
+use Rattle.std.specs.Prelude.{ℕ, List, [], ◌∷◌, ◌++◌, Option, Some, None}
 use Rattle.format_options.specs.Letters.{less, caret, greater}
 use Rattle.format_arms.specs.Arms.{dot}
 use Rattle.format_options.specs.declared.Alignment.{Alignment}
 use Rattle.format_options.specs.declared.Alignment.TheVariants.{Default, Left, Center, Right}
-use Rattle.format_options.specs.declared.OptionalNumber.{OptionalNumber}
-use Rattle.format_options.specs.declared.OptionalNumber.TheVariants.{Number, Nothing}
-use Rattle.format_options.specs.declared.Shown.{Shown}
-use Rattle.format_options.specs.declared.Shown.TheVariants.{As, Plain}
+use Rattle.format_options.specs.declared.Representation.{Representation}
 use Rattle.asked.specs.declared.Fields.{Fields}
 use Rattle.wanted.specs.Candidate.{letter, sign_part, tail_for}
 
@@ -19,26 +15,23 @@ parts_of f = sign_part f.alignment ++ tail_for f.width f.precision f.representat
 
 -- ---- one byte or none
 
--- no byte: none of the signs and letters is 0
-abbrev pub no_byte : ℕ
-no_byte = 0
-
-abbrev pub byte_part : ℕ → List ℕ
-byte_part byte = pick (eqb byte no_byte) [] (byte ∷ [])
+abbrev pub byte_part : Option ℕ → List ℕ
+byte_part (Some byte) = byte ∷ []
+byte_part None = []
 
 -- the sign of an alignment
-abbrev pub sign_byte : Alignment → ℕ
-sign_byte Default = no_byte
-sign_byte Left = less
-sign_byte Center = caret
-sign_byte Right = greater
+abbrev pub sign_byte : Alignment → Option ℕ
+sign_byte Default = None
+sign_byte Left = Some less
+sign_byte Center = Some caret
+sign_byte Right = Some greater
 
 -- the dot before a precision
-abbrev pub dot_byte : OptionalNumber → ℕ
-dot_byte (Number n) = dot
-dot_byte Nothing = no_byte
+abbrev pub dot_byte : Option ℕ → Option ℕ
+dot_byte (Some n) = Some dot
+dot_byte None = None
 
 -- the letter of a representation
-abbrev pub letter_byte : Shown → ℕ
-letter_byte (As r) = letter r
-letter_byte Plain = no_byte
+abbrev pub letter_byte : Option Representation → Option ℕ
+letter_byte (Some r) = Some (letter r)
+letter_byte None = None

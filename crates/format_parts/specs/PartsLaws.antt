@@ -2,15 +2,12 @@
 --     parts_left, parts_by  they are the sign, the width, the dot, the precision and the letter, one behind the other
 --     length_parts          and as long as these are together
 -- Assumes nothing.
-use Rattle.std.specs.Prelude.{ℕ, ◌+◌, ◌≡◌, refl, List, ◌++◌, length}
+use Rattle.std.specs.Prelude.{ℕ, ◌+◌, ◌≡◌, refl, List, ◌++◌, length, Option, Some, None}
 use Rattle.std.proofs.Common.{arith, ap, ◌∙◌, append_assoc, length-append}
 use Rattle.format_options.specs.declared.Alignment.{Alignment}
 use Rattle.format_options.specs.declared.Alignment.TheVariants as alignment
 use Rattle.format_options.specs.declared.Representation.TheVariants as representation
-use Rattle.format_options.specs.declared.OptionalNumber.{OptionalNumber}
-use Rattle.format_options.specs.declared.OptionalNumber.TheVariants.{Number, Nothing}
-use Rattle.format_options.specs.declared.Shown.{Shown}
-use Rattle.format_options.specs.declared.Shown.TheVariants.{As, Plain}
+use Rattle.format_options.specs.declared.Representation.{Representation}
 use Rattle.asked.specs.declared.Fields.{Fields}
 use Rattle.wanted.specs.Candidate.{sign_part, width_part, precision_part, letter_part}
 use Rattle.format_parts.specs.Parts.{parts_of, byte_part, sign_byte, dot_byte, letter_byte}
@@ -21,19 +18,19 @@ sign_is alignment.Left = refl
 sign_is alignment.Center = refl
 sign_is alignment.Right = refl
 
-dot_is : (g : OptionalNumber) (rest : List ℕ) → byte_part (dot_byte g) ++ (width_part g ++ rest) ≡ precision_part g ++ rest
-dot_is (Number n) rest = refl
-dot_is Nothing rest = refl
+dot_is : (g : Option ℕ) (rest : List ℕ) → byte_part (dot_byte g) ++ (width_part g ++ rest) ≡ precision_part g ++ rest
+dot_is (Some n) rest = refl
+dot_is None rest = refl
 
-letter_is : (x : Shown) → byte_part (letter_byte x) ≡ letter_part x
-letter_is (As representation.Debug) = refl
-letter_is (As representation.HexLower) = refl
-letter_is (As representation.HexUpper) = refl
-letter_is (As representation.Binary) = refl
-letter_is (As representation.Octal) = refl
-letter_is (As representation.ExpLower) = refl
-letter_is (As representation.ExpUpper) = refl
-letter_is Plain = refl
+letter_is : (x : Option Representation) → byte_part (letter_byte x) ≡ letter_part x
+letter_is (Some representation.Debug) = refl
+letter_is (Some representation.HexLower) = refl
+letter_is (Some representation.HexUpper) = refl
+letter_is (Some representation.Binary) = refl
+letter_is (Some representation.Octal) = refl
+letter_is (Some representation.ExpLower) = refl
+letter_is (Some representation.ExpUpper) = refl
+letter_is None = refl
 
 -- five lists, one behind the other
 abbrev five : (a b c d e : List ℕ) → List ℕ
@@ -78,6 +75,6 @@ module _ (f : Fields) where
       )
 
   -- with bytes that are these
-  pub parts_by : (s d l : ℕ) → s ≡ sign_byte f.alignment → d ≡ dot_byte f.precision → l ≡ letter_byte f.representation
+  pub parts_by : (s d l : Option ℕ) → s ≡ sign_byte f.alignment → d ≡ dot_byte f.precision → l ≡ letter_byte f.representation
       → byte_part s ++ width_part f.width ++ byte_part d ++ width_part f.precision ++ byte_part l ≡ parts_of f
   parts_by s d l e g h = (λ i. byte_part (e i) ++ width_part f.width ++ byte_part (g i) ++ width_part f.precision ++ byte_part (h i)) ∙ parts_left

@@ -9,30 +9,27 @@ ghost use Rattle.format_parts.specs.Parts.{parts_of, byte_part, sign_byte, dot_b
 
 use asked::Fields;
 use decimal::{digit_count, put_digits};
-use format_options::{Alignment, OptionalNumber, Representation, Shown};
+use format_options::{Alignment, Representation};
 
-// No byte: none of the signs and letters is 0.
-const NO_BYTE: u8 = 0;
-
-// The sign of an alignment.
-fn sign_of(alignment: Alignment) -> u8
+// The sign of an alignment, if it has one.
+fn sign_of(alignment: Alignment) -> Option<u8>
     ensures { result ≡ sign_byte alignment }
 {
     match alignment {
-        Alignment::Default => NO_BYTE,
-        Alignment::Left => b'<',
-        Alignment::Center => b'^',
-        Alignment::Right => b'>',
+        Alignment::Default => None,
+        Alignment::Left => Some(b'<'),
+        Alignment::Center => Some(b'^'),
+        Alignment::Right => Some(b'>'),
     }
 }
 
 // The dot before a precision.
-fn dot_of(precision: OptionalNumber) -> u8
+fn dot_of(precision: Option<u32>) -> Option<u8>
     ensures { result ≡ dot_byte precision }
 {
     match precision {
-        OptionalNumber::Number(_) => b'.',
-        OptionalNumber::Nothing => NO_BYTE,
+        Some(_) => Some(b'.'),
+        None => None,
     }
 }
 
@@ -51,55 +48,57 @@ fn letter(representation: Representation) -> u8
     }
 }
 
-fn letter_of(shown: Shown) -> u8
+fn letter_of(shown: Option<Representation>) -> Option<u8>
     ensures { result ≡ letter_byte shown }
 {
     match shown {
-        Shown::As(representation) => letter(representation),
-        Shown::Plain => NO_BYTE,
+        Some(representation) => Some(letter(representation)),
+        None => None,
     }
 }
 
-// How many bytes a byte is, if it is one.
-fn byte_len(byte: u8) -> usize
+// How many bytes a byte is, if there is one.
+fn byte_len(byte: Option<u8>) -> usize
     ensures { (result ≡ length (byte_part byte)) × (result ≤ 1) }
 {
-    if byte == NO_BYTE {
-        return 0;
+    match byte {
+        Some(_) => 1,
+        None => 0,
     }
-    1
 }
 
 // How many bytes a number has, if there is one.
-fn number_len(number: OptionalNumber) -> usize
+fn number_len(number: Option<u32>) -> usize
     ensures { (result ≡ length (width_part number)) × (result ≤ 4294967296) }
 {
     match number {
-        OptionalNumber::Number(n) => digit_count(n),
-        OptionalNumber::Nothing => 0,
+        Some(n) => digit_count(n),
+        None => 0,
     }
 }
 
-// Writes a byte, if it is one, at index `at`: the index behind it.
-fn put_byte(row: &mut [u8], at: usize, byte: u8) -> usize
+// Writes a byte, if there is one, at index `at`: the index behind it.
+fn put_byte(row: &mut [u8], at: usize, byte: Option<u8>) -> usize
     requires { at + length (byte_part byte) ≤ length row.old }
     ensures { (result ≡ at + length (byte_part byte)) × (row.new ≡ written row.old at (byte_part byte)) }
 {
-    if byte == NO_BYTE {
-        return at;
+    match byte {
+        Some(byte) => {
+            row[at] = byte;
+            at + 1
+        }
+        None => at,
     }
-    row[at] = byte;
-    at + 1
 }
 
 // Writes a number, if there is one, from index `at` on: the index behind it.
-fn put_number(row: &mut [u8], at: usize, number: OptionalNumber) -> usize
+fn put_number(row: &mut [u8], at: usize, number: Option<u32>) -> usize
     requires { at + length (width_part number) ≤ length row.old }
     ensures { (result ≡ at + length (width_part number)) × (row.new ≡ written row.old at (width_part number)) }
 {
     match number {
-        OptionalNumber::Number(n) => put_digits(row, at, n),
-        OptionalNumber::Nothing => at,
+        Some(n) => put_digits(row, at, n),
+        None => at,
     }
 }
 
@@ -107,14 +106,10 @@ fn put_number(row: &mut [u8], at: usize, number: OptionalNumber) -> usize
 pub fn parts_len(fields: Fields) -> usize
     ensures { (result ≡ length (parts_of fields)) × (result ≤ 8589934595) }
 {
-    let alignment = fields.alignment;
-    let width = fields.width;
-    let precision = fields.precision;
-    let representation = fields.representation;
-    let sign = byte_len(sign_of(alignment));
-    let dot = byte_len(dot_of(precision));
-    let letter = byte_len(letter_of(representation));
-    sign + number_len(width) + dot + number_len(precision) + letter
+    let sign = byte_len(sign_of(fields.alignment));
+    let dot = byte_len(dot_of(fields.precision));
+    let letter = byte_len(letter_of(fields.representation));
+    sign + number_len(fields.width) + dot + number_len(fields.precision) + letter
 }
 
 // Writes the parts into a row of bytes, from index `at` on: the index behind them.
@@ -122,16 +117,12 @@ pub fn put_parts(row: &mut [u8], at: usize, fields: Fields) -> usize
     requires { at + length (parts_of fields) ≤ length row.old }
     ensures { (result ≡ at + length (parts_of fields)) × (row.new ≡ written row.old at (parts_of fields)) }
 {
-    let alignment = fields.alignment;
-    let width = fields.width;
-    let precision = fields.precision;
-    let representation = fields.representation;
-    let sign = sign_of(alignment);
-    let dot = dot_of(precision);
-    let letter = letter_of(representation);
+    let sign = sign_of(fields.alignment);
+    let dot = dot_of(fields.precision);
+    let letter = letter_of(fields.representation);
     let behind_sign = put_byte(row, at, sign);
-    let behind_width = put_number(row, behind_sign, width);
+    let behind_width = put_number(row, behind_sign, fields.width);
     let behind_dot = put_byte(row, behind_width, dot);
-    let behind_precision = put_number(row, behind_dot, precision);
+    let behind_precision = put_number(row, behind_dot, fields.precision);
     put_byte(row, behind_precision, letter)
 }

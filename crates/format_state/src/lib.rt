@@ -10,29 +10,29 @@ ghost use Rattle.format_number.specs.Number.{digits_of};
 ghost use Rattle.format_arms.specs.Arms.{min_width, end};
 ghost use Rattle.format_state.specs.State.{keep, start_parsing, goes_to, goes_filled, goes_numbered, number_to, fails_with};
 
-use format_arms::{END, MIN_WIDTH, PRECISION, START, TYPE};
-use format_number::Consumed;
+use format_arms::Position;
+use format_number::Number;
 use format_options::letters::char_to_alignment;
-use format_options::{Fill, Options, Outcome, Part, Representation};
+use format_options::{FormatError, Options, Part, Representation};
 
 // The strings to add, one after the other. What is added after the first is "0", so the last zero stands for all of them.
-#[derive(Clone, Copy)]
+#[derive(Clone, Copy, Debug, PartialEq, Eq)]
 pub struct Strings {
-    pub first: Fill,
-    pub second: Fill,
+    pub first: Option<Part>,
+    pub second: Option<Part>,
 }
 
 // The locals of `parse`, where the next character stands, and the outcome, which is fine until an arm fails.
 //
 // Q. Why is this no enum, of a state to go on with or an error? A. LLVM lays the variants over each other, and the state would go through
 // memory at every turn.
-#[derive(Clone, Copy)]
+#[derive(Clone, Copy, Debug, PartialEq, Eq)]
 pub struct Parsing {
-    pub position: u32,
+    pub position: Position,
     pub result: Options,
     pub at: usize,
     pub added: Strings,
-    pub outcome: Outcome,
+    pub outcome: Result<(), FormatError>,
 }
 
 impl Strings {
@@ -40,15 +40,14 @@ impl Strings {
     fn keep(self, part: Part) -> Strings
         ensures { result ≡ keep self part }
     {
-        let first = self.first;
-        match first {
-            Fill::Is(_) => Strings {
-                first,
-                second: Fill::Is(part),
+        match self.first {
+            Some(_) => Strings {
+                second: Some(part),
+                ..self
             },
-            Fill::NoFill => Strings {
-                first: Fill::Is(part),
-                second: Fill::NoFill,
+            None => Strings {
+                first: Some(part),
+                second: None,
             },
         }
     }
@@ -60,47 +59,45 @@ impl Parsing {
         ensures { result ≡ start_parsing }
     {
         Parsing {
-            position: START,
+            position: Position::Start,
             result: Options::new(),
             at: 0,
             added: Strings {
-                first: Fill::NoFill,
-                second: Fill::NoFill,
+                first: None,
+                second: None,
             },
-            outcome: Outcome::Fine,
+            outcome: Ok(()),
         }
     }
 
     // On to the character at `at`.
-    fn go(self, res: Options, position: u32, at: usize) -> Parsing
+    fn go(self, res: Options, position: Position, at: usize) -> Parsing
         ensures { result ≡ goes_to res position at self.added }
     {
         Parsing {
             position,
             result: res,
             at,
-            outcome: Outcome::Fine,
+            outcome: Ok(()),
             ..self
         }
     }
 
     // The same, with what stands from here to `end` as the fill, which is added.
-    pub fn go_filled(self, res: Options, position: u32, end: usize, at: usize) -> Parsing
+    pub fn go_filled(self, res: Options, position: Position, end: usize, at: usize) -> Parsing
         requires { self.at ≤ end }
         ensures { result ≡ goes_filled self res position end at }
     {
-        let before = self.added;
-        let place = self.at;
         let fill = Part {
-            place,
-            len: end - place,
+            place: self.at,
+            len: end - self.at,
         };
         Parsing {
             position,
             result: res.with_fill(fill),
             at,
-            added: before.keep(fill),
-            outcome: Outcome::Fine,
+            added: self.added.keep(fill),
+            outcome: Ok(()),
         }
     }
 
@@ -109,43 +106,49 @@ impl Parsing {
         requires { (self.at ≤ next) × (next ≤ format_most) }
         ensures { result ≡ goes_filled self (with_alignment (char_to_alignment sign) self.result) min_width next (next + 1) }
     {
-        let result = self.result;
         let alignment = char_to_alignment(sign);
-        let behind = next + 1;
-        self.go_filled(result.with_alignment(alignment), MIN_WIDTH, next, behind)
+        self.go_filled(
+            self.result.with_alignment(alignment),
+            Position::MinWidth,
+            next,
+            next + 1,
+        )
     }
 
     // The arm of a sign.
     pub fn align(self, sign: u32, next: usize) -> Parsing
         ensures { result ≡ goes_to (with_alignment (char_to_alignment sign) self.result) min_width next self.added }
     {
-        let result = self.result;
         let alignment = char_to_alignment(sign);
-        self.go(result.with_alignment(alignment), MIN_WIDTH, next)
+        self.go(self.result.with_alignment(alignment), Position::MinWidth, next)
     }
 
     // On to the character at `next`, with a precision, or else with a width.
     fn go_numbered(self, is_precision: bool, n: u32, next: usize) -> Parsing
         ensures { result ≡ goes_numbered self is_precision n next }
     {
-        let result = self.result;
         if is_precision {
-            return self.go(result.with_precision(n), TYPE, next);
+            return self.go(self.result.with_precision(n), Position::Type, next);
         }
-        self.go(result.with_width(n), PRECISION, next)
+        self.go(self.result.with_width(n), Position::Precision, next)
     }
 
     // The arms of a precision and of a width, by what `consume_u32` answered, whose digits after the first stand from `at` on.
     //
     // Q. Why is it not asked here? A. LLVM inlines what is called once: a reader of digits that both arms call would have the state go through
     // memory.
-    pub fn take_number(self, is_precision: bool, consumed: Consumed, at: usize) -> Parsing
+    pub fn take_number(
+        self,
+        is_precision: bool,
+        consumed: Result<Number, FormatError>,
+        at: usize,
+    ) -> Parsing
         requires { (digits_of consumed ≤ format_most) × (at ≤ format_most) }
         ensures { result ≡ number_to self is_precision at consumed }
     {
         match consumed {
-            Consumed::Value { n, digits } => self.go_numbered(is_precision, n, at + digits),
-            Consumed::Wrong(outcome) => self.fail(outcome),
+            Ok(number) => self.go_numbered(is_precision, number.n, at + number.digits),
+            Err(error) => self.fail(error),
         }
     }
 
@@ -153,14 +156,16 @@ impl Parsing {
     pub fn represent(self, representation: Representation, next: usize) -> Parsing
         ensures { result ≡ goes_to (with_representation representation self.result) end next self.added }
     {
-        let result = self.result;
-        self.go(result.with_representation(representation), END, next)
+        self.go(self.result.with_representation(representation), Position::End, next)
     }
 
     // The arm fails, and the rest stays as it is.
-    pub fn fail(self, outcome: Outcome) -> Parsing
-        ensures { result ≡ fails_with self outcome }
+    pub fn fail(self, error: FormatError) -> Parsing
+        ensures { result ≡ fails_with self error }
     {
-        Parsing { outcome, ..self }
+        Parsing {
+            outcome: Err(error),
+            ..self
+        }
     }
 }

@@ -5,9 +5,9 @@
 
 ghost use Rattle.std.specs.Prelude.{◌≡◌, IfOk};
 
-use format_options::{Fill, OptionalNumber, Options, Shown};
+use format_options::{Options, Part, Representation};
 use input::Refusal;
-use parse::{After, Parsed, answer};
+use parse::{After, ParseError, Parsed, answer};
 use pool_rows::Counts;
 use std::io;
 
@@ -25,30 +25,30 @@ fn print_none(rt: &impl Print) -> io::Result<()> {
     rt.print(" -")
 }
 
-fn print_given(rt: &impl Print, given: OptionalNumber) -> io::Result<()> {
+fn print_given(rt: &impl Print, given: Option<u32>) -> io::Result<()> {
     match given {
-        OptionalNumber::Number(n) => print_number(rt, n as u64),
-        OptionalNumber::Nothing => print_none(rt),
+        Some(n) => print_number(rt, n as u64),
+        None => print_none(rt),
     }
 }
 
-fn print_shown(rt: &impl Print, shown: Shown) -> io::Result<()> {
+fn print_shown(rt: &impl Print, shown: Option<Representation>) -> io::Result<()> {
     match shown {
-        Shown::As(representation) => print_number(
+        Some(representation) => print_number(
             rt,
             format_options::representation_number(representation) as u64,
         ),
-        Shown::Plain => print_none(rt),
+        None => print_none(rt),
     }
 }
 
-fn print_fill(rt: &impl Print, fill: Fill) -> io::Result<()> {
+fn print_fill(rt: &impl Print, fill: Option<Part>) -> io::Result<()> {
     match fill {
-        Fill::Is(part) => {
+        Some(part) => {
             print_number(rt, part.place as u64)?;
             print_number(rt, part.len as u64)
         }
-        Fill::NoFill => {
+        None => {
             print_none(rt)?;
             print_none(rt)
         }
@@ -56,18 +56,13 @@ fn print_fill(rt: &impl Print, fill: Fill) -> io::Result<()> {
 }
 
 // Alignment, width, precision, representation, the fill's place, length and index.
-fn print_options(rt: &impl Print, options: Options, index: OptionalNumber) -> io::Result<()> {
-    let alignment = options.alignment;
-    let width = options.width;
-    let precision = options.precision;
-    let representation = options.representation;
-    let fill = options.fill;
+fn print_options(rt: &impl Print, options: Options, index: Option<u32>) -> io::Result<()> {
     rt.print("options")?;
-    print_number(rt, format_options::alignment_number(alignment) as u64)?;
-    print_given(rt, width)?;
-    print_given(rt, precision)?;
-    print_shown(rt, representation)?;
-    print_fill(rt, fill)?;
+    print_number(rt, format_options::alignment_number(options.alignment) as u64)?;
+    print_given(rt, options.width)?;
+    print_given(rt, options.precision)?;
+    print_shown(rt, options.representation)?;
+    print_fill(rt, options.fill)?;
     print_given(rt, index)?;
     rt.println("")
 }
@@ -80,10 +75,10 @@ fn print_refused(rt: &impl Print, number: u32, value: u64) -> io::Result<()> {
     rt.println("")
 }
 
-fn print_answer(rt: &impl Print, parsed: Parsed) -> io::Result<()> {
+fn print_answer(rt: &impl Print, parsed: Result<Parsed, ParseError>) -> io::Result<()> {
     match parsed {
-        Parsed::Read { options, index } => print_options(rt, options, index),
-        _ => print_refused(rt, answer::number_of(parsed), answer::value_of(parsed)),
+        Ok(read) => print_options(rt, read.options, read.index),
+        Err(_) => print_refused(rt, answer::number_of(parsed), answer::value_of(parsed)),
     }
 }
 
@@ -129,7 +124,7 @@ fn parse_small(text: &[u8], bytes: &mut [u8], entries: &mut [u32]) -> After {
     };
     if TEXT_MOST < text.len() {
         return After {
-            answer: Parsed::Refused(Refusal::TooLong),
+            answer: Err(ParseError::Refused(Refusal::TooLong)),
             counts: none,
         };
     }
@@ -144,10 +139,8 @@ pub fn print_format(rt: &impl Print, text: &[u8]) -> io::Result<()>
     let mut bytes = [0u8; 1024];
     let mut entries = [0u32; 128];
     let after = parse_small(text, &mut bytes, &mut entries);
-    let answer = after.answer;
-    let counts = after.counts;
-    print_answer(rt, answer)?;
+    print_answer(rt, after.answer)?;
     rt.print("pool")?;
-    print_strings(rt, &bytes, &entries, counts.entries as usize)?;
+    print_strings(rt, &bytes, &entries, after.counts.entries as usize)?;
     rt.println("")
 }

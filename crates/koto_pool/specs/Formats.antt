@@ -1,15 +1,16 @@
 -- What `koto_parse` returns and writes, from the inner call's answer.
 -- Assumes nothing.
-use Rattle.std.specs.Prelude.{ℕ, ◌≡◌, List}
+use Rattle.std.specs.Prelude.{ℕ, ◌≡◌, List, Result}
 use Rattle.pool_rows.specs.declared.Counts.{Counts}
 use Rattle.pool_lent.specs.Entries as row
 use Rattle.pool_lent.specs.declared.Entry.{Entry}
 use Rattle.parse.specs.Call.{Comes, lent, call, number_of, value_of}
 use Rattle.parse.specs.Numbers.{numbers_of}
 use Rattle.parse.specs.declared.Parsed.{Parsed}
+use Rattle.parse.specs.declared.ParseError.{ParseError}
 
 -- an answer's numbers
-pub record ParsedTold (parsed : Parsed) (options : List ℕ) (value r : ℕ) : Type 0 where
+pub record ParsedTold (parsed : Result Parsed ParseError) (options : List ℕ) (value r : ℕ) : Type 0 where
   pub number : r ≡ number_of parsed
   pub options_are : options ≡ numbers_of parsed
   pub value_is : value ≡ value_of parsed

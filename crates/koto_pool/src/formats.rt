@@ -1,12 +1,12 @@
 // Parsing a format string, for C.
 ghost use Rattle.koto_pool.specs.Formats.{ParsedTold, ParseIs};
 
-use parse::{Parsed, answer, numbers};
+use parse::{ParseError, Parsed, answer, numbers};
 use pool_lent::Entry;
 use pool_rows::Counts;
 
 // Writes an answer's numbers, and hands its refusal on.
-fn tell(parsed: Parsed, options: &mut [u64; 7], value: &mut u64) -> u32
+fn tell(parsed: Result<Parsed, ParseError>, options: &mut [u64; 7], value: &mut u64) -> u32
     ensures { ParsedTold parsed options.new value.new result }
 {
     *options = numbers::numbers_of(parsed);

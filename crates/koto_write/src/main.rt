@@ -3,7 +3,7 @@
 #![tactic(auto)]
 
 use std::io;
-use writer::{Written, answer};
+use writer::{WriteError, answer};
 
 // Whether the field at a place of the text is there, and no `-`.
 fn is_given(text: &[u8], at: usize) -> bool {
@@ -19,15 +19,19 @@ fn number_at(text: &[u8], at: usize) -> u64 {
 }
 
 // A refusal: its number and its place.
-fn print_refused(rt: &impl Print, written: Written) -> io::Result<()> {
+fn print_refused(rt: &impl Print, written: Result<usize, WriteError>) -> io::Result<()> {
     let number = answer::number_of(written);
     let place = answer::place_of(written);
     println!(rt; "refused {number} {place}")
 }
 
-fn print_answer(rt: &impl Print, written: Written, buffer: &[u8]) -> io::Result<()> {
+fn print_answer(
+    rt: &impl Print,
+    written: Result<usize, WriteError>,
+    buffer: &[u8],
+) -> io::Result<()> {
     match written {
-        Written::Length(n) => {
+        Ok(n) => {
             if n <= buffer.len() {
                 rt.print("format ")?;
                 rt.write_all(&buffer[..n])?;
@@ -35,7 +39,7 @@ fn print_answer(rt: &impl Print, written: Written, buffer: &[u8]) -> io::Result<
             }
             Ok(())
         }
-        _ => print_refused(rt, written),
+        Err(_) => print_refused(rt, written),
     }
 }
 

@@ -1,8 +1,8 @@
 -- What `koto_write_format` returns and writes, from the inner call's answer.
 -- Assumes nothing.
-use Rattle.std.specs.Prelude.{ℕ, ◌≡◌, List, Bool, not, eqb, length}
+use Rattle.std.specs.Prelude.{ℕ, ◌≡◌, List, Bool, not, eqb, length, Result}
 use Rattle.writer.specs.Call.{buffer_after, format_for, write_answer, number_of, place_of, len_of}
-use Rattle.writer.specs.declared.Written.{Written}
+use Rattle.writer.specs.declared.WriteError.{WriteError}
 
 -- a fill is given
 abbrev pub is_given : ℕ → Bool
@@ -10,7 +10,7 @@ is_given filled = not (eqb filled 0)
 
 module _ (alignment width precision representation filled : ℕ) (fill table : List ℕ) (edition : ℕ) where
   -- the inner call's answer for a buffer of so many bytes
-  abbrev pub answer_in : ℕ → Written
+  abbrev pub answer_in : ℕ → Result ℕ WriteError
   answer_in room = write_answer alignment width precision representation (is_given filled) fill table edition room
 
   -- what `koto_write_format` ensures, of the buffer `new` that it leaves of the buffer `old`

@@ -9,7 +9,7 @@
 --     called                  what a call comes to that none of them meets
 --     one_answer              no second answer, counts and rows fit
 -- Assumes nothing.
-use Rattle.std.specs.Prelude.{ℕ, ◌≡◌, Bool, true, false, List}
+use Rattle.std.specs.Prelude.{ℕ, ◌≡◌, Bool, true, false, List, Option, Some, Result, Err}
 use Rattle.std.proofs.Common.{arith, sym, ap, ◌∙◌, ne_eqb}
 use Rattle.std.proofs.Math.Path.{refl}
 use Rattle.base.specs.PickLaws.{by_test}
@@ -28,19 +28,18 @@ use Rattle.pool.specs.declared.Added.TheVariants as pool
 use Rattle.format.specs.Read.{add_both}
 use Rattle.format.specs.Parse.{add_part}
 use Rattle.format.specs.ReadLaws.{parse_two_stages}
-use Rattle.format_options.specs.declared.OptionalNumber.{OptionalNumber}
-use Rattle.format_options.specs.declared.OptionalNumber.TheVariants.{Number}
 use Rattle.parse.specs.Call.{Pool, pooled, adding_after, on_added, add_to, lent, answer, parsed, Comes, comes, call, Parses}
 use Rattle.parse.specs.Plan.{read_of}
 use Rattle.parse.specs.declared.Adding.{Adding}
 use Rattle.parse.specs.declared.After.{After}
 use Rattle.parse.specs.declared.Parsed.{Parsed}
-use Rattle.parse.specs.declared.Parsed.TheVariants.{Refused, BadState}
+use Rattle.parse.specs.declared.ParseError.{ParseError}
+use Rattle.parse.specs.declared.ParseError.TheVariants.{Refused, BadState}
 
 -- ---- one addition
 
 -- a pool by its parts
-abbrev made : List ℕ → List ℕ → Counts → OptionalNumber → Bool → Pool
+abbrev made : List ℕ → List ℕ → Counts → Option ℕ → Bool → Pool
 made bytes entries counts index full = record { bytes = bytes; entries = entries; counts = counts; index = index; full = full }
 
 module _ (p : Pool) (x : List ℕ) where
@@ -63,10 +62,10 @@ module _ (p : Pool) (x : List ℕ) where
     entries_by : {q : Added} → r ≡ q → new_entries ≡ entries_after x p.counts q p.entries
     entries_by e = a.entries_left ∙ ap (λ (y : Added). entries_after x p.counts y p.entries) (told e)
 
-    adds_index : {i : ℕ} {counts : Counts} → r ≡ pool.Index i counts → made new_bytes new_entries counts (Number i) false ≡ add_to p x
+    adds_index : {i : ℕ} {counts : Counts} → r ≡ pool.Index i counts → made new_bytes new_entries counts (Some i) false ≡ add_to p x
     adds_index {i} {counts} e =
-        ap (λ (b : List ℕ). made b new_entries counts (Number i) false) (bytes_by e)
-        ∙ ap (λ (n : List ℕ). made (bytes_after x p.counts (pool.Index i counts) p.bytes) n counts (Number i) false) (entries_by e)
+        ap (λ (b : List ℕ). made b new_entries counts (Some i) false) (bytes_by e)
+        ∙ ap (λ (n : List ℕ). made (bytes_after x p.counts (pool.Index i counts) p.bytes) n counts (Some i) false) (entries_by e)
         ∙ sym (adds_by f (told e))
 
     -- a refusal writes nothing
@@ -141,9 +140,9 @@ module _ (p : Pool) (x : List ℕ) where
       let t = added_again x p.bytes p.entries p.counts q.bytes q.entries i counts s in
       let n = ne_eqb i counts.entries (λ z. omega (arith, t.1)) in
       adds_by q x refl t.0
-      ∙ ap (λ (b : List ℕ). made b (entries_after x counts (pool.Index i counts) q.entries) counts (Number i) false)
+      ∙ ap (λ (b : List ℕ). made b (entries_after x counts (pool.Index i counts) q.entries) counts (Some i) false)
       (old_bytes x counts (pool.Index i counts) n q.bytes)
-      ∙ ap (λ (l : List ℕ). made q.bytes l counts (Number i) false) (old_entries x counts (pool.Index i counts) n q.entries)
+      ∙ ap (λ (l : List ℕ). made q.bytes l counts (Some i) false) (old_entries x counts (pool.Index i counts) n q.entries)
 
   by_answer : p.full ≡ false → (a : Added) → added x p.bytes p.entries p.counts ≡ a → add_to (add_to p x) x ≡ add_to p x
   by_answer f (pool.Index i counts) e =
@@ -190,20 +189,20 @@ module _ {format table : List ℕ} {edition : ℕ} {bytes entries : List ℕ} {c
 
   -- refusals 1, 2, 3
   pub parses_refused : {x : Refusal} → input_check format_most format table edition ≡ input.Refused x
-      → Parses format table edition bytes entries counts bytes entries (record { answer = Refused x; counts = counts })
+      → Parses format table edition bytes entries counts bytes entries (record { answer = Err (Refused x); counts = counts })
   unfolding call
   parses_refused {x} e =
-      let c : call format table edition (lent bytes entries counts) ≡ comes (Refused x) (lent bytes entries counts) = rw e in
-      parses_by {x = comes (Refused x) (lent bytes entries counts)} c refl refl refl refl
+      let c : call format table edition (lent bytes entries counts) ≡ comes (Err (Refused x)) (lent bytes entries counts) = rw e in
+      parses_by {x = comes (Err (Refused x)) (lent bytes entries counts)} c refl refl refl refl
 
   module _ (e : input_check format_most format table edition ≡ input.Fine) where
     -- refusal 8
     pub parses_unfit : fit_pool bytes entries counts ≡ false
-        → Parses format table edition bytes entries counts bytes entries (record { answer = BadState; counts = counts })
+        → Parses format table edition bytes entries counts bytes entries (record { answer = Err BadState; counts = counts })
     unfolding call
     parses_unfit f =
-        let c : call format table edition (lent bytes entries counts) ≡ comes BadState (lent bytes entries counts) = rw (e, f) in
-        parses_by {x = comes BadState (lent bytes entries counts)} c refl refl refl refl
+        let c : call format table edition (lent bytes entries counts) ≡ comes (Err BadState) (lent bytes entries counts) = rw (e, f) in
+        parses_by {x = comes (Err BadState) (lent bytes entries counts)} c refl refl refl refl
 
 -- none of them
 pub called : (format table : List ℕ) (edition : ℕ) (bytes entries : List ℕ) (counts : Counts) → input_check format_most format table edition ≡ input.Fine → fit_pool bytes entries counts ≡ true
@@ -217,7 +216,7 @@ pub one_answer : {format table : List ℕ} {edition : ℕ} {bytes entries new_by
     → Parses format table edition bytes entries counts new_bytes new_entries r → Parses format table edition bytes entries counts newBytes' newEntries' q
     → (r ≡ q) × (new_bytes ≡ newBytes') × (new_entries ≡ newEntries')
 one_answer {r = r} {q = q} a b = (
-  ap (λ (x : Parsed). record { answer = x; counts = r.counts }) (a.answer_is ∙ sym b.answer_is)
+  ap (λ (x : Result Parsed ParseError). record { answer = x; counts = r.counts }) (a.answer_is ∙ sym b.answer_is)
       ∙ ap (λ (c : Counts). record { answer = q.answer; counts = c }) (a.counts_left ∙ sym b.counts_left),
   a.bytes_left ∙ sym b.bytes_left,
   a.entries_left ∙ sym b.entries_left,

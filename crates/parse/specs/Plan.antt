@@ -1,7 +1,7 @@
 -- How a parse goes, in the flat form and in the long one: what is known before the pool is written to, the strings that are then added, at
 -- most two, and the answer from both. No public contract cites it.
 -- Assumes nothing.
-use Rattle.std.specs.Prelude.{ℕ, ◌≡◌, Bool, true, false, not, List, []}
+use Rattle.std.specs.Prelude.{ℕ, ◌≡◌, Bool, true, false, not, ◌&&◌, is_some, List, [], Option, Some, None, Result, Ok, Err}
 use Rattle.base.specs.Pick.{pick}
 use Rattle.base.specs.Refusal.{format_most}
 use Rattle.utf8.specs.Chars.{chars}
@@ -12,17 +12,14 @@ use Rattle.pool_rows.specs.Rows.{fit_pool}
 use Rattle.pool_rows.specs.declared.Counts.{Counts}
 use Rattle.format.specs.Parse.{add_fill, add_part, string_of, PartIn}
 use Rattle.format.specs.Read.{read_format}
-use Rattle.format_options.specs.declared.OptionalNumber.TheVariants.{Nothing}
-use Rattle.format_options.specs.declared.Fill.{Fill}
-use Rattle.format_options.specs.declared.Fill.TheVariants.{Is, NoFill}
 use Rattle.format.specs.declared.FormatRead.{FormatRead}
 use Rattle.parse.specs.Call.{Pool, pooled, add_to, answer_of}
 use Rattle.parse.specs.declared.Adding.{Adding}
 use Rattle.parse.specs.declared.After.{After}
 use Rattle.parse.specs.declared.Plan.{Plan}
-use Rattle.parse.specs.declared.FormatInput.{FormatInput}
-use Rattle.parse.specs.declared.FormatInput.TheVariants.{Refused, Read}
-use Rattle.parse.specs.declared.Parsed.TheVariants as said
+use Rattle.parse.specs.declared.ParseError.{ParseError}
+use Rattle.parse.specs.declared.ParseError.TheVariants.{Refused, BadState}
+use Rattle.format_options.specs.declared.Part.{Part}
 
 -- ---- before the pool is written to
 
@@ -31,36 +28,35 @@ abbrev pub read_of : List ℕ → List ℕ → ℕ → FormatRead
 read_of format table edition = read_format (properties_at table) edition (chars format)
 
 -- what `read` answers for a pool that is fit or not: refusals 1, 17, 2, 3 or 15, 8 in this order, and then the reading
-unfoldable pub input_of : List ℕ → List ℕ → ℕ → Bool → FormatInput
+unfoldable pub input_of : List ℕ → List ℕ → ℕ → Bool → Result FormatRead ParseError
 input_of format table edition fit =
-    on_input (λ (x : Refusal). Refused (said.Refused x)) (input_check format_most format table edition)
-    (pick fit (Read (read_of format table edition)) (Refused said.BadState))
+    on_input (λ (x : Refusal). Err (Refused x)) (input_check format_most format table edition)
+    (pick fit (Ok (read_of format table edition)) (Err BadState))
 
 -- ---- what is to be added
 
 -- these strings, to a pool to which nothing has been added
-abbrev pub plan_with : Fill → Fill → Counts → Plan
-plan_with first second counts = record { first = first; second = second; none = record { counts = counts; index = Nothing; full = false } }
+abbrev pub plan_with : Option Part → Option Part → Counts → Plan
+plan_with first second counts = record { first = first; second = second; none = record { counts = counts; index = None; full = false } }
 
 -- the strings of the reading, and nothing after a refusal
-abbrev pub plan_of : FormatInput → Counts → Plan
-plan_of (Refused a) counts = plan_with NoFill NoFill counts
-plan_of (Read r) counts = plan_with r.added.first r.added.second counts
+abbrev pub plan_of : Result FormatRead ParseError → Counts → Plan
+plan_of (Err e) counts = plan_with None None counts
+plan_of (Ok r) counts = plan_with r.added.first r.added.second counts
 
 -- a string can be added: it is a part of the format string, of whole characters, and the pool is fit
-abbrev pub CanAdd : List ℕ → Pool → Fill → Type 0
-CanAdd format p (Is part) = PartIn format part × (fit_pool p.bytes p.entries p.counts ≡ true)
-CanAdd format p NoFill = Unit {0}
+abbrev pub CanAdd : List ℕ → Pool → Option Part → Type 0
+CanAdd format p (Some part) = PartIn format part × (fit_pool p.bytes p.entries p.counts ≡ true)
+CanAdd format p None = Unit {0}
 
 -- whether it is added: not after an addition without room
-abbrev pub is_adding : Fill → Adding → Bool
-is_adding (Is part) a = not a.full
-is_adding NoFill a = false
+abbrev pub is_adding : Option Part → Adding → Bool
+is_adding fill a = is_some fill && not a.full
 
 -- the string of a fill
-abbrev pub fill_string : List ℕ → Fill → List ℕ
-fill_string format (Is part) = string_of format part
-fill_string format NoFill = []
+abbrev pub fill_string : List ℕ → Option Part → List ℕ
+fill_string format (Some part) = string_of format part
+fill_string format None = []
 
 -- both strings of a plan can be added
 pub record CanPlan (format : List ℕ) (plan : Plan) (bytes entries : List ℕ) : Type 0 where
@@ -76,6 +72,6 @@ add_plan format plan bytes entries =
 -- ---- the answer
 
 -- the answer, and the counts, once all is added
-abbrev pub end_by : FormatInput → Adding → After
-end_by (Refused a) two = record { answer = a; counts = two.counts }
-end_by (Read r) two = record { answer = answer_of r.options r.outcome two.index two.full; counts = two.counts }
+abbrev pub end_by : Result FormatRead ParseError → Adding → After
+end_by (Err e) two = record { answer = Err e; counts = two.counts }
+end_by (Ok r) two = record { answer = answer_of r.options r.outcome two.index two.full; counts = two.counts }

@@ -10,23 +10,25 @@ pub mod numbers;
 
 ghost use Rattle.std.specs.Prelude.{◌≡◌};
 ghost use Rattle.format.specs.Parse.{add_fill, add_part, FillIn};
-ghost use Rattle.parse.specs.Call.{pooled, adding_after, add_to, answer_of, Parses};
+ghost use Rattle.parse.specs.Call.{pooled, adding_after, add_to, error_of, answer_of, Parses};
 ghost use Rattle.parse.specs.Plan.{input_of, plan_with, plan_of, CanAdd, is_adding, fill_string, CanPlan, add_plan, end_by};
 
 use format::{FormatRead, read_format};
-use format_options::{Fill, OptionalNumber, Options, Outcome};
+use format_options::{FormatError, Options, Part};
 use input::{FORMAT_MOST, Input, Refusal};
 use pool::Added;
 use pool_rows::Counts;
 
-// What a parse answers (document 01, "Refusal numbers"; document 02, C-3 and C-8).
+// What a parse reads: the options, and the fill's index in the pool, if there is a fill.
+#[derive(Clone, Copy, Debug, PartialEq, Eq)]
+pub struct Parsed {
+    pub options: Options,
+    pub index: Option<u32>,
+}
+
+// What a parse refuses (document 01, "Refusal numbers"; document 02, C-3 and C-8).
 #[derive(Clone, Copy)]
-pub enum Parsed {
-    // The options, and the fill's index in the pool, if there is a fill.
-    Read {
-        options: Options,
-        index: OptionalNumber,
-    },
+pub enum ParseError {
     // Refusals 1 (the format string is over 65,535 bytes), 17, 2, 3 and 15: they come before any work.
     Refused(Refusal),
     // Refusal 8: the pool is unfit.
@@ -51,7 +53,7 @@ pub struct Terms {
 // The answer, and the pool's counts after it.
 #[derive(Clone, Copy)]
 pub struct After {
-    pub answer: Parsed,
+    pub answer: Result<Parsed, ParseError>,
     pub counts: Counts,
 }
 
@@ -59,96 +61,80 @@ pub struct After {
 #[derive(Clone, Copy)]
 pub struct Adding {
     pub counts: Counts,
-    pub index: OptionalNumber,
+    pub index: Option<u32>,
     pub full: bool,
-}
-
-// What is known before the pool is written to: one of refusals 1, 17, 2, 3, 15, 8, or the reading of the format string.
-#[derive(Clone, Copy)]
-pub enum FormatInput {
-    Refused(Parsed),
-    Read(FormatRead),
 }
 
 // What is to be added: at most two strings, one after the other, to a pool to which none is added yet.
 #[derive(Clone, Copy)]
 pub struct Plan {
-    pub first: Fill,
-    pub second: Fill,
+    pub first: Option<Part>,
+    pub second: Option<Part>,
     pub none: Adding,
 }
 
-// Reads a format string, for a pool that is fit or not. Refused are a format string that is too long, then a number that is no edition, then a
+// Reads a format string, for a pool that is fit or not: what is known before the pool is written to. Refused are a format string that is too long, then a number that is no edition, then a
 // table that is unfit, then bytes that are wrong or cut, then a pool that is unfit.
-pub fn read(format: &[u8], table: &[u32], terms: Terms, fit: bool) -> FormatInput
+pub fn read(
+    format: &[u8],
+    table: &[u32],
+    terms: Terms,
+    fit: bool,
+) -> Result<FormatRead, ParseError>
     ensures { result ≡ input_of format.now table.now terms.edition fit }
 {
     let edition = terms.edition;
     match input::check_input(format, table, edition, FORMAT_MOST) {
-        Input::Refused(refusal) => FormatInput::Refused(Parsed::Refused(refusal)),
+        Input::Refused(refusal) => Err(ParseError::Refused(refusal)),
         Input::Fine => {
             if fit {
-                return FormatInput::Read(read_format(format, table, edition));
+                return Ok(read_format(format, table, edition));
             }
-            FormatInput::Refused(Parsed::BadState)
+            Err(ParseError::BadState)
         }
     }
 }
 
 // A plan with these strings.
-fn plan_with(first: Fill, second: Fill, counts: Counts) -> Plan
+fn plan_with(first: Option<Part>, second: Option<Part>, counts: Counts) -> Plan
     ensures { result ≡ plan_with first second counts }
 {
-    let none = Adding {
-        counts,
-        index: OptionalNumber::Nothing,
-        full: false,
-    };
     Plan {
         first,
         second,
-        none,
+        none: Adding {
+            counts,
+            index: None,
+            full: false,
+        },
     }
 }
 
 // The plan: the strings of the reading. A refusal adds nothing.
-pub fn plan_of(input: FormatInput, terms: Terms) -> Plan
+pub fn plan_of(input: Result<FormatRead, ParseError>, terms: Terms) -> Plan
     ensures { result ≡ plan_of input terms.counts }
 {
-    let counts = terms.counts;
     match input {
-        FormatInput::Refused(_) => plan_with(Fill::NoFill, Fill::NoFill, counts),
-        FormatInput::Read(read) => {
-            let added = read.added;
-            let first = added.first;
-            let second = added.second;
-            plan_with(first, second, counts)
-        }
+        Ok(read) => plan_with(read.added.first, read.added.second, terms.counts),
+        Err(_) => plan_with(None, None, terms.counts),
     }
 }
 
 // Whether a fill is to be added: not after an addition without room.
-pub fn is_adding(fill: Fill, adding: Adding) -> bool
+pub fn is_adding(fill: Option<Part>, adding: Adding) -> bool
     ensures { result ≡ is_adding fill adding }
 {
-    match fill {
-        Fill::Is(_) => !adding.full,
-        Fill::NoFill => false,
-    }
+    fill.is_some() && !adding.full
 }
 
 // The string of a fill.
-pub fn string_of<'a>(format: &'a [u8], fill: Fill) -> &'a [u8]
+pub fn string_of<'a>(format: &'a [u8], fill: Option<Part>) -> &'a [u8]
     requires { FillIn format.now fill }
     ensures { result.now ≡ fill_string format.now fill }
 {
     match fill {
-        Fill::Is(part) => {
-            let place = part.place;
-            let end = place + part.len;
-            &format[place..end]
-        }
-        Fill::NoFill => &format[0..0],
+        Some(part) => &format[part.place..part.place + part.len],
+        None => &format[0..0],
     }
 }
 
@@ -156,18 +142,15 @@ pub fn string_of<'a>(format: &'a [u8], fill: Fill) -> &'a [u8]
 pub fn after_added(adding: Adding, added: Added) -> Adding
     ensures { result ≡ adding_after adding added }
 {
-    let had = adding.counts;
-    let last = adding.index;
     match added {
         Added::Index { index, counts } => Adding {
             counts,
-            index: OptionalNumber::Number(index),
+            index: Some(index),
             full: false,
         },
         Added::PoolFull => Adding {
-            counts: had,
-            index: last,
             full: true,
+            ..adding
         },
         Added::BadUtf8(_) => adding,
         Added::CutUtf8(_) => adding,
@@ -178,7 +161,7 @@ pub fn after_added(adding: Adding, added: Added) -> Adding
 // Adds a fill, if there is one and all before it had room.
 fn add_fill(
     format: &[u8],
-    fill: Fill,
+    fill: Option<Part>,
     bytes: &mut [u8],
     entries: &mut [u32],
     adding: Adding,
@@ -188,8 +171,7 @@ fn add_fill(
         ≡ add_fill (add_part format.now add_to) (pooled bytes.old entries.old adding) fill }
 {
     if is_adding(fill, adding) {
-        let counts = adding.counts;
-        let added = pool::add_to_fit(string_of(format, fill), bytes, entries, counts);
+        let added = pool::add_to_fit(string_of(format, fill), bytes, entries, adding.counts);
         return after_added(adding, added);
     }
     adding
@@ -200,44 +182,52 @@ fn add_both(format: &[u8], plan: Plan, bytes: &mut [u8], entries: &mut [u32]) ->
     requires { CanPlan format.now plan bytes.old entries.old }
     ensures { pooled bytes.new entries.new result ≡ add_plan format.now plan bytes.old entries.old }
 {
-    let first = plan.first;
-    let second = plan.second;
-    let none = plan.none;
-    let one = add_fill(format, first, &mut *bytes, &mut *entries, none);
-    add_fill(format, second, bytes, entries, one)
+    let one = add_fill(format, plan.first, bytes, entries, plan.none);
+    add_fill(format, plan.second, bytes, entries, one)
+}
+
+// An error of the reading, under the documents' name.
+fn error_of(error: FormatError) -> ParseError
+    ensures { result ≡ error_of error }
+{
+    match error {
+        FormatError::ExpectedNumber(code) => ParseError::ExpectedNumber(code),
+        FormatError::TooLarge(value) => ParseError::FormatNumberIsTooLarge(value),
+        FormatError::UnexpectedToken(code) => ParseError::UnexpectedToken(code),
+    }
 }
 
 // The answer, from how the reading ended and what was added.
-pub fn answer_of(options: Options, outcome: Outcome, index: OptionalNumber, full: bool) -> Parsed
+pub fn answer_of(
+    options: Options,
+    outcome: Result<(), FormatError>,
+    index: Option<u32>,
+    full: bool,
+) -> Result<Parsed, ParseError>
     ensures { result ≡ answer_of options outcome index full }
 {
     if full {
-        return Parsed::PoolFull;
+        return Err(ParseError::PoolFull);
     }
     match outcome {
-        Outcome::Fine => Parsed::Read { options, index },
-        Outcome::ExpectedNumber(code) => Parsed::ExpectedNumber(code),
-        Outcome::TooLarge(value) => Parsed::FormatNumberIsTooLarge(value),
-        Outcome::UnexpectedToken(code) => Parsed::UnexpectedToken(code),
+        Ok(()) => Ok(Parsed { options, index }),
+        Err(error) => Err(error_of(error)),
     }
 }
 
 // The answer and the counts, once all is added.
-pub fn end_by(input: FormatInput, two: Adding) -> After
+pub fn end_by(input: Result<FormatRead, ParseError>, two: Adding) -> After
     ensures { result ≡ end_by input two }
 {
-    let counts = two.counts;
-    let index = two.index;
     match input {
-        FormatInput::Refused(answer) => After { answer, counts },
-        FormatInput::Read(read) => {
-            let options = read.options;
-            let outcome = read.outcome;
-            After {
-                answer: answer_of(options, outcome, index, two.full),
-                counts,
-            }
-        }
+        Ok(read) => After {
+            answer: answer_of(read.options, read.outcome, two.index, two.full),
+            counts: two.counts,
+        },
+        Err(error) => After {
+            answer: Err(error),
+            counts: two.counts,
+        },
     }
 }
 

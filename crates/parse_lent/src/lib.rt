@@ -11,15 +11,15 @@ ghost use Rattle.parse.specs.Call.{pooled, add_to, Parses};
 ghost use Rattle.parse.specs.Plan.{CanAdd, CanPlan, add_plan};
 ghost use Rattle.parse_lent.specs.Lent.{ParsesEntries};
 
-use format_options::Fill;
-use parse::{Adding, After, Parsed, Plan, Terms};
+use format_options::Part;
+use parse::{Adding, After, ParseError, Parsed, Plan, Terms};
 use pool_lent::Entry;
 use pool_rows::Counts;
 
 // Adds a fill, if there is one and all before it had room.
 fn add_fill(
     format: &[u8],
-    fill: Fill,
+    fill: Option<Part>,
     bytes: &mut [u8],
     entries: &mut [Entry],
     adding: Adding,
@@ -90,7 +90,7 @@ pub fn parse(
     bytes: &mut [u8],
     entries: &mut [Entry],
     counts: &mut Counts,
-) -> Parsed
+) -> Result<Parsed, ParseError>
     ensures { ParsesEntries format.now table.now edition bytes.old entries.old
         counts.old bytes.new entries.new counts.new result }
 {

@@ -2,7 +2,7 @@
 -- gives. `CasesLaws.all_cases` proves all of them, over the definitions that the contracts cite. Bytes are decoded and looked up in the
 -- small table, and clusters go by edition 2.
 -- Assumes nothing.
-use Rattle.std.specs.Prelude.{ℕ, List, [], ◌∷◌, replicate}
+use Rattle.std.specs.Prelude.{ℕ, List, [], ◌∷◌, replicate, Option, Some, None, Result, Ok, Err}
 use Rattle.fitness.specs.Small.{small_table}
 use Rattle.input.specs.Input.{with_gb9c}
 use Rattle.token.specs.Kind.{error, comment_multi, id, string_start, string_end, string_literal, dot, else, else_if}
@@ -10,15 +10,12 @@ use Rattle.rows.specs.declared.Row.{Row}
 use Rattle.words.specs.Words.{bytes}
 use Rattle.pool_rows.specs.Rows.{strings_of}
 use Rattle.format_options.specs.declared.Alignment.TheVariants.{Default}
-use Rattle.format_options.specs.declared.Shown.TheVariants.{Plain}
-use Rattle.format_options.specs.declared.OptionalNumber.{OptionalNumber}
-use Rattle.format_options.specs.declared.OptionalNumber.TheVariants.{Number, Nothing}
-use Rattle.format_options.specs.declared.Fill.{Fill}
-use Rattle.format_options.specs.declared.Fill.TheVariants.{Is, NoFill}
+use Rattle.format_options.specs.declared.Part.{Part}
 use Rattle.parse.specs.Call as parse
 use Rattle.parse.specs.Call.{Pool, lent}
 use Rattle.parse.specs.declared.Parsed.{Parsed}
-use Rattle.parse.specs.declared.Parsed.TheVariants.{Read, FormatNumberIsTooLarge, UnexpectedToken}
+use Rattle.parse.specs.declared.ParseError.{ParseError}
+use Rattle.parse.specs.declared.ParseError.TheVariants.{FormatNumberIsTooLarge, UnexpectedToken}
 use Rattle.reading.specs.Scan.{scanned, written}
 use Rattle.reading.specs.declared.Scanned.{Scanned}
 use Rattle.reading.specs.declared.Scanned.TheVariants.{End, Stuck}
@@ -37,7 +34,7 @@ pub data Gives : Type 0 where
   -- a scan's answer, and the records that it writes
   records : Scanned → List Row → Gives
   -- a parse's answer, and the strings of the pool after it
-  options : Parsed → List (List ℕ) → Gives
+  options : Result Parsed ParseError → List (List ℕ) → Gives
 
 pub record Case : Type 0 where
   pub call : Call
@@ -74,13 +71,16 @@ abbrev scans : List ℕ → Scanned → List Row → Case
 scans source answer rows = record { call = scan source; gives = records answer rows }
 
 -- a format string, its answer and the pool's strings
-abbrev parses : List ℕ → Parsed → List (List ℕ) → Case
+abbrev parses : List ℕ → Result Parsed ParseError → List (List ℕ) → Case
 parses text answer strings = record { call = format text; gives = options answer strings }
 
 -- options with default alignment, no precision and no representation: a width, a fill and its index
-abbrev plain : OptionalNumber → Fill → OptionalNumber → Parsed
+abbrev plain : Option ℕ → Option Part → Option ℕ → Result Parsed ParseError
 plain width fill index =
-    Read (record { alignment = Default; width = width; precision = Nothing; representation = Plain; fill = fill }) index
+    Ok (record {
+      options = record { alignment = Default; width = width; precision = None; representation = None; fill = fill };
+      index = index;
+    })
 
 -- a record by its ten numbers, in the order in which the list program prints them: kind, detail, byte start, byte end, start line, start
 -- column, end line, end column, indent, depth
@@ -122,11 +122,11 @@ cases =
     -- U+20AC: an unknown symbol advances one byte, and inside a character nothing is left to read
     ∷ scans (0xe2 ∷ 0x82 ∷ 0xac ∷ []) (End 1 1) (row error 0 0 1 0 0 0 1 0 0 ∷ [])
     -- no format options: all defaults
-    ∷ parses [] (plain Nothing NoFill Nothing) []
+    ∷ parses [] (plain None None None) []
     -- a dot with nothing after it is a fill
-    ∷ parses (bytes ".") (plain Nothing (Is (record { place = 0; len = 1 })) (Number 0)) (bytes "." ∷ [])
-    ∷ parses (bytes "5.") (UnexpectedToken 46) []
+    ∷ parses (bytes ".") (plain None (Some (record { place = 0; len = 1 })) (Some 0)) (bytes "." ∷ [])
+    ∷ parses (bytes "5.") (Err (UnexpectedToken 46)) []
     -- the fill "0" points at its last zero, and the pool has it once
-    ∷ parses (bytes "000") (plain (Number 0) (Is (record { place = 1; len = 1 })) (Number 0)) (bytes "0" ∷ [])
-    ∷ parses (bytes "4294967296") (FormatNumberIsTooLarge 4294967296) []
+    ∷ parses (bytes "000") (plain (Some 0) (Some (record { place = 1; len = 1 })) (Some 0)) (bytes "0" ∷ [])
+    ∷ parses (bytes "4294967296") (Err (FormatNumberIsTooLarge 4294967296)) []
     ∷ []

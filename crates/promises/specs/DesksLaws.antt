@@ -4,7 +4,7 @@
 --     guarantee           whatever the other desk does, a desk gets its guaranteed room
 --     desk_alone          one desk alone is answered as the pool alone answers, so that demand 2's indices hold for it
 -- Assumes nothing.
-use Rattle.std.specs.Prelude.{ℕ, ◌<◌, ◌≤◌, ◌≡◌, refl, false, List, [], ◌∷◌, length}
+use Rattle.std.specs.Prelude.{ℕ, ◌<◌, ◌≤◌, ◌≡◌, refl, false, List, [], ◌∷◌, length, Err}
 use Rattle.std.proofs.Common.{arith, sym, ap, subst, ◌∙◌, lt-ltb, le-ltb, eq-eqb, ne_eqb}
 use Rattle.base.specs.Refusal.{none}
 use Rattle.utf8.specs.Chars.{check_from}
@@ -17,7 +17,7 @@ use Rattle.pool.specs.Pool.{one_more, added, is_new, number_of, added_index, cou
 use Rattle.pool.specs.PoolLaws.{old_bytes, old_entries, new_bytes_lem, new_entries_lem}
 use Rattle.pool.specs.declared.Added.{Added}
 use Rattle.pool.specs.declared.Added.TheVariants.{Index, BadUtf8, CutUtf8, BadState, PoolFull}
-use Rattle.parse.specs.declared.Parsed.TheVariants as said
+use Rattle.parse.specs.declared.ParseError.TheVariants as said
 use Rattle.desks.specs.Desks.{Shared, shared, desk_of, other, fit_desks, Fits}
 use Rattle.desks.specs.FitLaws.{fit_of, fit_by_lem}
 use Rattle.desks.specs.declared.Which.{Which}
@@ -150,8 +150,8 @@ desk_parse_promise format table edition which s {new_bytes} {new_entries} {newOw
     subst (λ (t : Shared). DeskParsePromise format table edition which s t r)
     (λ i. shared (sym p.bytes_left i) (sym p.entries_left i) (sym p.owners_left i) (sym p.counts_left i) (sym p.desks_left i))
     (record {
-      refused = λ x e. comes_to (comes (said.Refused x) s) (parse.refused_is format table edition which s e);
-      bad_state_lem = λ e f. comes_to (comes said.BadState s) (parse.bad_state_is format table edition which s e f);
+      refused = λ x e. comes_to (comes (Err (said.Refused x)) s) (parse.refused_is format table edition which s e);
+      bad_state_lem = λ e f. comes_to (comes (Err said.BadState) s) (parse.bad_state_is format table edition which s e f);
       reads = λ e f. comes_to (ended (parsed format table edition which s)) (parse.reads_is format table edition which s e f);
       fits = parse.parse_fits format table edition which s;
       others = parse.parse_keeps format table edition which s;

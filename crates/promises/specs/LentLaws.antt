@@ -3,7 +3,7 @@
 --     lent_add_string_promise, lent_add_string_has_one_answer
 --     lent_parse_promise, lent_parse_has_one_answer
 -- Assumes nothing.
-use Rattle.std.specs.Prelude.{◌≡◌, List, ℕ}
+use Rattle.std.specs.Prelude.{◌≡◌, List, ℕ, Result}
 use Rattle.pool.specs.Pool.{counts_after}
 use Rattle.pool_rows.specs.declared.Counts.{Counts}
 use Rattle.pool.specs.declared.Added.{Added}
@@ -11,6 +11,7 @@ use Rattle.pool_lent.specs.Entries.{numbers_of, AddsEntry}
 use Rattle.pool_lent.specs.EntriesLaws as entries
 use Rattle.pool_lent.specs.declared.Entry.{Entry}
 use Rattle.parse.specs.declared.Parsed.{Parsed}
+use Rattle.parse.specs.declared.ParseError.{ParseError}
 use Rattle.parse_lent.specs.Lent.{ParsesEntries}
 use Rattle.parse_lent.specs.LentLaws as lent
 use Rattle.promises.specs.Pool.{AddStringPromise}
@@ -34,13 +35,13 @@ lent_add_string_has_one_answer v w = entries.one_outcome v w
 
 -- ---- parsing format options
 
-pub lent_parse_promise : {format table : List ℕ} {edition : ℕ} {bytes new_bytes : List ℕ} {entries new_entries : List Entry} {counts newCounts : Counts} {r : Parsed}
+pub lent_parse_promise : {format table : List ℕ} {edition : ℕ} {bytes new_bytes : List ℕ} {entries new_entries : List Entry} {counts newCounts : Counts} {r : Result Parsed ParseError}
     → ParsesEntries format table edition bytes entries counts new_bytes new_entries newCounts r
     → ParsePromise format table edition bytes (numbers_of entries) counts new_bytes (numbers_of new_entries) (record { answer = r; counts = newCounts })
 lent_parse_promise p = parse_promise _ _ _ _ _ _ _ _ _ p.flat
 
 pub lent_parse_has_one_answer : {format table : List ℕ} {edition : ℕ} {bytes new_bytes newBytes' : List ℕ} {entries new_entries newEntries' : List Entry}
-    {counts newCounts newCounts' : Counts} {r q : Parsed}
+    {counts newCounts newCounts' : Counts} {r q : Result Parsed ParseError}
     → ParsesEntries format table edition bytes entries counts new_bytes new_entries newCounts r
     → ParsesEntries format table edition bytes entries counts newBytes' newEntries' newCounts' q
     → (r ≡ q) × (new_bytes ≡ newBytes') × (new_entries ≡ newEntries') × (newCounts ≡ newCounts')

@@ -1,7 +1,7 @@
 -- The promise of `parse::parse`, case by case in the documents' order: 1, 17, 2, 3 or 15, 8, which leave the pool as it is, and then what
 -- string_format_options.rs's one pass over the format string comes to, with 13 where an addition found no room.
 -- Assumes nothing.
-use Rattle.std.specs.Prelude.{ℕ, ◌<◌, ◌≤◌, ◌≡◌, true, false, List, length}
+use Rattle.std.specs.Prelude.{ℕ, ◌<◌, ◌≤◌, ◌≡◌, true, false, List, length, Ok, Err}
 use Rattle.base.specs.Refusal.{too_long, bad_edition, bad_table, bad_utf8, cut_utf8, bad_state, expected_number, format_number_is_too_large, unexpected_token, pool_full, format_most}
 use Rattle.utf8.specs.Encode.{WellFormed}
 use Rattle.utf8.specs.Meaning.{Arriving, Damaged}
@@ -10,10 +10,9 @@ use Rattle.input.specs.Input.{is_edition}
 use Rattle.fitness.specs.declared.TableCheck.TheVariants.{Fit, BadTable}
 use Rattle.pool_rows.specs.Rows.{fit_pool}
 use Rattle.pool_rows.specs.declared.Counts.{Counts}
-use Rattle.format_options.specs.declared.Outcome.TheVariants.{Fine, ExpectedNumber, TooLarge, UnexpectedToken}
+use Rattle.format_options.specs.declared.FormatError.TheVariants.{ExpectedNumber, TooLarge, UnexpectedToken}
 use Rattle.parse.specs.Call.{lent, parsed, number_of, value_of}
 use Rattle.parse.specs.declared.After.{After}
-use Rattle.parse.specs.declared.Parsed.TheVariants.{Read}
 use Rattle.promises.specs.Said.{Said, says}
 
 abbrev pub parse_says : After → Said
@@ -50,18 +49,21 @@ pub record ParsePromise (format table : List ℕ) (edition : ℕ) (bytes entries
   -- the Rust's answer: the options with the fill's index, or 10, 11, 12
   pub fine :
       Parsable format table edition bytes entries counts → (parsed format table edition (lent bytes entries counts)).pool.full ≡ false
-      → (parsed format table edition (lent bytes entries counts)).outcome ≡ Fine
+      → (parsed format table edition (lent bytes entries counts)).outcome ≡ Ok tt
       → r.answer
-      ≡ Read (parsed format table edition (lent bytes entries counts)).options (parsed format table edition (lent bytes entries counts)).pool.index
+      ≡ Ok (record {
+        options = (parsed format table edition (lent bytes entries counts)).options;
+        index = (parsed format table edition (lent bytes entries counts)).pool.index;
+      })
   pub no_number_lem :
       Parsable format table edition bytes entries counts → (parsed format table edition (lent bytes entries counts)).pool.full ≡ false → (c : ℕ)
-      → (parsed format table edition (lent bytes entries counts)).outcome ≡ ExpectedNumber c → parse_says r ≡ says expected_number c
+      → (parsed format table edition (lent bytes entries counts)).outcome ≡ Err (ExpectedNumber c) → parse_says r ≡ says expected_number c
   pub too_large :
       Parsable format table edition bytes entries counts → (parsed format table edition (lent bytes entries counts)).pool.full ≡ false → (n : ℕ)
-      → (parsed format table edition (lent bytes entries counts)).outcome ≡ TooLarge n → parse_says r ≡ says format_number_is_too_large n
+      → (parsed format table edition (lent bytes entries counts)).outcome ≡ Err (TooLarge n) → parse_says r ≡ says format_number_is_too_large n
   pub unexpected :
       Parsable format table edition bytes entries counts → (parsed format table edition (lent bytes entries counts)).pool.full ≡ false → (c : ℕ)
-      → (parsed format table edition (lent bytes entries counts)).outcome ≡ UnexpectedToken c → parse_says r ≡ says unexpected_token c
+      → (parsed format table edition (lent bytes entries counts)).outcome ≡ Err (UnexpectedToken c) → parse_says r ≡ says unexpected_token c
   -- what was added stays, also after 10 to 13: every word of the pool
   pub left :
       Parsable format table edition bytes entries counts

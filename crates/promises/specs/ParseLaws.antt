@@ -1,7 +1,7 @@
 -- The promise of `Parse`, proved, and that no second answer, counts and rows fit.
 --     parse_promise, parse_has_one_answer
 -- Assumes nothing.
-use Rattle.std.specs.Prelude.{ℕ, ◌≡◌, refl, Bool, true, false, List}
+use Rattle.std.specs.Prelude.{ℕ, ◌≡◌, refl, Bool, true, false, List, Option, Result, Ok, Err}
 use Rattle.std.proofs.Common.{arith, sym, ap, subst, ◌∙◌}
 use Rattle.base.specs.Pick.{pick}
 use Rattle.base.specs.PickLaws.{by_test}
@@ -13,30 +13,30 @@ use Rattle.input.specs.declared.Input.{Input}
 use Rattle.input.specs.declared.Input.TheVariants.{Fine, Refused}
 use Rattle.pool_rows.specs.Rows.{fit_pool}
 use Rattle.pool_rows.specs.declared.Counts.{Counts}
-use Rattle.format_options.specs.declared.OptionalNumber.{OptionalNumber}
 use Rattle.format_options.specs.declared.Options.{Options}
-use Rattle.format_options.specs.declared.Outcome.{Outcome}
-use Rattle.format_options.specs.declared.Outcome.TheVariants as outcome
+use Rattle.format_options.specs.declared.FormatError.TheVariants as outcome
+use Rattle.format_options.specs.declared.FormatError.{FormatError}
 use Rattle.parse.specs.Call.{lent, on_outcome, answer_of, answer, parsed, Comes, comes, call, Parses, number_of, value_of}
 use Rattle.parse.specs.CallLaws.{called, one_answer, parses_refused, parses_unfit}
 use Rattle.parse.specs.declared.After.{After}
 use Rattle.parse.specs.declared.Parsed.{Parsed}
-use Rattle.parse.specs.declared.Parsed.TheVariants.{BadState}
+use Rattle.parse.specs.declared.ParseError.{ParseError}
+use Rattle.parse.specs.declared.ParseError.TheVariants.{BadState}
 use Rattle.promises.specs.Said.{Said, says}
 use Rattle.promises.specs.Parse.{parse_says, Parsable, ParsePromise}
 
 -- a reading's answer is neither 3 nor 15
-abbrev Works : Parsed → Type 0
+abbrev Works : Result Parsed ParseError → Type 0
 Works x = (number_of x ≡ bad_utf8 → ⊥) × (number_of x ≡ cut_utf8 → ⊥)
 
-works : (options : Options) (o : Outcome) (index : OptionalNumber) (full : Bool) → Works (answer_of options o index full)
+works : (options : Options) (o : Result Unit FormatError) (index : Option ℕ) (full : Bool) → Works (answer_of options o index full)
 works options o index full = by_test Works full (λ _. (λ m. omega arith, λ m. omega arith)) (λ _. ends o)
   where
-    ends : (o : Outcome) → Works (on_outcome o options index)
-    ends outcome.Fine = (λ m. omega arith, λ m. omega arith)
-    ends (outcome.ExpectedNumber c) = (λ m. omega arith, λ m. omega arith)
-    ends (outcome.TooLarge n) = (λ m. omega arith, λ m. omega arith)
-    ends (outcome.UnexpectedToken c) = (λ m. omega arith, λ m. omega arith)
+    ends : (o : Result Unit FormatError) → Works (on_outcome o options index)
+    ends (Ok u) = (λ m. omega arith, λ m. omega arith)
+    ends (Err (outcome.ExpectedNumber c)) = (λ m. omega arith, λ m. omega arith)
+    ends (Err (outcome.TooLarge n)) = (λ m. omega arith, λ m. omega arith)
+    ends (Err (outcome.UnexpectedToken c)) = (λ m. omega arith, λ m. omega arith)
 
 module _ (format table : List ℕ) (edition : ℕ) (bytes entries : List ℕ) (counts : Counts) where
   abbrev told_number : Comes → ℕ
@@ -50,7 +50,7 @@ module _ (format table : List ℕ) (edition : ℕ) (bytes entries : List ℕ) (c
   worked =
       pick (fit_pool bytes entries counts)
       (comes (answer (parsed format table edition (lent bytes entries counts))) (parsed format table edition (lent bytes entries counts)).pool)
-      (comes BadState (lent bytes entries counts))
+      (comes (Err BadState) (lent bytes entries counts))
 
   fine_worked : Works worked.answer
   fine_worked =
@@ -73,7 +73,7 @@ module _ (format table : List ℕ) (edition : ℕ) (bytes entries : List ℕ) (c
   Kept new_bytes new_entries r = (r.counts ≡ counts) × (new_bytes ≡ bytes) × (new_entries ≡ entries)
 
   -- a refusal that leaves all as it is
-  abbrev refusal : Parsed → After
+  abbrev refusal : Result Parsed ParseError → After
   refusal x = record { answer = x; counts = counts }
 
   module _ (new_bytes new_entries : List ℕ) (r : After) (p : Parses format table edition bytes entries counts new_bytes new_entries r) where
@@ -81,7 +81,7 @@ module _ (format table : List ℕ) (edition : ℕ) (bytes entries : List ℕ) (c
     same : {q : After} → Parses format table edition bytes entries counts bytes entries q → parse_says r ≡ parse_says q
     same v = ap parse_says (one_answer p v).0
 
-    stays : {x : Parsed} → Parses format table edition bytes entries counts bytes entries (refusal x) → Kept new_bytes new_entries r
+    stays : {x : Result Parsed ParseError} → Parses format table edition bytes entries counts bytes entries (refusal x) → Kept new_bytes new_entries r
     stays v = let o = one_answer p v in (ap (λ (y : After). y.counts) o.0, o.1, o.2)
 
     -- one of refusals 1, 2, 3, 8 is given, or none
@@ -108,17 +108,17 @@ module _ (format table : List ℕ) (edition : ℕ) (bytes entries : List ℕ) (c
       answered = p.answer_is ∙ ap (λ (x : Comes). x.answer) comes_to
 
     -- by how the pass ended
-    by_end : (g : Parsable format table edition bytes entries counts) (b : Bool) {o : Outcome} → (parsed format table edition (lent bytes entries counts)).pool.full ≡ b
+    by_end : (g : Parsable format table edition bytes entries counts) (b : Bool) {o : Result Unit FormatError} → (parsed format table edition (lent bytes entries counts)).pool.full ≡ b
         → (parsed format table edition (lent bytes entries counts)).outcome ≡ o
         → r.answer ≡ answer_of (parsed format table edition (lent bytes entries counts)).options o (parsed format table edition (lent bytes entries counts)).pool.index b
     by_end g b f e =
         answered g
         ∙ ap (λ (x : Bool). answer_of (parsed format table edition (lent bytes entries counts)).options (parsed format table edition (lent bytes entries counts)).outcome
         (parsed format table edition (lent bytes entries counts)).pool.index x) f
-        ∙ ap (λ (x : Outcome). answer_of (parsed format table edition (lent bytes entries counts)).options x
+        ∙ ap (λ (x : Result Unit FormatError). answer_of (parsed format table edition (lent bytes entries counts)).options x
         (parsed format table edition (lent bytes entries counts)).pool.index b) e
 
-    abbrev told : Parsed → Said
+    abbrev told : Result Parsed ParseError → Said
     told x = says (number_of x) (value_of x)
 
     pub parse_promise : ParsePromise format table edition bytes entries counts new_bytes new_entries r
@@ -130,8 +130,8 @@ module _ (format table : List ℕ) (edition : ℕ) (bytes entries : List ℕ) (c
           bad_utf8_lem = λ h k t n w. same (parses_refused (is_bad format_most format table edition h k t n w));
           cut_utf8_lem = λ h k t n w. same (parses_refused (is_cut format_most format table edition h k t n w));
           bad_state_lem = λ h k t w f. same (parses_unfit (is_fine_lem format_most format table edition (record { short = h; known = k; fit = t; well = w })) f);
-          only_bad = λ m. subst (λ (x : Parsed). Damaged format (value_of x)) (sym p.answer_is) (bad_only (ap number_of (sym p.answer_is) ∙ m));
-          only_cut = λ m. subst (λ (x : Parsed). Arriving format (value_of x)) (sym p.answer_is) (cut_only (ap number_of (sym p.answer_is) ∙ m));
+          only_bad = λ m. subst (λ (x : Result Parsed ParseError). Damaged format (value_of x)) (sym p.answer_is) (bad_only (ap number_of (sym p.answer_is) ∙ m));
+          only_cut = λ m. subst (λ (x : Result Parsed ParseError). Arriving format (value_of x)) (sym p.answer_is) (cut_only (ap number_of (sym p.answer_is) ∙ m));
           kept = by_input_lem (input_check format_most format table edition) refl;
           full = λ g f. ap told (by_end g true f refl);
           fine = λ g f e. by_end g false f e;

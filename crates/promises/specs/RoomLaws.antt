@@ -3,7 +3,7 @@
 --     empty_is_fit        a pool with nothing in use is fit
 --     parse_has_room      with two entries and twice the bytes free, no addition of a parse finds no room
 -- Assumes nothing.
-use Rattle.std.specs.Prelude.{ℕ, ◌+◌, ◌*◌, ◌≤◌, ◌≡◌, refl, Bool, true, false, ltb, drop, set}
+use Rattle.std.specs.Prelude.{ℕ, ◌+◌, ◌*◌, ◌≤◌, ◌≡◌, refl, Bool, true, false, ltb, drop, set, Option, Some, None}
 use native.Mathlib.Omega.{arith}
 use Rattle.std.proofs.Common.{sym, ap, ◌∙◌, length-drop, length-take-le}
 use Rattle.std.proofs.Math.Path.{subst}
@@ -23,13 +23,12 @@ use Rattle.pool.specs.Pool.{placed, on_utf8, added, is_new, bytes_after, entries
 use Rattle.pool.specs.WrittenLaws.{length_written}
 use Rattle.pool.specs.declared.Added.{Added}
 use Rattle.pool.specs.declared.Added.TheVariants.{Index, BadUtf8, CutUtf8, BadState, PoolFull}
-use Rattle.format_options.specs.declared.Fill.{Fill}
-use Rattle.format_options.specs.declared.Fill.TheVariants.{Is, NoFill}
 use Rattle.format.specs.Parse.{string_of, add_fill, add_part, FillIn, OnePass}
 use Rattle.format.specs.ReadLaws.{added_in}
 use Rattle.parse.specs.Call.{Pool, on_added, add_to, parsed}
 use Rattle.parse.specs.CallLaws.{two_stages}
 use Rattle.parse.specs.Plan.{read_of}
+use Rattle.format_options.specs.declared.Part.{Part}
 
 -- nothing in use
 abbrev pub nothing_used : Counts
@@ -110,13 +109,13 @@ module _ (p : Pool) (x : List ℕ) (n b : ℕ) (f : Free (n + 1) (b + length x) 
       go PoolFull v = absurd v
 
 -- a string of the format string s, if there is one
-fill_free : (s : List ℕ) (p : Pool) (fill : Fill) (n b : ℕ) → FillIn s fill → Free (n + 1) (b + length s) p → Free n b (add_fill (add_part s add_to) p fill)
-fill_free s p (Is part) n b i f =
+fill_free : (s : List ℕ) (p : Pool) (fill : Option Part) (n b : ℕ) → FillIn s fill → Free (n + 1) (b + length s) p → Free n b (add_fill (add_part s add_to) p fill)
+fill_free s p (Some part) n b i f =
     let short : length (string_of s part) ≤ length s =
     omega (arith, i.within, length-take-le part.len (drop part.place s) (omega (arith, i.within, length-drop part.place s))) in
     adds_free p (string_of s part) n b
     (record { not_full = f.not_full; entries_free = f.entries_free; bytes_free = omega (arith, f.bytes_free) })
-fill_free s p NoFill n b i f =
+fill_free s p None n b i f =
     record { not_full = f.not_full; entries_free = omega (arith, f.entries_free); bytes_free = omega (arith, f.bytes_free) }
 
 module _ (s table : List ℕ) (edition : ℕ) (w : WellFormed s) where

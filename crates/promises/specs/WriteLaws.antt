@@ -5,7 +5,7 @@
 --     read_by_call            and with every fit pool in which no addition of this parse finds no room
 --     call_reads              what it answers as options, with any pool, is read back
 -- Assumes nothing.
-use Rattle.std.specs.Prelude.{ℕ, ◌+◌, ◌*◌, ◌<◌, ◌≤◌, Bool, ltb, length, take, drop}
+use Rattle.std.specs.Prelude.{ℕ, ◌+◌, ◌*◌, ◌<◌, ◌≤◌, Bool, ltb, length, take, drop, Result, Ok, Err, Option}
 use Rattle.std.proofs.Common.{arith, subst, ◌∙◌, lt-ltb, le-ltb, ltb-false}
 use Rattle.std.proofs.Math.Path.{◌≡◌, refl, sym, ap}
 use Rattle.std.proofs.Math.Bool.{true, false}
@@ -29,19 +29,21 @@ use Rattle.pool.specs.Pool.{written}
 use Rattle.pool_rows.specs.Rows.{byte_room, entry_room, fit_pool}
 use Rattle.format.specs.Parse.{OnePass, parse, string_of}
 use Rattle.format.specs.ParseLaws.{parse_adds}
-use Rattle.format_options.specs.declared.Outcome.{Outcome}
-use Rattle.format_options.specs.declared.Outcome.TheVariants.{Fine, ExpectedNumber, TooLarge, UnexpectedToken}
+use Rattle.format_options.specs.declared.Options.{Options}
+use Rattle.format_options.specs.declared.FormatError.TheVariants.{ExpectedNumber, TooLarge, UnexpectedToken}
 use Rattle.format_options.specs.declared.Part.{Part}
+use Rattle.format_options.specs.declared.FormatError.{FormatError}
 use Rattle.parse.specs.Call.{Pool, add_to, lent, on_outcome, parsed, call}
-use Rattle.parse.specs.declared.Parsed.TheVariants.{Read, BadState, PoolFull}
-use Rattle.parse.specs.declared.Parsed.TheVariants as wrong
+use Rattle.parse.specs.declared.Parsed.{Parsed}
+use Rattle.parse.specs.declared.ParseError.{ParseError}
+use Rattle.parse.specs.declared.ParseError.TheVariants as wrong
 use Rattle.wanted.specs.Wanted.{Asked, asked_of, ReadsBack, First, NoSuch}
 use Rattle.wanted.specs.Candidate.{can_write}
 use Rattle.wanted.proofs.WriteLaws.{first, no_such, one_first}
 use Rattle.writer.specs.Call.{answer_if, buffer_after, format_for, Writes, number_of, len_of}
 use Rattle.writer.specs.CallLaws.{one_answer, kept}
-use Rattle.writer.specs.declared.Written.{Written}
-use Rattle.writer.specs.declared.Written.TheVariants.{Length, Refused, NoRoom}
+use Rattle.writer.specs.declared.WriteError.{WriteError}
+use Rattle.writer.specs.declared.WriteError.TheVariants.{Refused, NoRoom}
 use Rattle.promises.specs.Said.{says}
 use Rattle.promises.specs.RoomLaws.{nothing_used, Free, parse_has_room, empty_is_fit}
 use Rattle.promises.specs.Write.{write_says, ReadByCall, asked, WritePromise}
@@ -59,6 +61,15 @@ module _ (table : List ℕ) (edition : ℕ) where
 -- ---- reading back, by the public call
 
 module _ (table : List ℕ) (edition : ℕ) (p : Pool) (s : List ℕ) where
+  -- what a parse that read so answers
+  abbrev read : Options → Option ℕ → Result Parsed ParseError
+  read options index = Ok (record { options = options; index = index })
+
+  -- the options of an answer, and others where it has none
+  abbrev options_in : Options → Result Parsed ParseError → Options
+  options_in o (Ok r) = r.options
+  options_in o (Err x) = o
+
   abbrev look : ℕ → ℕ
   look = properties_at table
 
@@ -87,7 +98,7 @@ module _ (table : List ℕ) (edition : ℕ) (p : Pool) (s : List ℕ) where
           index = (parsed s table edition p).pool.index;
           answer =
               called e
-              ∙ ap (λ (x : Outcome). on_outcome x (parse look edition (chars s)).options (parsed s table edition p).pool.index) v.fine;
+              ∙ ap (λ (x : Result Unit FormatError). on_outcome x (parse look edition (chars s)).options (parsed s table edition p).pool.index) v.fine;
           same = v.same;
         }
 
@@ -99,19 +110,19 @@ module _ (table : List ℕ) (edition : ℕ) (p : Pool) (s : List ℕ) where
       (parsed s table edition p).outcome refl
     where
       go : (c : Input) → input_check format_most s table edition ≡ c → (t : Bool) → fit_pool p.bytes p.entries p.counts ≡ t
-          → (u : Bool) → (parsed s table edition p).pool.full ≡ u → (x : Outcome) → (parsed s table edition p).outcome ≡ x → ReadsBack look edition a s
+          → (u : Bool) → (parsed s table edition p).pool.full ≡ u → (x : Result Unit FormatError) → (parsed s table edition p).outcome ≡ x → ReadsBack look edition a s
       go (check.Refused y) e t f u g x h =
-          let w : wrong.Refused y ≡ Read v.options v.index = rw e at v.answer in
+          let w : Err (wrong.Refused y) ≡ read v.options v.index = rw e at v.answer in
           absurd (let z : ◌≡◌ {A = ℕ} 0 1 = cc in omega arith)
       go check.Fine e false f u g x h =
-          let w : BadState ≡ Read v.options v.index = rw (e, f) at v.answer in
+          let w : Err wrong.BadState ≡ read v.options v.index = rw (e, f) at v.answer in
           absurd (let z : ◌≡◌ {A = ℕ} 0 1 = cc in omega arith)
       go check.Fine e true f true g x h =
-          let w : PoolFull ≡ Read v.options v.index = rw (e, f, g) at v.answer in
+          let w : Err wrong.PoolFull ≡ read v.options v.index = rw (e, f, g) at v.answer in
           absurd (let z : ◌≡◌ {A = ℕ} 0 1 = cc in omega arith)
-      go check.Fine e true f false g Fine h =
-          let w : Read (parsed s table edition p).options (parsed s table edition p).pool.index ≡ Read v.options v.index = rw (e, f, g, h) at v.answer in
-          let q : (parsed s table edition p).options ≡ v.options = cc in
+      go check.Fine e true f false g (Ok u) h =
+          let w : read (parsed s table edition p).options (parsed s table edition p).pool.index ≡ read v.options v.index = rw (e, f, g, h) at v.answer in
+          let q : (parsed s table edition p).options ≡ v.options = ap (options_in v.options) w in
           let b = fine_of format_most s table edition e in
           record {
             small = b.short;
@@ -119,14 +130,14 @@ module _ (table : List ℕ) (edition : ℕ) (p : Pool) (s : List ℕ) where
             fine = sym same_parse.1 ∙ h;
             same = ap (asked_of s) (sym same_parse.0 ∙ q) ∙ v.same;
           }
-      go check.Fine e true f false g (ExpectedNumber c) h =
-          let w : wrong.ExpectedNumber c ≡ Read v.options v.index = rw (e, f, g, h) at v.answer in
+      go check.Fine e true f false g (Err (ExpectedNumber c)) h =
+          let w : Err (wrong.ExpectedNumber c) ≡ read v.options v.index = rw (e, f, g, h) at v.answer in
           absurd (let z : ◌≡◌ {A = ℕ} 0 1 = cc in omega arith)
-      go check.Fine e true f false g (TooLarge n) h =
-          let w : wrong.FormatNumberIsTooLarge n ≡ Read v.options v.index = rw (e, f, g, h) at v.answer in
+      go check.Fine e true f false g (Err (TooLarge n)) h =
+          let w : Err (wrong.FormatNumberIsTooLarge n) ≡ read v.options v.index = rw (e, f, g, h) at v.answer in
           absurd (let z : ◌≡◌ {A = ℕ} 0 1 = cc in omega arith)
-      go check.Fine e true f false g (UnexpectedToken c) h =
-          let w : wrong.UnexpectedToken c ≡ Read v.options v.index = rw (e, f, g, h) at v.answer in
+      go check.Fine e true f false g (Err (UnexpectedToken c)) h =
+          let w : Err (wrong.UnexpectedToken c) ≡ read v.options v.index = rw (e, f, g, h) at v.answer in
           absurd (let z : ◌≡◌ {A = ℕ} 0 1 = cc in omega arith)
 
 -- with an empty pool that has room: two entries, and twice as many bytes as the string has
@@ -168,24 +179,24 @@ module _ (alignment width precision representation : ℕ) (given : Bool) (fill t
       go true e = (e, one_first lookup edition a format s (first lookup edition a e) v)
       go false e = absurd (no_such lookup edition a e s v.reads_back)
 
-  module _ (old new : List ℕ) (r : Written) (p : Writes alignment width precision representation given fill table edition old new r) where
-    answered : {c : Input} → first_check table edition ≡ c → {t : Bool} → can_write lookup edition a ≡ t → r ≡ on_input Refused c (answer_if t (length old) format)
-    answered e f = p.answer ∙ (λ i. on_input Refused (e i) (answer_if (f i) (length old) format))
+  module _ (old new : List ℕ) (r : Result ℕ WriteError) (p : Writes alignment width precision representation given fill table edition old new r) where
+    answered : {c : Input} → first_check table edition ≡ c → {t : Bool} → can_write lookup edition a ≡ t → r ≡ on_input (λ (y : Refusal). Err (Refused y)) c (answer_if t (length old) format)
+    answered e f = p.answer ∙ (λ i. on_input (λ (y : Refusal). Err (Refused y)) (e i) (answer_if (f i) (length old) format))
 
-    left : {x : Written} → r ≡ x → new ≡ buffer_after x format old
-    left e = p.contents ∙ ap (λ (y : Written). buffer_after y format old) (sym p.answer ∙ e)
+    left : {x : Result ℕ WriteError} → r ≡ x → new ≡ buffer_after x format old
+    left e = p.contents ∙ ap (λ (y : Result ℕ WriteError). buffer_after y format old) (sym p.answer ∙ e)
 
     full_room : (s : List ℕ) → format ≡ s → length s ≤ length old → r ≡ answer_if true (length old) format
         → (write_says r ≡ says none 0) × (len_of r ≡ length s) × (new ≡ written old 0 s)
     full_room s q h e =
         let d = ap length q in
-        let w : r ≡ Length (length format) = e ∙ rw (le-ltb (length old) (length format) (omega arith)) refl in
+        let w : r ≡ Ok (length format) = e ∙ rw (le-ltb (length old) (length format) (omega arith)) refl in
         (ap write_says w, ap len_of w ∙ d, left w ∙ ap (written old 0) q)
 
     too_short : (s : List ℕ) → format ≡ s → length old < length s → r ≡ answer_if true (length old) format → write_says r ≡ says no_room 0
     too_short s q h e =
         let d = ap length q in
-        let w : r ≡ NoRoom = e ∙ rw (lt-ltb (length old) (length format) (omega arith)) refl in
+        let w : r ≡ Err NoRoom = e ∙ rw (lt-ltb (length old) (length format) (omega arith)) refl in
         ap write_says w
 
     -- 1, 17, 2, 3 and 15 are neither 0 nor 18
@@ -218,7 +229,7 @@ module _ (alignment width precision representation : ℕ) (given : Bool) (fill t
     only_none : number_of r ≡ no_such_format → NoSuch lookup edition a
     only_none n = go (first_check table edition) refl (can_write lookup edition a) refl
       where
-        room : (t : Bool) → number_of (pick t NoRoom (Length (length format))) ≡ no_such_format → ⊥
+        room : (t : Bool) → number_of (pick t (Err NoRoom) (Ok (length format))) ≡ no_such_format → ⊥
         room true m = omega arith
         room false m = omega arith
 
@@ -241,6 +252,6 @@ module _ (alignment width precision representation : ℕ) (given : Bool) (fill t
         }
 
   pub write_has_one_answer :
-      (old new new' : List ℕ) (r q : Written) → Writes alignment width precision representation given fill table edition old new r
+      (old new new' : List ℕ) (r q : Result ℕ WriteError) → Writes alignment width precision representation given fill table edition old new r
       → Writes alignment width precision representation given fill table edition old new' q → (r ≡ q) × (new ≡ new')
   write_has_one_answer old new new' r q v w = one_answer alignment width precision representation given fill table edition old v w

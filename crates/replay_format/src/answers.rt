@@ -3,60 +3,56 @@
 // and the fill's place and length (tools/README.md).
 ghost use Rattle.std.specs.Prelude.{◌≡◌};
 
-use format_options::{Fill, OptionalNumber, Options, Shown};
+use format_options::{Options, Part, Representation};
 use lines::same;
-use parse::{Parsed, answer};
+use parse::{ParseError, Parsed, answer};
 
 // 0 for none, else one more than the number.
-fn given_number(given: OptionalNumber) -> usize {
+fn given_number(given: Option<u32>) -> usize {
     match given {
-        OptionalNumber::Number(n) => 1 + n as usize,
-        OptionalNumber::Nothing => 0,
+        Some(n) => 1 + n as usize,
+        None => 0,
     }
 }
 
 // The same of a representation.
-fn shown_number(shown: Shown) -> usize {
+fn shown_number(shown: Option<Representation>) -> usize {
     match shown {
-        Shown::As(representation) => 1
-            + format_options::representation_number(representation) as usize,
-        Shown::Plain => 0,
+        Some(representation) => {
+            1 + format_options::representation_number(representation) as usize
+        }
+        None => 0,
     }
 }
 
 // A fill; answers the place after it, or 0 where it differs.
-fn same_fill(text: &[u8], at: usize, fill: Fill) -> usize {
+fn same_fill(text: &[u8], at: usize, fill: Option<Part>) -> usize {
     match fill {
-        Fill::Is(part) => {
+        Some(part) => {
             let at = same(text, at, 1);
             let at = same(text, at, part.place);
             same(text, at, part.len)
         }
-        Fill::NoFill => same(text, at, 0),
+        None => same(text, at, 0),
     }
 }
 
 // The same of options with the fill's index.
-fn same_options(text: &[u8], at: usize, options: Options, index: OptionalNumber) -> usize {
-    let alignment = options.alignment;
-    let width = options.width;
-    let precision = options.precision;
-    let representation = options.representation;
-    let fill = options.fill;
+fn same_options(text: &[u8], at: usize, options: Options, index: Option<u32>) -> usize {
     let at = same(
         text,
         at,
-        format_options::alignment_number(alignment) as usize,
+        format_options::alignment_number(options.alignment) as usize,
     );
-    let at = same(text, at, given_number(width));
-    let at = same(text, at, given_number(precision));
-    let at = same(text, at, shown_number(representation));
+    let at = same(text, at, given_number(options.width));
+    let at = same(text, at, given_number(options.precision));
+    let at = same(text, at, shown_number(options.representation));
     let at = same(text, at, given_number(index));
-    same_fill(text, at, fill)
+    same_fill(text, at, options.fill)
 }
 
 // The same of an answer: its number, and then the options, or the refusal's place or value. A difference before it stays.
-pub fn same_answer(text: &[u8], at: usize, parsed: Parsed) -> usize
+pub fn same_answer(text: &[u8], at: usize, parsed: Result<Parsed, ParseError>) -> usize
     ensures { at ≡ 0 → result ≡ 0 }
 {
     if at == 0 {
@@ -64,7 +60,7 @@ pub fn same_answer(text: &[u8], at: usize, parsed: Parsed) -> usize
     }
     let at = same(text, at, answer::number_of(parsed) as usize);
     match parsed {
-        Parsed::Read { options, index } => same_options(text, at, options, index),
-        _ => same(text, at, answer::value_of(parsed) as usize),
+        Ok(read) => same_options(text, at, read.options, read.index),
+        Err(_) => same(text, at, answer::value_of(parsed) as usize),
     }
 }

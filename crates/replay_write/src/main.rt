@@ -4,7 +4,7 @@
 
 use std::io;
 use std::rt::Files;
-use writer::{Written, answer};
+use writer::{WriteError, answer};
 
 // The fields of a line that go in, but for the fill and the room.
 #[derive(Clone, Copy)]
@@ -65,7 +65,7 @@ fn bytes_agree(text: &[u8], at: usize, buffer: &[u8]) -> bool {
 }
 
 // Whether the fields `NUMBER LENGTH PLACE BYTES` at a place of the text are what was said and written.
-fn said_agrees(text: &[u8], at: usize, said: Written, buffer: &[u8]) -> bool {
+fn said_agrees(text: &[u8], at: usize, said: Result<usize, WriteError>, buffer: &[u8]) -> bool {
     let length_at = lines::same(text, at, answer::number_of(said) as usize);
     let place_at = lines::same(text, length_at, answer::len_of(said));
     let bytes_at = lines::same(text, place_at, answer::place_of(said));
@@ -76,9 +76,15 @@ fn said_agrees(text: &[u8], at: usize, said: Written, buffer: &[u8]) -> bool {
 }
 
 // What is written into so many bytes of a buffer.
-fn write_line(line: Line, fill: &[u8], table: &[u32], buffer: &mut [u8], room: usize) -> Written {
+fn write_line(
+    line: Line,
+    fill: &[u8],
+    table: &[u32],
+    buffer: &mut [u8],
+    room: usize,
+) -> Result<usize, WriteError> {
     if buffer.len() < room {
-        return Written::NoRoom;
+        return Err(WriteError::NoRoom);
     }
     writer::write_format(
         line.alignment,

@@ -6,7 +6,7 @@
 use Prim.Native.Nat.{ℕ, zero, suc, ◌+◌, ◌-◌, ◌/◌, ◌%◌, ◌<◌, ◌≤◌}
 use native.Mathlib.Omega.{arith}
 use Rattle.std.proofs.Math.Path.{◌≡◌, refl, sym, ap, subst}
-use Rattle.std.proofs.Common.{◌∙◌, length-drop, take-append-drop, take_all, take-add, length-take-le}
+use Rattle.std.proofs.Common.{◌∙◌, length-drop, take-append-drop, take_all, take-add, length-take-le, Option, Some, None, Ok}
 use Rattle.std.specs.Prelude.{Bool, ◌&&◌, ◌||◌, ltb}
 use Rattle.std.proofs.Math.Bool.{true, false}
 use mathlib.Core.List.{List, [], ◌∷◌, ◌++◌, append-nil}
@@ -33,16 +33,10 @@ use Rattle.format_arms.specs.Arms.{start, alignment, dot, on_shown, arm_of}
 use Rattle.format.specs.Parse.{len_utf8, OnePass, parse, append, string_of}
 use Rattle.format_options.specs.declared.Alignment.{Alignment}
 use Rattle.format_options.specs.declared.Alignment.TheVariants as align
-use Rattle.format_options.specs.declared.OptionalNumber.{OptionalNumber}
-use Rattle.format_options.specs.declared.OptionalNumber.TheVariants.{Number, Nothing}
-use Rattle.format_options.specs.declared.Shown.{Shown}
-use Rattle.format_options.specs.declared.Shown.TheVariants.{As, Plain}
 use Rattle.format_options.specs.declared.Representation.{Representation}
 use Rattle.format_options.specs.declared.Representation.TheVariants as representation
 use Rattle.format_options.specs.declared.Part.{Part}
-use Rattle.format_options.specs.declared.Fill.TheVariants.{Is, NoFill}
 use Rattle.format_options.specs.declared.Options.{Options}
-use Rattle.format_options.specs.declared.Outcome.TheVariants.{Fine}
 use Rattle.format_arms.specs.declared.Arm.{Arm}
 use Rattle.format_arms.specs.declared.Arm.TheVariants as arm
 use Rattle.decimal.specs.Decimal.{digits}
@@ -64,7 +58,7 @@ wanted_of s o =
 pub record ReadsAs (look : ℕ → ℕ) (edition : ℕ) (w : Wanted) (s : List ℕ) : Type 0 where
   pub small : length s ≤ format_most
   pub well : WellFormed s
-  pub fine : (parse look edition (chars s)).outcome ≡ Fine
+  pub fine : (parse look edition (chars s)).outcome ≡ Ok tt
   pub same : wanted_of s (parse look edition (chars s)).options ≡ w
 
 -- ---- what is written after the sign is its own encoding
@@ -92,22 +86,22 @@ letter_low representation.Octal = omega arith
 letter_low representation.ExpLower = omega arith
 letter_low representation.ExpUpper = omega arith
 
-width_low : (g : OptionalNumber) → encode_all (width_part g) ≡ width_part g
+width_low : (g : Option ℕ) → encode_all (width_part g) ≡ width_part g
 unfolding encode_all
-width_low (Number n) = digits_low n n (omega arith)
-width_low Nothing = refl
+width_low (Some n) = digits_low n n (omega arith)
+width_low None = refl
 
-precision_low : (g : OptionalNumber) → encode_all (precision_part g) ≡ precision_part g
+precision_low : (g : Option ℕ) → encode_all (precision_part g) ≡ precision_part g
 unfolding encode_all
-precision_low (Number n) = both_low (dot ∷ []) (digits n) (one_low dot (omega arith)) (digits_low n n (omega arith))
-precision_low Nothing = refl
+precision_low (Some n) = both_low (dot ∷ []) (digits n) (one_low dot (omega arith)) (digits_low n n (omega arith))
+precision_low None = refl
 
-shown_low : (x : Shown) → encode_all (letter_part x) ≡ letter_part x
+shown_low : (x : Option Representation) → encode_all (letter_part x) ≡ letter_part x
 unfolding encode_all
-shown_low (As r) = one_low (letter r) (letter_low r)
-shown_low Plain = refl
+shown_low (Some r) = one_low (letter r) (letter_low r)
+shown_low None = refl
 
-pub tail_low : (g h : OptionalNumber) (x : Shown) → encode_all (tail_for g h x) ≡ tail_for g h x
+pub tail_low : (g h : Option ℕ) (x : Option Representation) → encode_all (tail_for g h x) ≡ tail_for g h x
 tail_low g h x =
     both_low (width_part g) (precision_part h ++ letter_part x) (width_low g) (both_low (precision_part h) (letter_part x) (precision_low h) (shown_low x))
 
@@ -176,7 +170,7 @@ module _ (look : ℕ → ℕ) (edition : ℕ) where
       pub fits : fill_fits look edition (wanted_of s r) (filled_of s r.fill) ≡ true
       pub before : Before (candidate (wanted_of s r)) s
 
-    least_none : (r : Options) → r.fill ≡ NoFill → Over (sign_part r.alignment ++ tail_of r) s → Least r
+    least_none : (r : Options) → r.fill ≡ None → Over (sign_part r.alignment ++ tail_of r) s → Least r
     least_none r e v =
         let p : filled_of s r.fill ≡ Unfilled = ap (filled_of s) e in
         record {
@@ -184,7 +178,7 @@ module _ (look : ℕ → ℕ) (edition : ℕ) where
           before = subst (λ (x : Filled). Before (fill_part x ++ (sign_part r.alignment ++ tail_of r)) s) (sym p) (over_before v);
         }
 
-    least_filled : (r : Options) (part : Part) (f : List ℕ) → r.fill ≡ Is part → string_of s part ≡ f
+    least_filled : (r : Options) (part : Part) (f : List ℕ) → r.fill ≡ Some part → string_of s part ≡ f
         → fill_fits look edition (wanted_of s r) (Bytes f) ≡ true → Before (f ++ (sign_part r.alignment ++ tail_of r)) s → Least r
     least_filled r part f e z t v =
         let p : filled_of s r.fill ≡ Bytes f = ap (filled_of s) e ∙ ap Bytes z in
@@ -212,7 +206,7 @@ module _ (look : ℕ → ℕ) (edition : ℕ) where
         subst (λ (f : List ℕ). fill_fits look edition w (Bytes f) ≡ true) (one_low zero_digit (omega arith))
         (fits_by w (zero_digit ∷ []) zero_scalars (one_signed w zero_digit e))
 
-    zero_wide : (w : Wanted) (n : ℕ) → w.width ≡ Number n → is_default w.alignment ≡ true → fill_fits look edition w (Bytes (zero_digit ∷ [])) ≡ true
+    zero_wide : (w : Wanted) (n : ℕ) → w.width ≡ Some n → is_default w.alignment ≡ true → fill_fits look edition w (Bytes (zero_digit ∷ [])) ≡ true
     zero_wide w n e d =
         subst (λ (f : List ℕ). fill_fits look edition w (Bytes f) ≡ true) (one_low zero_digit (omega arith))
         (fits_by w (zero_digit ∷ []) zero_scalars (rw (d, e) refl))
@@ -250,7 +244,7 @@ module _ (look : ℕ → ℕ) (edition : ℕ) where
 
       -- the characters fs before it are the fill
       signed_filled : {part : Part} (fs : List ℕ) → s ≡ encode_all fs ++ g ∷ encode_all ds → 0 < length fs → Scalars fs
-          → o.fill ≡ Is part → string_of s part ≡ encode_all fs → (r.alignment ≡ char_to_alignment g → chars_fit look edition (wanted_of s r) fs ≡ true)
+          → o.fill ≡ Some part → string_of s part ≡ encode_all fs → (r.alignment ≡ char_to_alignment g → chars_fit look edition (wanted_of s r) fs ≡ true)
           → WidthEnd s o r ds → Least r
       signed_filled {part} fs w h sc fi st cf (kept a f d v) =
           let u : Over (g ∷ tail_of r) (g ∷ encode_all ds) = over_cons g g refl (over_bytes low v) in
@@ -269,7 +263,7 @@ module _ (look : ℕ → ℕ) (edition : ℕ) where
       tied w (same e) = level (omega (arith, ap length w, ap length e)) (smaller [] zero_digit g (g ∷ tail_of r) (encode_all ds) refl w sg.above)
       tied w (longer h) = shorter (omega (arith, ap length w))
 
-      signed_bare : s ≡ g ∷ encode_all ds → o.fill ≡ NoFill → WidthEnd s o r ds → Least r
+      signed_bare : s ≡ g ∷ encode_all ds → o.fill ≡ None → WidthEnd s o r ds → Least r
       signed_bare w fi (kept a f d v) =
           let u : Over (g ∷ tail_of r) (g ∷ encode_all ds) = over_cons g g refl (over_bytes low v) in
           let whole : Over (g ∷ tail_of r) s = subst (Over (g ∷ tail_of r)) (sym w) u in
@@ -280,7 +274,7 @@ module _ (look : ℕ → ℕ) (edition : ℕ) where
 
     -- ---- a zero and a digit at the start
 
-    zero_bare : {o r : Options} {part : Part} {cs : List ℕ} → s ≡ zero_digit ∷ encode_all cs → o.alignment ≡ align.Default → o.fill ≡ Is part
+    zero_bare : {o r : Options} {part : Part} {cs : List ℕ} → s ≡ zero_digit ∷ encode_all cs → o.alignment ≡ align.Default → o.fill ≡ Some part
         → string_of s part ≡ zero_digit ∷ [] → is_digit (peeked cs) ≡ true → WidthEnd s o r cs → Least r
     zero_bare {o} {r} {part} {cs} w al fi st t (kept a f d v) =
         let whole : Over (zero_digit ∷ tail_of r) s =
@@ -294,7 +288,7 @@ module _ (look : ℕ → ℕ) (edition : ℕ) where
 
     -- ---- no fill and no sign
 
-    bare_least : {r : Options} (cs : List ℕ) → s ≡ encode_all cs → r.alignment ≡ align.Default → r.fill ≡ NoFill → Over (tail_of r) cs → Least r
+    bare_least : {r : Options} (cs : List ℕ) → s ≡ encode_all cs → r.alignment ≡ align.Default → r.fill ≡ None → Over (tail_of r) cs → Least r
     bare_least {r} cs w al fi v =
         let whole : Over (tail_of r) s = subst (Over (tail_of r)) (sym w) (over_bytes (tail_low r.width r.precision r.representation) v) in
         least_none r fi (subst (λ (x : Alignment). Over (sign_part x ++ tail_of r) s) (sym al) whole)
@@ -305,7 +299,7 @@ module _ (look : ℕ → ℕ) (edition : ℕ) where
     record Untaken (c : ℕ) (cs : List ℕ) : Type 0 where
       no_sign : is_sign c ≡ false
       no_digit : is_digit c ≡ false
-      no_letter : representation_of c ≡ Plain
+      no_letter : representation_of c ≡ None
       no_dot : (eqb c dot && ltb (peeked cs) no_char) ≡ false
       no_next : is_sign (peeked cs) ≡ false
 
@@ -505,7 +499,7 @@ module _ (look : ℕ → ℕ) (edition : ℕ) where
           go (is_sign (peeked cs)) (is_sign c) (eqb c zero_digit && is_digit (peeked cs)) (is_digit c) (eqb c dot && ltb (peeked cs) no_char) (representation_of c)
           refl refl refl refl refl refl (arm_start c (peeked cs))
         where
-          arms : Bool → Bool → Bool → Bool → Bool → Shown → Arm
+          arms : Bool → Bool → Bool → Bool → Bool → Option Representation → Arm
           arms next sign nought digit point shown =
               pick next arm.FillSign
               (pick sign arm.Align
@@ -517,7 +511,7 @@ module _ (look : ℕ → ℕ) (edition : ℕ) where
           wide : {o : Options} → PrecisionEnd no_options o (c ∷ cs) → Over (tail_of o) (c ∷ cs)
           wide u = rw u.width_is u.over
 
-          go : (next sign nought digit point : Bool) (shown : Shown) → is_sign (peeked cs) ≡ next → is_sign c ≡ sign
+          go : (next sign nought digit point : Bool) (shown : Option Representation) → is_sign (peeked cs) ≡ next → is_sign c ≡ sign
               → (eqb c zero_digit && is_digit (peeked cs)) ≡ nought → is_digit c ≡ digit → (eqb c dot && ltb (peeked cs) no_char) ≡ point → representation_of c ≡ shown
               → arm_of c (peeked cs) start ≡ arms next sign nought digit point shown → Least r.options
           go true sign nought digit point shown t1 t2 t3 t4 t5 t6 a = fill_sign_start c cs w sc.0 t1 a v
@@ -530,10 +524,10 @@ module _ (look : ℕ → ℕ) (edition : ℕ) where
           go false false false false true shown t1 t2 t3 t4 t5 t6 a =
               let u = dot_end add look edition cs refl v a (eqb-true c dot (and_left (eqb c dot) _ t5)) (ltb-true (peeked cs) no_char (and_right (eqb c dot) _ t5)) in
               bare_least (c ∷ cs) w u.alignment_is u.fill_is (wide u)
-          go false false false false false (As x) t1 t2 t3 t4 t5 t6 a =
+          go false false false false false (Some x) t1 t2 t3 t4 t5 t6 a =
               let u = of_type refl (shown_end add look edition v x t6 a) in
               bare_least (c ∷ cs) w u.alignment_is u.fill_is (wide u)
-          go false false false false false Plain t1 t2 t3 t4 t5 t6 a =
+          go false false false false false None t1 t2 t3 t4 t5 t6 a =
               cluster_start c cs w sc (record { no_sign = t2; no_digit = t4; no_letter = t6; no_dot = t5; no_next = t1 }) a v
 
   -- ---- any string that reads back

@@ -6,7 +6,7 @@
 use Prim.Native.Nat.{ℕ, zero, suc, ◌+◌, ◌-◌, ◌/◌, ◌%◌, ◌<◌, ◌≤◌}
 use native.Mathlib.Omega.{arith}
 use Rattle.std.proofs.Math.Path.{◌≡◌, refl, ap}
-use Rattle.std.proofs.Common.{sym, subst, ◌∙◌, length-append, eqb-true, leb-true, ne_eqb}
+use Rattle.std.proofs.Common.{sym, subst, ◌∙◌, length-append, eqb-true, leb-true, ne_eqb, Option, Some, None, Ok}
 use Rattle.std.specs.Prelude.{Bool, not, ◌&&◌, ◌||◌, eqb, ltb, leb, take, drop}
 use Rattle.std.proofs.Math.Bool.{true, false}
 use mathlib.Core.List.{List, [], ◌∷◌, ◌++◌, append_assoc, append-nil}
@@ -32,14 +32,9 @@ use Rattle.format_arms.specs.Arms.{start, alignment, min_width, dot, arm_of}
 use Rattle.format.specs.Parse.{len_utf8, OnePass, parse_from, parse, append, string_of}
 use Rattle.format_options.specs.declared.Alignment.{Alignment}
 use Rattle.format_options.specs.declared.Alignment.TheVariants as align
-use Rattle.format_options.specs.declared.OptionalNumber.{OptionalNumber}
-use Rattle.format_options.specs.declared.OptionalNumber.TheVariants.{Number, Nothing}
-use Rattle.format_options.specs.declared.Shown.{Shown}
-use Rattle.format_options.specs.declared.Shown.TheVariants.{As, Plain}
 use Rattle.format_options.specs.declared.Part.{Part}
-use Rattle.format_options.specs.declared.Fill.TheVariants.{Is, NoFill}
 use Rattle.format_options.specs.declared.Options.{Options}
-use Rattle.format_options.specs.declared.Outcome.TheVariants.{Fine}
+use Rattle.format_options.specs.declared.Representation.{Representation}
 use Rattle.format_arms.specs.declared.Arm.TheVariants as arm
 use Rattle.decimal.specs.Decimal.{digits}
 use Rattle.decimal.specs.DecimalLaws.{digits_small, digits_more, spelled}
@@ -71,31 +66,31 @@ digits_scalars (suc most) n h =
     (λ l. subst Scalars (sym (digits_more n l))
     (both_scalars (digits (n / 10)) ((zero_digit + n % 10) ∷ []) (digits_scalars most (n / 10) (omega arith)) (low_scalar (zero_digit + n % 10) (omega arith), tt)))
 
-width_scalars : (g : OptionalNumber) → Scalars (width_part g)
-width_scalars (Number n) = digits_scalars n n (omega arith)
-width_scalars Nothing = tt
+width_scalars : (g : Option ℕ) → Scalars (width_part g)
+width_scalars (Some n) = digits_scalars n n (omega arith)
+width_scalars None = tt
 
-precision_scalars : (g : OptionalNumber) → Scalars (precision_part g)
-precision_scalars (Number n) = (low_scalar dot (omega arith), digits_scalars n n (omega arith))
-precision_scalars Nothing = tt
+precision_scalars : (g : Option ℕ) → Scalars (precision_part g)
+precision_scalars (Some n) = (low_scalar dot (omega arith), digits_scalars n n (omega arith))
+precision_scalars None = tt
 
-shown_scalars : (x : Shown) → Scalars (letter_part x)
-shown_scalars (As r) = (low_scalar _ (letter_low r), tt)
-shown_scalars Plain = tt
+shown_scalars : (x : Option Representation) → Scalars (letter_part x)
+shown_scalars (Some r) = (low_scalar _ (letter_low r), tt)
+shown_scalars None = tt
 
-tail_scalars : (w g : OptionalNumber) (x : Shown) → Scalars (tail_for w g x)
+tail_scalars : (w g : Option ℕ) (x : Option Representation) → Scalars (tail_for w g x)
 tail_scalars w g x =
     both_scalars (width_part w) (precision_part g ++ letter_part x) (width_scalars w) (both_scalars (precision_part g) (letter_part x) (precision_scalars g) (shown_scalars x))
 
 -- no sign begins a tail; a width does with a digit
-tail_sign : (w g : OptionalNumber) (x : Shown) → Small w → is_sign (peeked (tail_for w g x)) ≡ false
+tail_sign : (w g : Option ℕ) (x : Option Representation) → Small w → is_sign (peeked (tail_for w g x)) ≡ false
 unfolding peeked
-tail_sign (Number n) g x s =
+tail_sign (Some n) g x s =
     let v = spelled n n (omega arith) s in
     ap (λ (l : List ℕ). is_sign (peeked (l ++ (precision_part g ++ letter_part x)))) v.is ∙ digit_sign v.first v.digit
-tail_sign Nothing g x s = (stop_dot g x).no_sign
+tail_sign None g x s = (stop_dot g x).no_sign
 
-tail_digit : (n : ℕ) (g : OptionalNumber) (x : Shown) → Small (Number n) → is_digit (peeked (tail_for (Number n) g x)) ≡ true
+tail_digit : (n : ℕ) (g : Option ℕ) (x : Option Representation) → Small (Some n) → is_digit (peeked (tail_for (Some n) g x)) ≡ true
 unfolding peeked
 tail_digit n g x s =
     let v = spelled n n (omega arith) s in
@@ -118,10 +113,10 @@ module _ (look : ℕ → ℕ) (edition : ℕ) where
   -- ---- a candidate that is read back
 
   back_by : (w : Wanted) (cs : List ℕ) (r : Options) (pool : List Part) → candidate w ≡ encode_all cs → Scalars cs → length (candidate w) ≤ format_most
-      → parse look edition cs ≡ record { options = r; outcome = Fine; pool = pool } → wanted_of (candidate w) r ≡ w → ReadsAs look edition w (candidate w)
+      → parse look edition cs ≡ record { options = r; outcome = Ok tt; pool = pool } → wanted_of (candidate w) r ≡ w → ReadsAs look edition w (candidate w)
   back_by w cs r pool e sc h p q =
       let own : chars (candidate w) ≡ cs = ap chars e ∙ own_chars cs sc in
-      let whole : parse look edition (chars (candidate w)) ≡ record { options = r; outcome = Fine; pool = pool } = ap (parse look edition) own ∙ p in
+      let whole : parse look edition (chars (candidate w)) ≡ record { options = r; outcome = Ok tt; pool = pool } = ap (parse look edition) own ∙ p in
       record {
         small = h;
         well = record { points = cs; scalars = sc; same = e };
@@ -133,7 +128,7 @@ module _ (look : ℕ → ℕ) (edition : ℕ) where
   unfolding encode_all
   low_cons b l h e = ap (λ (x : List ℕ). x ++ encode_all l) (encode1 b h) ∙ ap (λ (x : List ℕ). b ∷ x) e
 
-  module _ (wd g : OptionalNumber) (x : Shown) (sw : Small wd) (sg : Small g) where
+  module _ (wd g : Option ℕ) (x : Option Representation) (sw : Small wd) (sg : Small g) where
     abbrev asked : Alignment → Filled → Wanted
     asked a f = record { alignment = a; width = wd; precision = g; representation = x; fill = f }
 
@@ -141,23 +136,23 @@ module _ (look : ℕ → ℕ) (edition : ℕ) where
     plain_back : length (candidate (asked align.Default Unfilled)) ≤ format_most
         → ReadsAs look edition (asked align.Default Unfilled) (candidate (asked align.Default Unfilled))
     plain_back h =
-        back_by (asked align.Default Unfilled) (tail_for wd g x) (options_of align.Default NoFill wd g x) [] (sym (tail_low wd g x)) (tail_scalars wd g x) h
-        (tail_reads append look edition align.Default NoFill [] 0 start start_widths wd g x sw sg) refl
+        back_by (asked align.Default Unfilled) (tail_for wd g x) (options_of align.Default None wd g x) [] (sym (tail_low wd g x)) (tail_scalars wd g x) h
+        (tail_reads append look edition align.Default None [] 0 start start_widths wd g x sw sg) refl
 
     -- the fill "0" before a width
-    zero_back : (n : ℕ) → wd ≡ Number n → length (candidate (asked align.Default (Bytes (zero_digit ∷ [])))) ≤ format_most
+    zero_back : (n : ℕ) → wd ≡ Some n → length (candidate (asked align.Default (Bytes (zero_digit ∷ [])))) ≤ format_most
         → ReadsAs look edition (asked align.Default (Bytes (zero_digit ∷ []))) (candidate (asked align.Default (Bytes (zero_digit ∷ []))))
     unfolding is_sign encode
     zero_back n e h =
         let part : Part = record { place = 0; len = len_utf8 zero_digit } in
         let digit : is_digit (peeked (tail_for wd g x)) ≡ true =
-        ap (λ (y : OptionalNumber). is_digit (peeked (tail_for y g x))) e ∙ tail_digit n g x (subst Small e sw) in
+        ap (λ (y : Option ℕ). is_digit (peeked (tail_for y g x))) e ∙ tail_digit n g x (subst Small e sw) in
         let a : arm_of zero_digit (peeked (tail_for wd g x)) start ≡ arm.ZeroFill =
         arm_start zero_digit (peeked (tail_for wd g x)) ∙ rw (tail_sign wd g x sw, digit) in
-        back_by (asked align.Default (Bytes (zero_digit ∷ []))) (zero_digit ∷ tail_for wd g x) (options_of align.Default (Is part) wd g x) (part ∷ [])
+        back_by (asked align.Default (Bytes (zero_digit ∷ []))) (zero_digit ∷ tail_for wd g x) (options_of align.Default (Some part) wd g x) (part ∷ [])
         (sym (low_cons zero_digit (tail_for wd g x) (omega arith) (tail_low wd g x))) (low_scalar zero_digit (omega arith), tail_scalars wd g x) h
         (turn append look edition 0 start no_options [] zero_digit (tail_for wd g x) a refl
-        ∙ tail_reads append look edition align.Default (Is part) (part ∷ []) _ min_width width_widths wd g x sw sg)
+        ∙ tail_reads append look edition align.Default (Some part) (part ∷ []) _ min_width width_widths wd g x sw sg)
         refl
 
     module _ (b : ℕ) (t : is_sign b ≡ true) where
@@ -171,10 +166,10 @@ module _ (look : ℕ → ℕ) (edition : ℕ) where
           → ReadsAs look edition (asked (char_to_alignment b) Unfilled) (candidate (asked (char_to_alignment b) Unfilled))
       sign_back h =
           let a : arm_of b (peeked (tail_for wd g x)) start ≡ arm.Align = arm_start b (peeked (tail_for wd g x)) ∙ rw (tail_sign wd g x sw, t) in
-          back_by (asked (char_to_alignment b) Unfilled) (b ∷ tail_for wd g x) (options_of (char_to_alignment b) NoFill wd g x) []
+          back_by (asked (char_to_alignment b) Unfilled) (b ∷ tail_for wd g x) (options_of (char_to_alignment b) None wd g x) []
           (ap (λ (l : List ℕ). l ++ tail_for wd g x) bs.part ∙ sym low_tail) (low_scalar b bs.low, tail_scalars wd g x) h
           (turn append look edition 0 start no_options [] b (tail_for wd g x) a refl
-          ∙ tail_reads append look edition (char_to_alignment b) NoFill [] _ min_width width_widths wd g x sw sg)
+          ∙ tail_reads append look edition (char_to_alignment b) None [] _ min_width width_widths wd g x sw sg)
           refl
 
       -- characters before the sign
@@ -185,7 +180,7 @@ module _ (look : ℕ → ℕ) (edition : ℕ) where
 
       -- the fill is what stands in front
       same_by : (a : Alignment) (part : Part) (fs rest : List ℕ) → part.place ≡ 0 → part.len ≡ length (encode_all fs)
-          → wanted_of (encode_all fs ++ rest) (options_of a (Is part) wd g x) ≡ asked a (Bytes (encode_all fs))
+          → wanted_of (encode_all fs ++ rest) (options_of a (Some part) wd g x) ≡ asked a (Bytes (encode_all fs))
       same_by a part fs rest p q =
           let st : string_of (encode_all fs ++ rest) part ≡ encode_all fs =
           ap (λ (i : ℕ). take part.len (drop i (encode_all fs ++ rest))) p ∙ ap (λ (i : ℕ). take i (encode_all fs ++ rest)) q
@@ -198,22 +193,22 @@ module _ (look : ℕ → ℕ) (edition : ℕ) where
       one_back c sc h =
           let part : Part = record { place = 0; len = len_utf8 c } in
           let a : arm_of c (peeked (b ∷ tail_for wd g x)) start ≡ arm.FillSign = arm_start c b ∙ rw t in
-          back_by (asked (char_to_alignment b) (Bytes (encode_all (c ∷ [])))) (c ∷ b ∷ tail_for wd g x) (options_of (char_to_alignment b) (Is part) wd g x) (part ∷ [])
+          back_by (asked (char_to_alignment b) (Bytes (encode_all (c ∷ [])))) (c ∷ b ∷ tail_for wd g x) (options_of (char_to_alignment b) (Some part) wd g x) (part ∷ [])
           (signed_is (c ∷ [])) (sc, (low_scalar b bs.low, tail_scalars wd g x)) h
           (turn append look edition 0 start no_options [] c (b ∷ tail_for wd g x) a refl
-          ∙ tail_reads append look edition (char_to_alignment b) (Is part) (part ∷ []) _ min_width width_widths wd g x sw sg)
+          ∙ tail_reads append look edition (char_to_alignment b) (Some part) (part ∷ []) _ min_width width_widths wd g x sw sg)
           (same_by (char_to_alignment b) part (c ∷ []) _ refl (sym (ap length (append-nil (encode c)))))
 
       many_back : (c : ℕ) (cs : List ℕ) → Scalars (c ∷ cs) → arm_of c (peeked (cs ++ b ∷ tail_for wd g x)) start ≡ arm.FillCluster
           → first_size look edition ((c ∷ cs) ++ b ∷ []) ≡ length (c ∷ cs) → length (candidate (asked (char_to_alignment b) (Bytes (encode_all (c ∷ cs))))) ≤ format_most
           → ReadsAs look edition (asked (char_to_alignment b) (Bytes (encode_all (c ∷ cs)))) (candidate (asked (char_to_alignment b) (Bytes (encode_all (c ∷ cs)))))
       many_back c cs sc a n h =
-          back_by (asked (char_to_alignment b) (Bytes (encode_all (c ∷ cs)))) (c ∷ all) (options_of (char_to_alignment b) (Is part) wd g x) (part ∷ [])
+          back_by (asked (char_to_alignment b) (Bytes (encode_all (c ∷ cs)))) (c ∷ all) (options_of (char_to_alignment b) (Some part) wd g x) (part ∷ [])
           (signed_is (c ∷ cs)) (both_scalars (c ∷ cs) (b ∷ T) sc (low_scalar b bs.low, tail_scalars wd g x)) h
           (turn append look edition 0 start no_options [] c all a refl
           ∙ ap (λ (l : List ℕ). parse_from append look edition 0 i alignment (with_fill part no_options) (part ∷ []) l) left
           ∙ turn append look edition i alignment (with_fill part no_options) (part ∷ []) b T to_align refl
-          ∙ tail_reads append look edition (char_to_alignment b) (Is part) (part ∷ []) _ min_width width_widths wd g x sw sg)
+          ∙ tail_reads append look edition (char_to_alignment b) (Some part) (part ∷ []) _ min_width width_widths wd g x sw sg)
           (same_by (char_to_alignment b) part (c ∷ cs) _ refl len_is)
         where
           T : List ℕ
@@ -250,7 +245,7 @@ module _ (look : ℕ → ℕ) (edition : ℕ) where
 
   -- a fill and nothing else
   abbrev lone : List ℕ → Wanted
-  lone f = record { alignment = align.Default; width = Nothing; precision = Nothing; representation = Plain; fill = Bytes f }
+  lone f = record { alignment = align.Default; width = None; precision = None; representation = None; fill = Bytes f }
 
   alone_back : (c : ℕ) (cs : List ℕ) → Scalars (c ∷ cs) → arm_of c (peeked cs) start ≡ arm.FillCluster
       → first_size look edition (c ∷ cs) ≡ length (c ∷ cs) → length (candidate (lone (encode_all (c ∷ cs)))) ≤ format_most
@@ -291,13 +286,13 @@ not_is : (a : Bool) → not a ≡ true → a ≡ false
 not_is true e = sym e
 not_is false e = refl
 
-none_shown : (x : Shown) → is_shown x ≡ false → x ≡ Plain
-none_shown (As r) e = absurd (let z : ◌≡◌ {A = ℕ} 0 1 = cc in omega arith)
-none_shown Plain e = refl
+none_shown : (x : Option Representation) → is_shown x ≡ false → x ≡ None
+none_shown (Some r) e = absurd (let z : ◌≡◌ {A = ℕ} 0 1 = cc in omega arith)
+none_shown None e = refl
 
-none_given : (g : OptionalNumber) → is_given g ≡ false → g ≡ Nothing
-none_given (Number n) e = absurd (let z : ◌≡◌ {A = ℕ} 0 1 = cc in omega arith)
-none_given Nothing e = refl
+none_given : (g : Option ℕ) → is_given g ≡ false → g ≡ None
+none_given (Some n) e = absurd (let z : ◌≡◌ {A = ℕ} 0 1 = cc in omega arith)
+none_given None e = refl
 
 not_zero : (c : ℕ) → is_digit c ≡ false → eqb c zero_digit ≡ false
 unfolding inside is_digit
@@ -316,12 +311,12 @@ cluster_arm c peek t s d =
 -- ---- all together
 
 -- the options with these parts
-abbrev pub asked_for : Alignment → OptionalNumber → OptionalNumber → Shown → Filled → Wanted
+abbrev pub asked_for : Alignment → Option ℕ → Option ℕ → Option Representation → Filled → Wanted
 asked_for a w g x f = record { alignment = a; width = w; precision = g; representation = x; fill = f }
 
 module _ (look : ℕ → ℕ) (edition : ℕ) where
   -- the candidate for the fill f reads back
-  abbrev Back : Alignment → OptionalNumber → OptionalNumber → Shown → Filled → Type 0
+  abbrev Back : Alignment → Option ℕ → Option ℕ → Option Representation → Filled → Type 0
   Back a w g x f = length (candidate (asked_for a w g x f)) ≤ format_most → ReadsAs look edition (asked_for a w g x f) (candidate (asked_for a w g x f))
 
   many_arm : (c d : ℕ) (ds : List ℕ) → (is_taken c || (eqb c dot || is_sign d)) ≡ false → arm_of c (peeked (d ∷ ds)) start ≡ arm.FillCluster
@@ -330,7 +325,7 @@ module _ (look : ℕ → ℕ) (edition : ℕ) where
       let t = or_right (is_taken c) _ e in
       cluster_arm c d (or_left (is_taken c) _ e) (or_right (eqb c dot) _ t) (rw (or_left (eqb c dot) _ t))
 
-  module _ (w g : OptionalNumber) (x : Shown) (sw : Small w) (sg : Small g) where
+  module _ (w g : Option ℕ) (x : Option Representation) (sw : Small w) (sg : Small g) where
     -- before a sign
     signed_chars : (b : ℕ) → is_sign b ≡ true → (fs : List ℕ) → Scalars fs
         → chars_fit look edition (asked_for (char_to_alignment b) w g x (Bytes (encode_all fs))) fs ≡ true → Back (char_to_alignment b) w g x (Bytes (encode_all fs))
@@ -345,16 +340,16 @@ module _ (look : ℕ → ℕ) (edition : ℕ) where
         (many_arm c d (ds ++ b ∷ tail_for w g x) (not_is _ (and_left (not (is_taken c || (eqb c dot || is_sign d))) _ e))) n h
 
   -- alone
-  lone_chars : (w g : OptionalNumber) (x : Shown) (c : ℕ) (cs : List ℕ) → not (has_tail w g x) ≡ true → Scalars (c ∷ cs)
+  lone_chars : (w g : Option ℕ) (x : Option Representation) (c : ℕ) (cs : List ℕ) → not (has_tail w g x) ≡ true → Scalars (c ∷ cs)
       → arm_of c (peeked cs) start ≡ arm.FillCluster → first_size look edition (c ∷ cs) ≡ length (c ∷ cs) → Back align.Default w g x (Bytes (encode_all (c ∷ cs)))
-  lone_chars (Number n) g x c cs e sc a s h = absurd (let z : ◌≡◌ {A = ℕ} 0 1 = cc in omega arith)
-  lone_chars Nothing (Number n) x c cs e sc a s h = absurd (let z : ◌≡◌ {A = ℕ} 0 1 = cc in omega arith)
-  lone_chars Nothing Nothing (As r) c cs e sc a s h = absurd (let z : ◌≡◌ {A = ℕ} 0 1 = cc in omega arith)
-  lone_chars Nothing Nothing Plain c cs e sc a s h = alone_back look edition c cs sc a s h
+  lone_chars (Some n) g x c cs e sc a s h = absurd (let z : ◌≡◌ {A = ℕ} 0 1 = cc in omega arith)
+  lone_chars None (Some n) x c cs e sc a s h = absurd (let z : ◌≡◌ {A = ℕ} 0 1 = cc in omega arith)
+  lone_chars None None (Some r) c cs e sc a s h = absurd (let z : ◌≡◌ {A = ℕ} 0 1 = cc in omega arith)
+  lone_chars None None None c cs e sc a s h = alone_back look edition c cs sc a s h
 
-  some_given : (g : OptionalNumber) → is_given g ≡ true → (n : ℕ) × (g ≡ Number n)
-  some_given (Number n) e = (n, refl)
-  some_given Nothing e = absurd (let z : ◌≡◌ {A = ℕ} 0 1 = cc in omega arith)
+  some_given : (g : Option ℕ) → is_given g ≡ true → (n : ℕ) × (g ≡ Some n)
+  some_given (Some n) e = (n, refl)
+  some_given None e = absurd (let z : ◌≡◌ {A = ℕ} 0 1 = cc in omega arith)
 
   one_arm : (c : ℕ) → is_taken c ≡ false → arm_of c (peeked []) start ≡ arm.FillCluster
   unfolding peeked is_sign
@@ -364,7 +359,7 @@ module _ (look : ℕ → ℕ) (edition : ℕ) where
   unfolding go_on
   one_size c = refl
 
-  default_one : (w g : OptionalNumber) (x : Shown) → Small w → Small g → (c : ℕ) → Scalar c
+  default_one : (w g : Option ℕ) (x : Option Representation) → Small w → Small g → (c : ℕ) → Scalar c
       → pick (eqb c zero_digit) (is_given w) (not (has_tail w g x) && not (is_taken c)) ≡ true
       → Back align.Default w g x (Bytes (encode_all (c ∷ [])))
   default_one w g x sw sg c sc e = go (eqb c zero_digit) refl
@@ -379,7 +374,7 @@ module _ (look : ℕ → ℕ) (edition : ℕ) where
           lone_chars w g x c [] (and_left (not (has_tail w g x)) _ y) (sc, tt)
           (one_arm c (not_is _ (and_right (not (has_tail w g x)) _ y))) (one_size c)
 
-  default_chars : (w g : OptionalNumber) (x : Shown) → Small w → Small g → (fs : List ℕ) → Scalars fs
+  default_chars : (w g : Option ℕ) (x : Option Representation) → Small w → Small g → (fs : List ℕ) → Scalars fs
       → chars_fit look edition (asked_for align.Default w g x (Bytes (encode_all fs))) fs ≡ true → Back align.Default w g x (Bytes (encode_all fs))
   default_chars w g x sw sg [] sc e = absurd (let z : ◌≡◌ {A = ℕ} 0 1 = cc in omega arith)
   default_chars w g x sw sg (c ∷ []) sc e = default_one w g x sw sg c sc.0 e
@@ -392,7 +387,7 @@ module _ (look : ℕ → ℕ) (edition : ℕ) where
       (ap (first_size look edition) (sym (append-nil fs)) ∙ size)
 
   -- every fill
-  fill_reads : (a : Alignment) (w g : OptionalNumber) (x : Shown) → Small w → Small g → (fs : List ℕ) → Scalars fs
+  fill_reads : (a : Alignment) (w g : Option ℕ) (x : Option Representation) → Small w → Small g → (fs : List ℕ) → Scalars fs
       → chars_fit look edition (asked_for a w g x (Bytes (encode_all fs))) fs ≡ true → Back a w g x (Bytes (encode_all fs))
   unfolding char_to_alignment is_sign
   fill_reads align.Default w g x sw sg fs sc e = default_chars w g x sw sg fs sc e
@@ -400,14 +395,14 @@ module _ (look : ℕ → ℕ) (edition : ℕ) where
   fill_reads align.Center w g x sw sg fs sc e = signed_chars w g x sw sg caret refl fs sc e
   fill_reads align.Right w g x sw sg fs sc e = signed_chars w g x sw sg greater refl fs sc e
 
-  bare_reads : (a : Alignment) (w g : OptionalNumber) (x : Shown) → Small w → Small g → Back a w g x Unfilled
+  bare_reads : (a : Alignment) (w g : Option ℕ) (x : Option Representation) → Small w → Small g → Back a w g x Unfilled
   unfolding char_to_alignment is_sign
   bare_reads align.Default w g x sw sg h = plain_back look edition w g x sw sg h
   bare_reads align.Left w g x sw sg h = sign_back look edition w g x sw sg less refl h
   bare_reads align.Center w g x sw sg h = sign_back look edition w g x sw sg caret refl h
   bare_reads align.Right w g x sw sg h = sign_back look edition w g x sw sg greater refl h
 
-  by_fill : (a : Alignment) (w g : OptionalNumber) (x : Shown) (f : Filled) → Small w → Small g → fill_fits look edition (asked_for a w g x f) f ≡ true → Back a w g x f
+  by_fill : (a : Alignment) (w g : Option ℕ) (x : Option Representation) (f : Filled) → Small w → Small g → fill_fits look edition (asked_for a w g x f) f ≡ true → Back a w g x f
   by_fill a w g x Unfilled sw sg e = bare_reads a w g x sw sg
   by_fill a w g x (Bytes f) sw sg e = go (check_from 0 f) refl
     where

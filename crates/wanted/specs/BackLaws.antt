@@ -1,7 +1,7 @@
 -- What is written is read back: the characters after the sign.
 --     tail_reads        at MinWidth and at Start, the tail of options is read as them
 -- Assumes nothing.
-use Rattle.std.specs.Prelude.{ℕ, zero, suc, ◌+◌, ◌≡◌, true, false, ◌&&◌, eqb, take}
+use Rattle.std.specs.Prelude.{ℕ, zero, suc, ◌+◌, ◌≡◌, true, false, ◌&&◌, eqb, take, Option, Some, None, Result, Ok}
 use Rattle.std.proofs.Common.{arith, ◌∙◌, lt-ltb, ne_eqb}
 use Rattle.std.proofs.Math.Path.{refl, ap}
 use mathlib.Core.List.{List, [], ◌∷◌, ◌++◌}
@@ -13,21 +13,15 @@ use Rattle.format_options.specs.Options.{with_width, with_precision}
 use Rattle.format_options.specs.Letters.{no_char, zero_digit, is_sign, is_digit, representation_of}
 use Rattle.format_options.specs.LettersLaws.{digit_is}
 use Rattle.format_number.specs.Number.{peeked}
+use Rattle.format_arms.specs.declared.Position.{Position}
 use Rattle.format_arms.specs.Arms.{start, min_width, precision, type, dot, arm_of}
 use Rattle.format.specs.Parse.{len_utf8, Goes, on_consumed, body_of, OnePass, parse_from}
 use Rattle.format_options.specs.declared.Alignment.{Alignment}
 use Rattle.format_options.specs.declared.Representation.{Representation}
 use Rattle.format_options.specs.declared.Representation.TheVariants as representation
-use Rattle.format_options.specs.declared.OptionalNumber.{OptionalNumber}
-use Rattle.format_options.specs.declared.OptionalNumber.TheVariants.{Number, Nothing}
-use Rattle.format_options.specs.declared.Shown.{Shown}
-use Rattle.format_options.specs.declared.Shown.TheVariants.{As, Plain}
 use Rattle.format_options.specs.declared.Part.{Part}
-use Rattle.format_options.specs.declared.Fill.{Fill}
-use Rattle.format_options.specs.declared.Fill.TheVariants.{NoFill}
 use Rattle.format_options.specs.declared.Options.{Options}
-use Rattle.format_options.specs.declared.Outcome.TheVariants.{Fine}
-use Rattle.format_number.specs.declared.Consumed.{Consumed}
+use Rattle.format_options.specs.declared.FormatError.{FormatError}
 use Rattle.format_arms.specs.declared.Arm.TheVariants as arm
 use Rattle.decimal.specs.DecimalLaws.{Spelled, spelled, number_read}
 use Rattle.asked.specs.FieldsLaws.{Small}
@@ -37,7 +31,7 @@ use Rattle.wanted.specs.TailLaws.{and_no, turn, arm_type, arm_precision, arm_wid
 -- ---- the letters
 
 record Letter (c : ℕ) (x : Representation) : Type 0 where
-  shown : representation_of c ≡ As x
+  shown : representation_of c ≡ Some x
   sign : is_sign c ≡ false
   digit : is_digit c ≡ false
   dot : eqb c dot ≡ false
@@ -56,14 +50,14 @@ letter_is representation.ExpUpper = record { shown = refl; sign = refl; digit = 
 -- ---- the arms of what is written after the sign
 
 -- where a letter is taken; where a dot is too; where a width is
-pub record Letters (p : ℕ) : Type 0 where
+pub record Letters (p : Position) : Type 0 where
   pub letter_arm : (x : Representation) → arm_of (letter x) (peeked []) p ≡ arm.Represent x
 
-pub record Dots (p : ℕ) : Type 0 where
+pub record Dots (p : Position) : Type 0 where
   pub letters : Letters p
   pub dot_arm : (d : ℕ) (ds : List ℕ) → is_digit d ≡ true → arm_of dot (peeked (d ∷ ds)) p ≡ arm.Precision
 
-pub record Widths (p : ℕ) : Type 0 where
+pub record Widths (p : Position) : Type 0 where
   pub dots : Dots p
   pub digit_arm : (c peek : ℕ) → is_digit c ≡ true → is_sign peek ≡ false → (eqb c zero_digit && is_digit peek) ≡ false → arm_of c peek p ≡ arm.MinWidth
 
@@ -122,62 +116,62 @@ pub record Stop (c : ℕ) : Type 0 where
   pub no_digit : is_digit c ≡ false
   pub no_sign : is_sign c ≡ false
 
-stop_letter : (x : Shown) → Stop (peeked (letter_part x))
+stop_letter : (x : Option Representation) → Stop (peeked (letter_part x))
 unfolding peeked inside is_digit is_sign
-stop_letter (As x) = record { no_digit = (letter_is x).digit; no_sign = (letter_is x).sign }
-stop_letter Plain = record { no_digit = refl; no_sign = refl }
+stop_letter (Some x) = record { no_digit = (letter_is x).digit; no_sign = (letter_is x).sign }
+stop_letter None = record { no_digit = refl; no_sign = refl }
 
-pub stop_dot : (g : OptionalNumber) (x : Shown) → Stop (peeked (precision_part g ++ letter_part x))
+pub stop_dot : (g : Option ℕ) (x : Option Representation) → Stop (peeked (precision_part g ++ letter_part x))
 unfolding peeked inside is_digit is_sign
-stop_dot (Number n) x = record { no_digit = refl; no_sign = refl }
-stop_dot Nothing x = stop_letter x
+stop_dot (Some n) x = record { no_digit = refl; no_sign = refl }
+stop_dot None x = stop_letter x
 
 -- ---- the tail
 
-abbrev pub options_of : Alignment → Fill → OptionalNumber → OptionalNumber → Shown → Options
+abbrev pub options_of : Alignment → Option Part → Option ℕ → Option ℕ → Option Representation → Options
 options_of a f w g x = record { alignment = a; width = w; precision = g; representation = x; fill = f }
 
-module _ {P : Type 0} (add : P → Part → P) (look : ℕ → ℕ) (edition : ℕ) (a : Alignment) (f : Fill) (pool : P) where
+module _ {P : Type 0} (add : P → Part → P) (look : ℕ → ℕ) (edition : ℕ) (a : Alignment) (f : Option Part) (pool : P) where
   abbrev pub done : Options → OnePass P
-  done o = record { options = o; outcome = Fine; pool = pool }
+  done o = record { options = o; outcome = Ok tt; pool = pool }
 
-  letters_read : (at p : ℕ) → Letters p → (w g : OptionalNumber) (x : Shown)
-      → parse_from add look edition 0 at p (options_of a f w g Plain) pool (letter_part x) ≡ done (options_of a f w g x)
+  letters_read : (at : ℕ) (p : Position) → Letters p → (w g : Option ℕ) (x : Option Representation)
+      → parse_from add look edition 0 at p (options_of a f w g None) pool (letter_part x) ≡ done (options_of a f w g x)
   unfolding parse_from
-  letters_read at p l w g (As x) = turn add look edition at p (options_of a f w g Plain) pool (letter x) [] (l.letter_arm x) refl
-  letters_read at p l w g Plain = refl
+  letters_read at p l w g (Some x) = turn add look edition at p (options_of a f w g None) pool (letter x) [] (l.letter_arm x) refl
+  letters_read at p l w g None = refl
 
-  dots_read : (at p : ℕ) → Dots p → (w g : OptionalNumber) (x : Shown) → Small g
-      → parse_from add look edition 0 at p (options_of a f w Nothing Plain) pool (precision_part g ++ letter_part x) ≡ done (options_of a f w g x)
+  dots_read : (at : ℕ) (p : Position) → Dots p → (w g : Option ℕ) (x : Option Representation) → Small g
+      → parse_from add look edition 0 at p (options_of a f w None None) pool (precision_part g ++ letter_part x) ≡ done (options_of a f w g x)
   unfolding peeked
-  dots_read at p l w Nothing x s = letters_read at p l.letters w Nothing x
-  dots_read at p l w (Number n) x s =
-      let o = options_of a f w Nothing Plain in
+  dots_read at p l w None x s = letters_read at p l.letters w None x
+  dots_read at p l w (Some n) x s =
+      let o = options_of a f w None None in
       let v = spelled n n (omega arith) s in
       let i = at + len_utf8 dot + length (encode_all (take (suc (length v.more)) (v.first ∷ v.more ++ letter_part x))) in
-      let b : body_of look edition at o dot (v.first ∷ v.more ++ letter_part x) arm.Precision ≡ Goes (with_precision n o) type (suc (length v.more)) NoFill =
-      ap (λ (y : Consumed). on_consumed y (λ n k. Goes (with_precision n o) type (suc k) NoFill)) (number_read n (letter_part x) v (stop_letter x).no_digit) in
+      let b : body_of look edition at o dot (v.first ∷ v.more ++ letter_part x) arm.Precision ≡ Goes (with_precision n o) type (suc (length v.more)) None =
+      ap (λ (y : Result Number FormatError). on_consumed y (λ n k. Goes (with_precision n o) type (suc k) None)) (number_read n (letter_part x) v (stop_letter x).no_digit) in
       ap (λ (l : List ℕ). parse_from add look edition 0 at p o pool (dot ∷ l ++ letter_part x)) v.is
       ∙ turn add look edition at p o pool dot (v.first ∷ v.more ++ letter_part x) (l.dot_arm v.first (v.more ++ letter_part x) v.digit) b
       ∙ ap (λ (l : List ℕ). parse_from add look edition 0 i type (with_precision n o) pool l) (drop-append_seam v.more (letter_part x))
-      ∙ letters_read i type type_letters w (Number n) x
+      ∙ letters_read i type type_letters w (Some n) x
 
-  pub tail_reads : (at p : ℕ) → Widths p → (w g : OptionalNumber) (x : Shown) → Small w → Small g
-      → parse_from add look edition 0 at p (options_of a f Nothing Nothing Plain) pool (tail_for w g x) ≡ done (options_of a f w g x)
-  tail_reads at p l Nothing g x s t = dots_read at p l.dots Nothing g x t
-  tail_reads at p l (Number n) g x s t =
-      let o = options_of a f Nothing Nothing Plain in
+  pub tail_reads : (at : ℕ) (p : Position) → Widths p → (w g : Option ℕ) (x : Option Representation) → Small w → Small g
+      → parse_from add look edition 0 at p (options_of a f None None None) pool (tail_for w g x) ≡ done (options_of a f w g x)
+  tail_reads at p l None g x s t = dots_read at p l.dots None g x t
+  tail_reads at p l (Some n) g x s t =
+      let o = options_of a f None None None in
       let v = spelled n n (omega arith) s in
       let rest = precision_part g ++ letter_part x in
       let i = at + len_utf8 v.first + length (encode_all (take (length v.more) (v.more ++ rest))) in
       let stop = stop_dot g x in
       let lead : (eqb v.first zero_digit && is_digit (peeked (v.more ++ rest))) ≡ false = leads n v rest stop.no_digit in
-      let b : body_of look edition at o v.first (v.more ++ rest) arm.MinWidth ≡ Goes (with_width n o) precision (length v.more) NoFill =
-      ap (λ (y : Consumed). on_consumed y (λ n k. Goes (with_width n o) precision k NoFill)) (number_read n rest v stop.no_digit) in
+      let b : body_of look edition at o v.first (v.more ++ rest) arm.MinWidth ≡ Goes (with_width n o) precision (length v.more) None =
+      ap (λ (y : Result Number FormatError). on_consumed y (λ n k. Goes (with_width n o) precision k None)) (number_read n rest v stop.no_digit) in
       ap (λ (l : List ℕ). parse_from add look edition 0 at p o pool (l ++ rest)) v.is
       ∙ turn add look edition at p o pool v.first (v.more ++ rest) (l.digit_arm v.first _ v.digit (v.no_sign rest stop.no_sign) lead) b
       ∙ ap (λ (l : List ℕ). parse_from add look edition 0 i precision (with_width n o) pool l) (drop-append_seam v.more rest)
-      ∙ dots_read i precision precision_dots (Number n) g x t
+      ∙ dots_read i precision precision_dots (Some n) g x t
     where
       leads : (n : ℕ) (v : Spelled n) (rest : List ℕ) → is_digit (peeked rest) ≡ false
           → (eqb v.first zero_digit && is_digit (peeked (v.more ++ rest))) ≡ false

@@ -2,7 +2,7 @@
 -- representation, each where there is one. If any string is read back as the options, this one is, and it is the first of them
 -- (`WriteLaws`). `writable` is whether it is.
 -- Assumes nothing.
-use Rattle.std.specs.Prelude.{ℕ, Bool, true, false, not, ◌&&◌, ◌||◌, List, [], ◌∷◌, ◌++◌, eqb, leb, length}
+use Rattle.std.specs.Prelude.{ℕ, Bool, true, false, not, ◌&&◌, ◌||◌, List, [], ◌∷◌, ◌++◌, eqb, leb, length, Option, Some, None, is_some}
 use Rattle.base.specs.Pick.{pick}
 use Rattle.base.specs.Refusal.{format_most}
 use Rattle.utf8.specs.Chars.{chars, check_from}
@@ -15,10 +15,6 @@ use Rattle.format_options.specs.declared.Alignment.{Alignment}
 use Rattle.format_options.specs.declared.Alignment.TheVariants as alignment
 use Rattle.format_options.specs.declared.Representation.{Representation}
 use Rattle.format_options.specs.declared.Representation.TheVariants as representation
-use Rattle.format_options.specs.declared.OptionalNumber.{OptionalNumber}
-use Rattle.format_options.specs.declared.OptionalNumber.TheVariants.{Number, Nothing}
-use Rattle.format_options.specs.declared.Shown.{Shown}
-use Rattle.format_options.specs.declared.Shown.TheVariants.{As, Plain}
 use Rattle.decimal.specs.Decimal.{digits}
 use Rattle.asked.specs.Fields.{are_fields, fields_of}
 use Rattle.asked.specs.declared.Fields.{Fields}
@@ -29,9 +25,9 @@ use Rattle.wanted.specs.Wanted.{Filled, Bytes, Unfilled, Asked}
 -- options with the bytes of their fill
 pub record Wanted : Type 0 where
   pub alignment : Alignment
-  pub width : OptionalNumber
-  pub precision : OptionalNumber
-  pub representation : Shown
+  pub width : Option ℕ
+  pub precision : Option ℕ
+  pub representation : Option Representation
   pub fill : Filled
 
 abbrev pub wanted_by : Fields → Filled → Wanted
@@ -59,24 +55,24 @@ sign_part alignment.Left = less ∷ []
 sign_part alignment.Center = caret ∷ []
 sign_part alignment.Right = greater ∷ []
 
-abbrev pub width_part : OptionalNumber → List ℕ
-width_part (Number n) = digits n
-width_part Nothing = []
+abbrev pub width_part : Option ℕ → List ℕ
+width_part (Some n) = digits n
+width_part None = []
 
-abbrev pub precision_part : OptionalNumber → List ℕ
-precision_part (Number n) = dot ∷ digits n
-precision_part Nothing = []
+abbrev pub precision_part : Option ℕ → List ℕ
+precision_part (Some n) = dot ∷ digits n
+precision_part None = []
 
-abbrev pub letter_part : Shown → List ℕ
-letter_part (As r) = letter r ∷ []
-letter_part Plain = []
+abbrev pub letter_part : Option Representation → List ℕ
+letter_part (Some r) = letter r ∷ []
+letter_part None = []
 
 abbrev pub fill_part : Filled → List ℕ
 fill_part (Bytes f) = f
 fill_part Unfilled = []
 
 -- all after the sign
-abbrev pub tail_for : OptionalNumber → OptionalNumber → Shown → List ℕ
+abbrev pub tail_for : Option ℕ → Option ℕ → Option Representation → List ℕ
 tail_for width precision shown = width_part width ++ (precision_part precision ++ letter_part shown)
 
 abbrev pub candidate : Wanted → List ℕ
@@ -84,22 +80,18 @@ candidate w = fill_part w.fill ++ (sign_part w.alignment ++ tail_for w.width w.p
 
 -- ---- whether it is read back
 
-abbrev pub is_given : OptionalNumber → Bool
-is_given (Number n) = true
-is_given Nothing = false
+abbrev pub is_given : Option ℕ → Bool
+is_given width = is_some width
 
-abbrev pub is_shown : Shown → Bool
-is_shown (As r) = true
-is_shown Plain = false
+abbrev pub is_shown : Option Representation → Bool
+is_shown shown = is_some shown
 
 abbrev pub is_default : Alignment → Bool
 is_default alignment.Default = true
-is_default alignment.Left = false
-is_default alignment.Center = false
-is_default alignment.Right = false
+is_default _ = false
 
 -- something stands after the sign
-abbrev pub has_tail : OptionalNumber → OptionalNumber → Shown → Bool
+abbrev pub has_tail : Option ℕ → Option ℕ → Option Representation → Bool
 has_tail width precision shown = is_given width || (is_given precision || is_shown shown)
 
 abbrev pub is_bare : Wanted → Bool

@@ -2,16 +2,16 @@
 --     parse_small
 -- Assumes nothing.
 use Prim.Native.Nat.{ℕ, zero, suc, ◌+◌}
-use Rattle.std.specs.Prelude.{◌≡◌, drop}
+use Rattle.std.specs.Prelude.{◌≡◌, drop, None, Result, Ok, Err}
 use Rattle.std.proofs.Math.Path.{refl, subst}
 use mathlib.Core.List.{List, [], ◌∷◌}
 use Rattle.format_options.specs.Options.{no_options, with_width, with_precision}
 use Rattle.format_options.specs.declared.Part.{Part}
-use Rattle.format_options.specs.declared.Fill.TheVariants.{NoFill}
 use Rattle.format_options.specs.declared.Options.{Options}
 use Rattle.format_number.specs.Number.{peeked, consume_u32}
-use Rattle.format_number.specs.declared.Consumed.{Consumed}
-use Rattle.format_number.specs.declared.Consumed.TheVariants.{Value, Wrong}
+use Rattle.format_options.specs.declared.FormatError.{FormatError}
+use Rattle.format_number.specs.declared.Number.{Number}
+use Rattle.format_arms.specs.declared.Position.{Position}
 use Rattle.format_arms.specs.Arms.{start, precision, type, arm_of}
 use Rattle.format_arms.specs.declared.Arm.{Arm}
 use Rattle.format_arms.specs.declared.Arm.TheVariants as arm
@@ -35,20 +35,20 @@ module _ (look : ℕ → ℕ) (edition : ℕ) where
   body_small at o c cs s arm.ZeroFill = s
   body_small at o c cs s arm.MinWidth = go (consume_u32 c cs) refl
     where
-      go : (x : Consumed) → consume_u32 c cs ≡ x → SmallAfter (on_consumed x (λ n k. Goes (with_width n o) precision k NoFill))
-      go (Value n k) e = ((number_taken c cs n k e).small, s.1)
-      go (Wrong e) q = tt
+      go : (x : Result Number FormatError) → consume_u32 c cs ≡ x → SmallAfter (on_consumed x (λ n k. Goes (with_width n o) precision k None))
+      go (Ok v) e = ((number_taken c cs v.n v.digits e).small, s.1)
+      go (Err e) q = tt
   body_small at o c cs s arm.Precision = go (consume_u32 (peeked cs) (drop 1 cs)) refl
     where
-      go : (x : Consumed) → consume_u32 (peeked cs) (drop 1 cs) ≡ x → SmallAfter (on_consumed x (λ n k. Goes (with_precision n o) type (suc k) NoFill))
-      go (Value n k) e = (s.0, (number_taken (peeked cs) (drop 1 cs) n k e).small)
-      go (Wrong e) q = tt
+      go : (x : Result Number FormatError) → consume_u32 (peeked cs) (drop 1 cs) ≡ x → SmallAfter (on_consumed x (λ n k. Goes (with_precision n o) type (suc k) None))
+      go (Ok v) e = (s.0, (number_taken (peeked cs) (drop 1 cs) v.n v.digits e).small)
+      go (Err e) q = tt
   body_small at o c cs s (arm.Represent r) = s
   body_small at o c cs s arm.FillCluster = s
   body_small at o c cs s arm.Unexpected = tt
 
   module _ {P : Type 0} (add : P → Part → P) where
-    from_small : (k at p : ℕ) (o : Options) (pool : P) (cs : List ℕ) → SmallBoth o → SmallBoth (parse_from add look edition k at p o pool cs).options
+    from_small : (k at : ℕ) (p : Position) (o : Options) (pool : P) (cs : List ℕ) → SmallBoth o → SmallBoth (parse_from add look edition k at p o pool cs).options
     unfolding parse_from
     from_small k at p o pool [] s = s
     from_small (suc k) at p o pool (c ∷ cs) s = from_small k (at + len_utf8 c) p o pool cs s
@@ -57,7 +57,7 @@ module _ (look : ℕ → ℕ) (edition : ℕ) where
         (λ k q r more t. from_small k (at + len_utf8 c) q r more cs t)
       where
         go : (b : Body) → body_of look edition at o c cs (arm_of c (peeked cs) p) ≡ b
-            → ((k q : ℕ) (r : Options) (more : P) → SmallBoth r → SmallBoth (parse_from add look edition k (at + len_utf8 c) q r more cs).options)
+            → ((k : ℕ) (q : Position) (r : Options) (more : P) → SmallBoth r → SmallBoth (parse_from add look edition k (at + len_utf8 c) q r more cs).options)
             → SmallBoth (parse_from add look edition 0 at p o pool (c ∷ cs)).options
         go (Goes r q k fill) e ih =
             let t : SmallBoth r = subst SmallAfter e (body_small at o c cs s (arm_of c (peeked cs) p)) in

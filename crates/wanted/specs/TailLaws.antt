@@ -5,7 +5,7 @@
 --     WidthEnd, width_end                   from MinWidth, where zeros in front make a fill
 -- Assumes nothing.
 use Prim.Native.Nat.{ℕ, zero, suc, ◌+◌, ◌<◌}
-use Rattle.std.proofs.Common.{arith, add-zero, ◌∙◌, take-append-drop, drop-drop, eqb-true, ltb-true}
+use Rattle.std.proofs.Common.{arith, add-zero, ◌∙◌, take-append-drop, drop-drop, eqb-true, ltb-true, Option, Some, None, Result, Ok, Err}
 use Rattle.std.specs.Prelude.{◌≡◌, true, false, ◌&&◌, eqb, ltb, length, take}
 use Rattle.std.proofs.Math.Path.{refl, sym, ap, subst}
 use Rattle.std.proofs.Math.Bool.{Bool}
@@ -18,25 +18,17 @@ use Rattle.base.specs.PickLaws.{by_test}
 use Rattle.base.specs.AllLaws.{and_left, and_right}
 use Rattle.utf8.specs.Encode.{encode, encode_all}
 use Rattle.utf8.specs.EncodeLaws.{encode1}
-use Rattle.format_options.specs.Options.{with_width, with_precision, with_fill, is_fine}
+use Rattle.format_options.specs.Options.{with_width, with_precision, with_fill}
 use Rattle.format_options.specs.Letters.{no_char, zero_digit, is_sign, is_digit, representation_of}
 use Rattle.format_number.specs.Number.{peeked, consume_u32}
-use Rattle.format_number.specs.NumberLaws.{Errs, number_errs}
+use Rattle.format_arms.specs.declared.Position.{Position}
 use Rattle.format_arms.specs.Arms.{start, alignment, min_width, precision, type, end, dot, letter_of, on_shown, last_arm, arm_of}
 use Rattle.format.specs.Parse.{len_utf8, Body, Goes, Fails, on_consumed, body_of, OnePass, add_fill, parse_from, string_of}
 use Rattle.format_options.specs.declared.Representation.{Representation}
 use Rattle.format_options.specs.declared.Representation.TheVariants as representation
-use Rattle.format_options.specs.declared.OptionalNumber.TheVariants.{Number, Nothing}
-use Rattle.format_options.specs.declared.Shown.{Shown}
-use Rattle.format_options.specs.declared.Shown.TheVariants.{As, Plain}
 use Rattle.format_options.specs.declared.Part.{Part}
-use Rattle.format_options.specs.declared.Fill.{Fill}
-use Rattle.format_options.specs.declared.Fill.TheVariants.{Is, NoFill}
 use Rattle.format_options.specs.declared.Options.{Options}
-use Rattle.format_options.specs.declared.Outcome.{Outcome}
-use Rattle.format_options.specs.declared.Outcome.TheVariants.{Fine, UnexpectedToken}
-use Rattle.format_number.specs.declared.Consumed.{Consumed}
-use Rattle.format_number.specs.declared.Consumed.TheVariants.{Value, Wrong}
+use Rattle.format_options.specs.declared.FormatError.{FormatError}
 use Rattle.format_arms.specs.declared.Arm.{Arm}
 use Rattle.format_arms.specs.declared.Arm.TheVariants as arm
 use Rattle.decimal.specs.Decimal.{digits}
@@ -94,7 +86,7 @@ module _ (c peek : ℕ) where
   arm_width = simp (and_no, and_yes)
 
 -- a letter names one representation
-letter_is : (c : ℕ) (r : Representation) → representation_of c ≡ As r → c ≡ letter r
+letter_is : (c : ℕ) (r : Representation) → representation_of c ≡ Some r → c ≡ letter r
 unfolding representation_of
 letter_is c r =
     by_test Q (eqb c 63) (λ t e. go 63 representation.Debug t e refl)
@@ -106,10 +98,10 @@ letter_is c r =
     (λ _. by_test Q (eqb c 69) (λ t e. go 69 representation.ExpUpper t e refl)
     (λ _ e. absurd (let z : ◌≡◌ {A = ℕ} 0 1 = cc in omega arith))))))))
   where
-    Q : Shown → Type 0
-    Q x = x ≡ As r → c ≡ letter r
+    Q : Option Representation → Type 0
+    Q x = x ≡ Some r → c ≡ letter r
 
-    go : (n : ℕ) (x : Representation) → eqb c n ≡ true → As x ≡ As r → letter x ≡ n → c ≡ letter r
+    go : (n : ℕ) (x : Representation) → eqb c n ≡ true → Some x ≡ Some r → letter x ≡ n → c ≡ letter r
     go n x t e l =
         let q : x ≡ r = cc in
         eqb-true c n t ∙ sym l ∙ ap letter q
@@ -140,28 +132,28 @@ pub record NumberEnd (o r : Options) (cs : List ℕ) : Type 0 where
   pub alignment_is : r.alignment ≡ o.alignment
   pub fill_is : r.fill ≡ o.fill
   pub number : ℕ
-  pub width_is : r.width ≡ Number number
+  pub width_is : r.width ≡ Some number
   pub over : Over (tail_of r) cs
 
 -- the options as yet have nothing that comes after the sign
 pub record Bare (o : Options) : Type 0 where
-  pub width : o.width ≡ Nothing
-  pub precision : o.precision ≡ Nothing
-  pub representation : o.representation ≡ Plain
+  pub width : o.width ≡ None
+  pub precision : o.precision ≡ None
+  pub representation : o.representation ≡ None
 
 -- from MinWidth: all after the sign, with the fill that there was; or with a zero in front, as the fill. s is the format string
 pub data WidthEnd (s : List ℕ) (o r : Options) (cs : List ℕ) : Type 0 where
-  kept : r.alignment ≡ o.alignment → r.fill ≡ o.fill → (is_digit (peeked cs) ≡ true → (n : ℕ) × (r.width ≡ Number n))
+  kept : r.alignment ≡ o.alignment → r.fill ≡ o.fill → (is_digit (peeked cs) ≡ true → (n : ℕ) × (r.width ≡ Some n))
       → Over (tail_of r) cs → WidthEnd s o r cs
-  zeros : (part : Part) (n : ℕ) → r.alignment ≡ o.alignment → r.fill ≡ Is part → string_of s part ≡ zero_digit ∷ [] → r.width ≡ Number n
+  zeros : (part : Part) (n : ℕ) → r.alignment ≡ o.alignment → r.fill ≡ Some part → string_of s part ≡ zero_digit ∷ [] → r.width ≡ Some n
       → Over (zero_digit ∷ tail_of r) cs → WidthEnd s o r cs
 
 -- nothing is left
-type_none : (o : Options) → o.representation ≡ Plain → TypeEnd o o []
+type_none : (o : Options) → o.representation ≡ None → TypeEnd o o []
 type_none o h = record { alignment_is = refl; width_is = refl; precision_is = refl; fill_is = refl; over = rw h (same refl) }
 
 -- no precision
-pub of_type : {o r : Options} {cs : List ℕ} → o.precision ≡ Nothing → TypeEnd o r cs → PrecisionEnd o r cs
+pub of_type : {o r : Options} {cs : List ℕ} → o.precision ≡ None → TypeEnd o r cs → PrecisionEnd o r cs
 of_type {o} {r} {cs} h v =
     record {
       alignment_is = v.alignment_is;
@@ -192,23 +184,16 @@ module _ (s : List ℕ) (at c : ℕ) (cs : List ℕ) (w : drop at s ≡ encode_a
       let n = len_utf8 c in
       ap (λ (i : ℕ). drop i s) (add-zero (at + n)) ∙ sym (drop-drop n at s) ∙ ap (drop n) w ∙ drop-append_seam (encode c) (encode_all cs)
 
--- an error of `consume_u32` is no fine outcome
-wrong_is : (c : ℕ) (cs : List ℕ) (x : Outcome) → consume_u32 c cs ≡ Wrong x → x ≡ Fine → ⊥
-wrong_is c cs x e f =
-    let y : is_fine x ≡ false = subst Errs e (number_errs c cs) in
-    let z : true ≡ false = sym (ap is_fine f) ∙ y in
-    let n : ◌≡◌ {A = ℕ} 0 1 = cc in omega arith
-
 -- ---- one step of the loop
 
 module _ {P : Type 0} (add : P → Part → P) (look : ℕ → ℕ) (edition : ℕ) where
   -- from the byte `at` on, at the position p, the characters cs are read fine, and r comes of it
-  pub record Runs (at p : ℕ) (o : Options) (pool : P) (cs : List ℕ) (r : OnePass P) : Type 0 where
+  pub record Runs (at : ℕ) (p : Position) (o : Options) (pool : P) (cs : List ℕ) (r : OnePass P) : Type 0 where
     pub is : parse_from add look edition 0 at p o pool cs ≡ r
-    pub fine : r.outcome ≡ Fine
+    pub fine : r.outcome ≡ Ok tt
 
   -- k characters are passed over
-  skip : (k at p : ℕ) (o : Options) (pool : P) (cs : List ℕ)
+  skip : (k at : ℕ) (p : Position) (o : Options) (pool : P) (cs : List ℕ)
       → parse_from add look edition k at p o pool cs
       ≡ parse_from add look edition 0 (at + length (encode_all (take k cs))) p o pool (drop k cs)
   unfolding parse_from encode_all
@@ -219,12 +204,12 @@ module _ {P : Type 0} (add : P → Part → P) (look : ℕ → ℕ) (edition : �
       ∙ ap (λ (i : ℕ). parse_from add look edition 0 i p o pool (drop k cs)) (omega (arith, length-append (encode c) (encode_all (take k cs))))
 
   -- nothing is left
-  pub stays : {at p : ℕ} {o : Options} {pool : P} {r : OnePass P} → Runs at p o pool [] r → o ≡ r.options
+  pub stays : {at : ℕ} {p : Position} {o : Options} {pool : P} {r : OnePass P} → Runs at p o pool [] r → o ≡ r.options
   unfolding parse_from
   stays v = ap (λ (x : OnePass P). x.options) v.is
 
   -- the arm goes on, and what comes of it is read from behind the k characters
-  pub turn : (at p : ℕ) (o : Options) (pool : P) (c : ℕ) (cs : List ℕ) {result : Options} {next k : ℕ} {fill : Fill} {a : Arm}
+  pub turn : (at : ℕ) (p : Position) (o : Options) (pool : P) (c : ℕ) (cs : List ℕ) {result : Options} {next : Position} {k : ℕ} {fill : Option Part} {a : Arm}
       → arm_of c (peeked cs) p ≡ a → body_of look edition at o c cs a ≡ Goes result next k fill
       → parse_from add look edition 0 at p o pool (c ∷ cs)
       ≡ parse_from add look edition 0 (at + len_utf8 c + length (encode_all (take k cs))) next result (add_fill add pool fill) (drop k cs)
@@ -233,25 +218,24 @@ module _ {P : Type 0} (add : P → Part → P) (look : ℕ → ℕ) (edition : �
       let y : body_of look edition at o c cs (arm_of c (peeked cs) p) ≡ Goes result next k fill = ap (body_of look edition at o c cs) x ∙ b in
       rw (y, parse_from) (skip k (at + len_utf8 c) next result (add_fill add pool fill) cs)
 
-  module _ {at p : ℕ} {o : Options} {pool : P} {c : ℕ} {cs : List ℕ} {r : OnePass P} (v : Runs at p o pool (c ∷ cs) r) where
-    pub goes : {result : Options} {next k : ℕ} {fill : Fill} {a : Arm} → arm_of c (peeked cs) p ≡ a
+  module _ {at : ℕ} {p : Position} {o : Options} {pool : P} {c : ℕ} {cs : List ℕ} {r : OnePass P} (v : Runs at p o pool (c ∷ cs) r) where
+    pub goes : {result : Options} {next : Position} {k : ℕ} {fill : Option Part} {a : Arm} → arm_of c (peeked cs) p ≡ a
         → body_of look edition at o c cs a ≡ Goes result next k fill
         → Runs (at + len_utf8 c + length (encode_all (take k cs))) next result (add_fill add pool fill) (drop k cs) r
     goes x b = record { is = sym (turn at p o pool c cs x b) ∙ v.is; fine = v.fine }
 
     -- the arm does not fail
-    pub fails : {x : Outcome} {a : Arm} → arm_of c (peeked cs) p ≡ a → body_of look edition at o c cs a ≡ Fails x → x ≡ Fine
+    pub fails : {x : FormatError} {a : Arm} → arm_of c (peeked cs) p ≡ a → body_of look edition at o c cs a ≡ Fails x → ⊥
     unfolding parse_from
     fails {x} {a} q b =
         let y : body_of look edition at o c cs (arm_of c (peeked cs) p) ≡ Fails x = ap (body_of look edition at o c cs) q ∙ b in
-        let w : OnePass P = record { options = o; outcome = x; pool = pool } in
+        let w : OnePass P = record { options = o; outcome = Err x; pool = pool } in
         let z : w ≡ r = rw (y, parse_from) at v.is in
-        ap (λ (u : OnePass P). u.outcome) z ∙ v.fine
+        let e : w.outcome ≡ Ok tt = ap (λ (u : OnePass P). u.outcome) z ∙ v.fine in
+        let n : ◌≡◌ {A = ℕ} 0 1 = cc in omega arith
 
     pub expected : arm_of c (peeked cs) p ≡ arm.Unexpected → ⊥
-    expected a =
-        let x : UnexpectedToken c ≡ Fine = fails a refl in
-        let z : ◌≡◌ {A = ℕ} 0 1 = cc in omega arith
+    expected a = fails a refl
 
   -- ---- from End
 
@@ -265,9 +249,9 @@ module _ {P : Type 0} (add : P → Part → P) (look : ℕ → ℕ) (edition : �
 
   -- ---- from Type
 
-  module _ {at p : ℕ} {o : Options} {pool : P} {c : ℕ} {cs : List ℕ} {r : OnePass P} (v : Runs at p o pool (c ∷ cs) r) where
+  module _ {at : ℕ} {p : Position} {o : Options} {pool : P} {c : ℕ} {cs : List ℕ} {r : OnePass P} (v : Runs at p o pool (c ∷ cs) r) where
     -- a letter, wherever its arm is taken
-    pub shown_end : (x : Representation) → representation_of c ≡ As x → arm_of c (peeked cs) p ≡ arm.Represent x → TypeEnd o r.options (c ∷ cs)
+    pub shown_end : (x : Representation) → representation_of c ≡ Some x → arm_of c (peeked cs) p ≡ arm.Represent x → TypeEnd o r.options (c ∷ cs)
     shown_end x q b =
         let u = end_is cs (goes v b refl) in
         let whole : Over (letter x ∷ []) (c ∷ cs) = over_cons c (letter x) (letter_is c x q) (same u.none) in
@@ -278,11 +262,11 @@ module _ {P : Type 0} (add : P → Part → P) (look : ℕ → ℕ) (edition : �
     letter_end : arm_of c (peeked cs) p ≡ lettered c → TypeEnd o r.options (c ∷ cs)
     letter_end a = go (representation_of c) refl
       where
-        go : (x : Shown) → representation_of c ≡ x → TypeEnd o r.options (c ∷ cs)
-        go (As x) q = shown_end x q (a ∙ ap (λ (y : Shown). on_shown y arm.Represent arm.Unexpected) q)
-        go Plain q = absurd (expected v (a ∙ ap (λ (y : Shown). on_shown y arm.Represent arm.Unexpected) q))
+        go : (x : Option Representation) → representation_of c ≡ x → TypeEnd o r.options (c ∷ cs)
+        go (Some x) q = shown_end x q (a ∙ ap (λ (y : Option Representation). on_shown y arm.Represent arm.Unexpected) q)
+        go None q = absurd (expected v (a ∙ ap (λ (y : Option Representation). on_shown y arm.Represent arm.Unexpected) q))
 
-  type_end : {at : ℕ} {o : Options} {pool : P} (cs : List ℕ) {r : OnePass P} → o.representation ≡ Plain → Runs at type o pool cs r
+  type_end : {at : ℕ} {o : Options} {pool : P} (cs : List ℕ) {r : OnePass P} → o.representation ≡ None → Runs at type o pool cs r
       → TypeEnd o r.options cs
   type_end {o = o} [] h v = subst (λ (x : Options). TypeEnd o x []) (stays v) (type_none o h)
   type_end (c ∷ cs) h v = letter_end v (arm_type c (peeked cs))
@@ -290,17 +274,19 @@ module _ {P : Type 0} (add : P → Part → P) (look : ℕ → ℕ) (edition : �
   -- ---- from Precision
 
   -- a dot and a number, wherever that arm is taken
-  pub dot_end : {at p : ℕ} {o : Options} {pool : P} {c : ℕ} (cs : List ℕ) {r : OnePass P} → o.representation ≡ Plain → Runs at p o pool (c ∷ cs) r
+  pub dot_end : {at : ℕ} {p : Position} {o : Options} {pool : P} {c : ℕ} (cs : List ℕ) {r : OnePass P} → o.representation ≡ None → Runs at p o pool (c ∷ cs) r
       → arm_of c (peeked cs) p ≡ arm.Precision → c ≡ dot → peeked cs < no_char → PrecisionEnd o r.options (c ∷ cs)
   unfolding peeked
   dot_end [] plain v a d h = absurd (omega arith)
   dot_end {at} {p} {o} {pool} {c} (x ∷ ds) {r} plain v a d h = go (consume_u32 x ds) refl
     where
-      b : Consumed → Body
-      b y = on_consumed y (λ n k. Goes (with_precision n o) type (suc k) NoFill)
+      b : Result Number FormatError → Body
+      b y = on_consumed y (λ n k. Goes (with_precision n o) type (suc k) None)
 
-      go : (y : Consumed) → consume_u32 x ds ≡ y → PrecisionEnd o r.options (c ∷ x ∷ ds)
-      go (Value n k) t =
+      go : (y : Result Number FormatError) → consume_u32 x ds ≡ y → PrecisionEnd o r.options (c ∷ x ∷ ds)
+      go (Ok y) t =
+          let n = y.n in
+          let k = y.digits in
           let u = type_end (drop k ds) plain (goes v a (ap b t)) in
           let m = number_taken x ds n k t in
           let joined : (x ∷ take k ds) ++ drop k ds ≡ x ∷ ds = ap {B = List ℕ} (λ (l : List ℕ). x ∷ l) (take-append-drop k ds) in
@@ -312,10 +298,10 @@ module _ {P : Type 0} (add : P → Part → P) (look : ℕ → ℕ) (edition : �
             fill_is = u.fill_is;
             over = rw u.precision_is whole;
           }
-      go (Wrong y) t = absurd (wrong_is x ds y t (fails v a (ap b t)))
+      go (Err y) t = absurd (fails v a (ap b t))
 
   -- at a position where a dot or a letter is taken
-  dotted_end : {at p : ℕ} {o : Options} {pool : P} {c : ℕ} {cs : List ℕ} {r : OnePass P} → o.precision ≡ Nothing → o.representation ≡ Plain
+  dotted_end : {at : ℕ} {p : Position} {o : Options} {pool : P} {c : ℕ} {cs : List ℕ} {r : OnePass P} → o.precision ≡ None → o.representation ≡ None
       → Runs at p o pool (c ∷ cs) r → arm_of c (peeked cs) p ≡ dotted c (peeked cs) → PrecisionEnd o r.options (c ∷ cs)
   dotted_end {o = o} {c = c} {cs = cs} {r = r} none plain v a = go (eqb c dot && ltb (peeked cs) no_char) refl
     where
@@ -325,22 +311,24 @@ module _ {P : Type 0} (add : P → Part → P) (look : ℕ → ℕ) (edition : �
           (ltb-true (peeked cs) no_char (and_right (eqb c dot) _ t))
       go false t = of_type none (letter_end v (a ∙ ap (λ (y : Bool). pick y arm.Precision (lettered c)) t))
 
-  pub precision_end : {at : ℕ} {o : Options} {pool : P} (cs : List ℕ) {r : OnePass P} → o.precision ≡ Nothing → o.representation ≡ Plain
+  pub precision_end : {at : ℕ} {o : Options} {pool : P} (cs : List ℕ) {r : OnePass P} → o.precision ≡ None → o.representation ≡ None
       → Runs at precision o pool cs r → PrecisionEnd o r.options cs
   precision_end {o = o} [] none plain v = subst (λ (x : Options). PrecisionEnd o x []) (stays v) (of_type none (type_none o plain))
   precision_end (c ∷ cs) none plain v = dotted_end none plain v (arm_precision c (peeked cs))
 
   -- ---- a number, wherever the arm of a width is taken
 
-  pub number_end : {at p : ℕ} {o : Options} {pool : P} {c : ℕ} {cs : List ℕ} {r : OnePass P} → o.precision ≡ Nothing → o.representation ≡ Plain
+  pub number_end : {at : ℕ} {p : Position} {o : Options} {pool : P} {c : ℕ} {cs : List ℕ} {r : OnePass P} → o.precision ≡ None → o.representation ≡ None
       → Runs at p o pool (c ∷ cs) r → arm_of c (peeked cs) p ≡ arm.MinWidth → NumberEnd o r.options (c ∷ cs)
   number_end {o = o} {c = c} {cs = cs} {r = r} none plain v a = go (consume_u32 c cs) refl
     where
-      b : Consumed → Body
-      b y = on_consumed y (λ n k. Goes (with_width n o) precision k NoFill)
+      b : Result Number FormatError → Body
+      b y = on_consumed y (λ n k. Goes (with_width n o) precision k None)
 
-      go : (y : Consumed) → consume_u32 c cs ≡ y → NumberEnd o r.options (c ∷ cs)
-      go (Value n k) t =
+      go : (y : Result Number FormatError) → consume_u32 c cs ≡ y → NumberEnd o r.options (c ∷ cs)
+      go (Ok y) t =
+          let n = y.n in
+          let k = y.digits in
           let u = precision_end (drop k cs) none plain (goes v a (ap b t)) in
           let m = number_taken c cs n k t in
           let after = precision_part r.options.precision ++ letter_part r.options.representation in
@@ -353,7 +341,7 @@ module _ {P : Type 0} (add : P → Part → P) (look : ℕ → ℕ) (edition : �
             width_is = u.width_is;
             over = rw u.width_is whole;
           }
-      go (Wrong x) t = absurd (wrong_is c cs x t (fails v a (ap b t)))
+      go (Err x) t = absurd (fails v a (ap b t))
 
   -- ---- from MinWidth
 

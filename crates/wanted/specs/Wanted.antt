@@ -4,17 +4,15 @@
 -- there no addition fails, which is `parse` of the crate `format`, whose pool is a list. That this is what the public call then answers is
 -- `WriteLaws` of the crate `promises`.
 -- Assumes nothing.
-use Rattle.std.specs.Prelude.{ℕ, ◌<◌, ◌≤◌, ◌≡◌, List, ◌∷◌, ◌++◌, length}
+use Rattle.std.specs.Prelude.{ℕ, ◌<◌, ◌≤◌, ◌≡◌, List, ◌∷◌, ◌++◌, length, Option, Some, None, Ok}
 use Rattle.base.specs.Refusal.{format_most}
 use Rattle.utf8.specs.Encode.{WellFormed}
 use Rattle.utf8.specs.Chars.{chars}
 use Rattle.format_options.specs.Options.{alignment_number}
 use Rattle.format.specs.Parse.{parse, string_of}
 use Rattle.parse.specs.Numbers.{given_number, shown_number}
-use Rattle.format_options.specs.declared.Fill.{Fill}
-use Rattle.format_options.specs.declared.Fill.TheVariants.{Is, NoFill}
 use Rattle.format_options.specs.declared.Options.{Options}
-use Rattle.format_options.specs.declared.Outcome.TheVariants.{Fine}
+use Rattle.format_options.specs.declared.Part.{Part}
 
 -- ---- what is asked for
 
@@ -34,9 +32,9 @@ pub record Asked : Type 0 where
 -- ---- reading back
 
 -- the bytes of a fill that was read from s
-abbrev pub filled_of : List ℕ → Fill → Filled
-filled_of s (Is part) = Bytes (string_of s part)
-filled_of s NoFill = Unfilled
+abbrev pub filled_of : List ℕ → Option Part → Filled
+filled_of s (Some part) = Bytes (string_of s part)
+filled_of s None = Unfilled
 
 -- what is told of options that were read from s
 abbrev pub asked_of : List ℕ → Options → Asked
@@ -53,7 +51,7 @@ asked_of s o =
 pub record ReadsBack (look : ℕ → ℕ) (edition : ℕ) (a : Asked) (s : List ℕ) : Type 0 where
   pub small : length s ≤ format_most
   pub well : WellFormed s
-  pub fine : (parse look edition (chars s)).outcome ≡ Fine
+  pub fine : (parse look edition (chars s)).outcome ≡ Ok tt
   pub same : asked_of s (parse look edition (chars s)).options ≡ a
 
 -- ---- the order

@@ -6,7 +6,7 @@
 --     one_answer       no second answer and no second buffer fit
 --     kept             a refusal leaves the buffer
 -- Assumes nothing.
-use Rattle.std.specs.Prelude.{ℕ, ◌+◌, ◌<◌, ◌≤◌, ◌≡◌, List, [], ◌++◌, Bool, true, false, leb, length}
+use Rattle.std.specs.Prelude.{ℕ, ◌+◌, ◌<◌, ◌≤◌, ◌≡◌, List, [], ◌++◌, Bool, true, false, leb, length, Result, Ok, Err}
 use Rattle.std.proofs.Common.{arith, ap, ◌∙◌, length-append, lt-ltb, le-ltb, le-leb}
 use Rattle.std.proofs.Math.Path.{refl, sym, subst}
 use Rattle.std.proofs.lemmas.Bool.{lt-leb}
@@ -25,23 +25,23 @@ use Rattle.wanted.specs.Candidate.{wanted_by, candidate, fill_fits, writable, ca
 use Rattle.wanted.specs.TailLaws.{and_yes, and_no}
 use Rattle.format_parts.specs.Parts.{parts_of}
 use Rattle.writer.specs.Call.{buffer_after, WritesIf, filled_by, format_for, write_answer, Writes, number_of}
-use Rattle.writer.specs.declared.Written.{Written}
-use Rattle.writer.specs.declared.Written.TheVariants.{Length, Refused, NoSuchFormat, NoRoom}
+use Rattle.writer.specs.declared.WriteError.{WriteError}
+use Rattle.writer.specs.declared.WriteError.TheVariants.{Refused, NoSuchFormat, NoRoom}
 
 -- ---- a string, by the tests
 
 module _ (s old : List ℕ) where
-  pub not_one : (can : Bool) → can ≡ false → WritesIf can s old old NoSuchFormat
+  pub not_one : (can : Bool) → can ≡ false → WritesIf can s old old (Err NoSuchFormat)
   not_one can e = rw e (record { answer = refl; contents = refl })
 
-  pub no_room_lem : (can : Bool) → can ≡ true → length old < length s → WritesIf can s old old NoRoom
+  pub no_room_lem : (can : Bool) → can ≡ true → length old < length s → WritesIf can s old old (Err NoRoom)
   no_room_lem can e h = let t = lt-ltb (length old) (length s) h in record { answer = rw (e, t) refl; contents = rw (e, t) refl }
 
   pub enough : (can : Bool) → can ≡ true → length s ≤ length old → (n : ℕ) (new : List ℕ) → n ≡ length s → new ≡ written old 0 s
-      → WritesIf can s old new (Length n)
+      → WritesIf can s old new (Ok n)
   enough can e h n new a b =
       let t = le-ltb (length old) (length s) h in
-      record { answer = rw (e, t) (ap Length a); contents = rw (e, t) b }
+      record { answer = rw (e, t) (ap Ok a); contents = rw (e, t) b }
 
 -- a fill and k bytes behind it
 module _ (fill parts old : List ℕ) (k : ℕ) (e : k ≡ length parts) where
@@ -51,14 +51,14 @@ module _ (fill parts old : List ℕ) (k : ℕ) (e : k ≡ length parts) where
   long : length (fill ++ parts) ≡ length fill + k
   long = omega (arith, e, length-append fill parts)
 
-  pub put_long : format_most < length fill + k → WritesIf short (fill ++ parts) old old NoSuchFormat
+  pub put_long : format_most < length fill + k → WritesIf short (fill ++ parts) old old (Err NoSuchFormat)
   put_long h = not_one (fill ++ parts) old short (lt-leb (length (fill ++ parts)) format_most (omega (arith, long)))
 
   module _ (h : length fill + k ≤ format_most) where
     is_short : short ≡ true
     is_short = le-leb (length (fill ++ parts)) format_most (omega (arith, long))
 
-    pub put_few : length old < length fill + k → WritesIf short (fill ++ parts) old old NoRoom
+    pub put_few : length old < length fill + k → WritesIf short (fill ++ parts) old old (Err NoRoom)
     put_few m = no_room_lem (fill ++ parts) old short is_short (omega (arith, long))
 
     module _ (m : length fill + k ≤ length old) (row : List ℕ) (w : row ≡ written old 0 fill) where
@@ -66,13 +66,13 @@ module _ (fill parts old : List ℕ) (k : ℕ) (e : k ≡ length parts) where
       put_room = omega (arith, e, ap length w, length_written old 0 fill (omega arith))
 
       pub put_all : (n : ℕ) (new : List ℕ) → (n ≡ length fill + length parts) × (new ≡ written row (length fill) parts)
-          → WritesIf short (fill ++ parts) old new (Length n)
+          → WritesIf short (fill ++ parts) old new (Ok n)
       put_all n new v =
           enough (fill ++ parts) old short is_short (omega (arith, long)) n new (v.0 ∙ sym (length-append fill parts))
           (v.1 ∙ ap (λ (l : List ℕ). written l (length fill) parts) w ∙ write_behind old 0 (length fill) fill parts (omega arith) (omega (arith, e)))
 
 -- the same string under a test with the same answer
-pub same_test : {can can' : Bool} {s old new : List ℕ} {r : Written} → can ≡ can' → WritesIf can s old new r → WritesIf can' s old new r
+pub same_test : {can can' : Bool} {s old new : List ℕ} {r : Result ℕ WriteError} → can ≡ can' → WritesIf can s old new r → WritesIf can' s old new r
 same_test {can} {can'} {s} {old} {new} {r} e w = subst (λ (t : Bool). WritesIf t s old new r) e w
 
 -- ---- whether a string is written, by the fill
@@ -98,25 +98,25 @@ module _ (alignment width precision representation : ℕ) (given : Bool) (fill t
   abbrev checked : Input
   checked = input_check 0 [] table edition
 
-  abbrev answer : Written
+  abbrev answer : Result ℕ WriteError
   answer = write_answer alignment width precision representation given fill table edition (length old)
 
   abbrev format : List ℕ
   format = format_for alignment width precision representation given fill table edition
 
   pub refused : (x : Refusal) → checked ≡ input.Refused x
-      → Writes alignment width precision representation given fill table edition old old (Refused x)
+      → Writes alignment width precision representation given fill table edition old old (Err (Refused x))
   refused x e = record { answer = rw e refl; contents = rw e refl }
 
   module _ (e : checked ≡ input.Fine) where
     pub no_options_lem : are_fields alignment width precision representation ≡ false
-        → Writes alignment width precision representation given fill table edition old old NoSuchFormat
+        → Writes alignment width precision representation given fill table edition old old (Err NoSuchFormat)
     unfolding can_write
     no_options_lem n = record { answer = rw (e, n) refl; contents = rw (e, n) refl }
 
     module _ (n : are_fields alignment width precision representation ≡ true) where
       -- the options and the fill that are asked for
-      pub told : {new : List ℕ} {r : Written} (g : Fields) → g ≡ fields_of alignment width precision representation
+      pub told : {new : List ℕ} {r : Result ℕ WriteError} (g : Fields) → g ≡ fields_of alignment width precision representation
           → (f : Filled) → f ≡ filled_by given fill
           → WritesIf (writable (properties_at table) edition (wanted_by g f)) (candidate (wanted_by g f)) old new r
           → Writes alignment width precision representation given fill table edition old new r
@@ -127,16 +127,14 @@ module _ (alignment width precision representation : ℕ) (given : Bool) (fill t
           let v = subst (λ (y : Filled). F (fields_of alignment width precision representation) y) q (subst (λ (x : Fields). F x f) p w) in
           record { answer = rw (e, n) v.answer; contents = rw (e, n) v.contents }
 
-  pub one_answer : {new new' : List ℕ} {r r' : Written} → Writes alignment width precision representation given fill table edition old new r
+  pub one_answer : {new new' : List ℕ} {r r' : Result ℕ WriteError} → Writes alignment width precision representation given fill table edition old new r
       → Writes alignment width precision representation given fill table edition old new' r' → (r ≡ r') × (new ≡ new')
   one_answer v w = (v.answer ∙ sym w.answer, v.contents ∙ sym w.contents)
 
-  pub kept : {new : List ℕ} {r : Written} → Writes alignment width precision representation given fill table edition old new r
+  pub kept : {new : List ℕ} {r : Result ℕ WriteError} → Writes alignment width precision representation given fill table edition old new r
       → (number_of r ≡ none → ⊥) → new ≡ old
   kept {new} {r} v n = v.contents ∙ go answer (λ e. n (ap number_of v.answer ∙ e))
     where
-      go : (a : Written) → (number_of a ≡ none → ⊥) → buffer_after a format old ≡ old
-      go (Length k) n = absurd (n refl)
-      go (Refused x) n = refl
-      go NoSuchFormat n = refl
-      go NoRoom n = refl
+      go : (a : Result ℕ WriteError) → (number_of a ≡ none → ⊥) → buffer_after a format old ≡ old
+      go (Ok k) n = absurd (n refl)
+      go (Err e) n = refl

@@ -20,10 +20,9 @@ use format_parts::{parts_len, put_parts};
 use input::{FORMAT_MOST, Input, Refusal, check_input};
 use pool::copy_in;
 
-// What `write_format` answers: how many bytes the format string has, or a refusal, under document 02's name.
+// What `write_format` refuses, under document 02's names.
 #[derive(Clone, Copy)]
-pub enum Written {
-    Length(usize),
+pub enum WriteError {
     // 17 and 2, which come before any work.
     Refused(Refusal),
     // 18: no format string is read back as the options. Its place is 0.
@@ -32,20 +31,20 @@ pub enum Written {
     NoRoom,
 }
 
-// Writes a fill that fits and what stands behind it. How many bytes are needed is known before one is written.
-fn put_format(fields: Fields, fill: &[u8], buffer: &mut [u8]) -> Written
+// Writes a fill that fits and what stands behind it: how many bytes they have, which is known before one is written.
+fn put_format(fields: Fields, fill: &[u8], buffer: &mut [u8]) -> Result<usize, WriteError>
     ensures { WritesIf (leb (length (fill.now ++ parts_of fields)) format_most) (fill.now ++ parts_of fields)
         buffer.old buffer.new result }
 {
     let needed = fill.len() + parts_len(fields);
     if FORMAT_MOST < needed {
-        return Written::NoSuchFormat;
+        return Err(WriteError::NoSuchFormat);
     }
     if buffer.len() < needed {
-        return Written::NoRoom;
+        return Err(WriteError::NoRoom);
     }
     copy_in(fill, buffer, 0);
-    Written::Length(put_parts(buffer, fill.len(), fields))
+    Ok(put_parts(buffer, fill.len(), fields))
 }
 
 // The same for a fill that may not fit.
@@ -55,7 +54,7 @@ fn write_filled(
     table: &[u32],
     edition: u32,
     buffer: &mut [u8],
-) -> Written
+) -> Result<usize, WriteError>
     requires { FitTable table.now }
     ensures { WritesIf (writable (properties_at table.now) edition (wanted_by fields (Bytes fill.now)))
         (candidate (wanted_by fields (Bytes fill.now))) buffer.old buffer.new result }
@@ -63,12 +62,12 @@ fn write_filled(
     if fill_fits(fill, table, edition, fields) {
         return put_format(fields, fill, buffer);
     }
-    Written::NoSuchFormat
+    Err(WriteError::NoSuchFormat)
 }
 
-// Writes the format string for options to the start of a lent buffer; bytes past it stay. Refused are an edition that is none, then a table that
-// is unfit, then options as which no format string is read back, then a buffer that is too short; each writes nothing. A fill that is not given
-// is not looked at.
+// Writes the format string for options to the start of a lent buffer: how many bytes it has. Bytes past it stay. Refused are an edition that is
+// none, then a table that is unfit, then options as which no format string is read back, then a buffer that is too short; each writes nothing. A
+// fill that is not given is not looked at.
 pub fn write_format(
     alignment: u64,
     width: u64,
@@ -79,15 +78,15 @@ pub fn write_format(
     table: &[u32],
     edition: u32,
     buffer: &mut [u8],
-) -> Written
+) -> Result<usize, WriteError>
     ensures { Writes alignment width precision representation filled fill.now table.now edition
         buffer.old buffer.new result }
 {
     match check_input(b"", table, edition, 0) {
-        Input::Refused(refusal) => Written::Refused(refusal),
+        Input::Refused(refusal) => Err(WriteError::Refused(refusal)),
         Input::Fine => {
             if !are_fields(alignment, width, precision, representation) {
-                return Written::NoSuchFormat;
+                return Err(WriteError::NoSuchFormat);
             }
             let fields = fields_of(alignment, width, precision, representation);
             if filled {

@@ -4,18 +4,18 @@ use Rattle.base.specs.CasesLaws.{chain}
 use Rattle.asked.specs.Fields.{alignment_of}
 use Rattle.asked.proofs.alignment_of.Goals as goal
 
-pub returns-then-number-eq1 : goal.returns-then-number-eq1
+pub returns-in-1 : goal.returns-in-1
 unfolding alignment_of
-returns-then-number-eq1 c = sym (search chain depth 12 fits 4000)
+returns-in-1 c = rw c.in-1.is
 
-pub returns-then-number-eq2 : goal.returns-then-number-eq2
+pub returns-in-2 : goal.returns-in-2
 unfolding alignment_of
-returns-then-number-eq2 c = sym (search chain depth 12 fits 4000)
+returns-in-2 c = rw c.in-2.is
 
-pub returns-then-number-eq3 : goal.returns-then-number-eq3
+pub returns-in-3 : goal.returns-in-3
 unfolding alignment_of
-returns-then-number-eq3 c = sym (search chain depth 12 fits 4000)
+returns-in-3 c = rw c.in-3.is
 
-pub returns : goal.returns
+pub returns-in_default : goal.returns-in_default
 unfolding alignment_of
-returns c = sym (search chain depth 12 fits 4000)
+returns-in_default c = sym (search chain depth 12 fits 4000)

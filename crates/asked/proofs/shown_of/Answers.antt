@@ -4,34 +4,34 @@ use Rattle.base.specs.CasesLaws.{chain}
 use Rattle.asked.specs.Fields.{shown_of}
 use Rattle.asked.proofs.shown_of.Goals as goal
 
-pub returns-then-number-eq0 : goal.returns-then-number-eq0
+pub returns-in-0 : goal.returns-in-0
 unfolding shown_of
-returns-then-number-eq0 c = sym (search chain depth 12 fits 4000)
+returns-in-0 c = rw c.in-0.is
 
-pub returns-then-number-eq1 : goal.returns-then-number-eq1
+pub returns-in-1 : goal.returns-in-1
 unfolding shown_of
-returns-then-number-eq1 c = sym (search chain depth 12 fits 4000)
+returns-in-1 c = rw c.in-1.is
 
-pub returns-then-number-eq2 : goal.returns-then-number-eq2
+pub returns-in-2 : goal.returns-in-2
 unfolding shown_of
-returns-then-number-eq2 c = sym (search chain depth 12 fits 4000)
+returns-in-2 c = rw c.in-2.is
 
-pub returns-then-number-eq3 : goal.returns-then-number-eq3
+pub returns-in-3 : goal.returns-in-3
 unfolding shown_of
-returns-then-number-eq3 c = sym (search chain depth 12 fits 4000)
+returns-in-3 c = rw c.in-3.is
 
-pub returns-then-number-eq4 : goal.returns-then-number-eq4
+pub returns-in-4 : goal.returns-in-4
 unfolding shown_of
-returns-then-number-eq4 c = sym (search chain depth 12 fits 4000)
+returns-in-4 c = rw c.in-4.is
 
-pub returns-then-number-eq5 : goal.returns-then-number-eq5
+pub returns-in-5 : goal.returns-in-5
 unfolding shown_of
-returns-then-number-eq5 c = sym (search chain depth 12 fits 4000)
+returns-in-5 c = rw c.in-5.is
 
-pub returns-then-number-eq6 : goal.returns-then-number-eq6
+pub returns-in-6 : goal.returns-in-6
 unfolding shown_of
-returns-then-number-eq6 c = sym (search chain depth 12 fits 4000)
+returns-in-6 c = rw c.in-6.is
 
-pub returns : goal.returns
+pub returns-in_default : goal.returns-in_default
 unfolding shown_of
-returns c = sym (search chain depth 12 fits 4000)
+returns-in_default c = sym (search chain depth 12 fits 4000)

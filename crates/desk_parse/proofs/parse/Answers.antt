@@ -1,4 +1,5 @@
 -- `desk_parse::parse` meets its contract: where the desks are fit, it is the parse in the part of the rows that the desk may fill. Assumes nothing.
+use Rattle.std.specs.Prelude.{Err}
 use Prim.Native.Nat.{ℕ, ◌*◌, ◌≤◌}
 use native.Mathlib.Omega.{arith}
 use mathlib.Core.Path.{◌≡◌, refl, sym, ap, ◌∙◌}
@@ -49,7 +50,7 @@ said p =
 pub returns-then-not-is_fit : goal.returns-then-not-is_fit
 returns-then-not-is_fit c =
     settled_unfit _ _ _ c.args.which _ (sym c.is_fit.ensures ∙ c.if-not-is_fit.true) _
-    c.refuse.ensures refl refl
+    (ap Err c.refuse.ensures) refl refl
 
 pub slice_bounds-parse-end : goal.slice_bounds-parse-end
 slice_bounds-parse-end c = bytes_within (goal.at.slice_bounds-parse-end c).After-room_for-room

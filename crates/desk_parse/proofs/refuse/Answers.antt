@@ -2,8 +2,8 @@
 use mathlib.Core.Path.{sym, ◌∙◌}
 use Rattle.desk_parse.proofs.refuse.Goals as goal
 
-pub returns-in-Refused : goal.returns-in-Refused
-returns-in-Refused c = rw (sym c.read.ensures ∙ c.in-Refused.is)
+pub returns-in-Err : goal.returns-in-Err
+returns-in-Err c = rw (sym c.read.ensures ∙ c.in-Err.is)
 
-pub returns-in-Read : goal.returns-in-Read
-returns-in-Read c = rw (sym c.read.ensures ∙ c.in-Read.is)
+pub returns-in-Ok : goal.returns-in-Ok
+returns-in-Ok c = rw (sym c.read.ensures ∙ c.in-Ok.is)

@@ -12,20 +12,20 @@ use Rattle.utf8.proofs.Tags.{stopped}
 use Rattle.property.specs.Table.{properties_at}
 use Rattle.format.proofs.Going.{begins, ends, stands, Turned, turned}
 use Rattle.format.proofs.read_format.Goals as goal
-use Rattle.format.proofs.read_format.Goals.{After-is_fine}
+use Rattle.format.proofs.read_format.Goals.{After-is_err}
 
-abbrev src : After-is_fine → List ℕ
+abbrev src : After-is_err → List ℕ
 src t = t.args.format.now
 
-abbrev look : After-is_fine → ℕ → ℕ
+abbrev look : After-is_err → ℕ → ℕ
 look t = properties_at t.args.table.now
 
-found : (t : After-is_fine) → read_at (src t) t.loop-code.p.at ≡ Char t.in-Char.code t.in-Char.len
+found : (t : After-is_err) → read_at (src t) t.loop-code.p.at ≡ Char t.in-Char.code t.in-Char.len
 found t = sym t.read_char.ensures ∙ t.in-Char.is
 
-after : (t : After-is_fine) (y : Bool) → t.is_fine.result ≡ y
+after : (t : After-is_err) (y : Bool) → t.is_err.result ≡ y
     → Turned (look t) t.args.edition (src t) _ t.loop-code.invariant _ _ (found t) y t.take_turn-p.result
-after t y e = turned (look t) _ (src t) _ t.loop-code.invariant _ _ (found t) _ y t.take_turn-p.ensures (sym t.is_fine.ensures ∙ e)
+after t y e = turned (look t) _ (src t) _ t.loop-code.invariant _ _ (found t) _ y t.take_turn-p.ensures (sym t.is_err.ensures.value ∙ e)
 
 pub loop-code-init : goal.loop-code-init
 loop-code-init c = rw c.new-p.ensures (begins (properties_at c.args.table.now) _ _ c.requires.0 c.requires.1)
@@ -41,11 +41,11 @@ take_turn-p-requires c =
     (stands _ _ _ _ c.loop-code.invariant _ _ (sym c.read_char.ensures ∙ c.in-Char.is), c.requires.2)
 
 -- the arm has failed
-pub returns-then-not-is_fine : goal.returns-then-not-is_fine
-returns-then-not-is_fine c = c.end-then-not-is_fine.ensures ∙ after (goal.at.returns-then-not-is_fine c).After-is_fine false c.if-not-is_fine.true
+pub returns-then-is_err : goal.returns-then-is_err
+returns-then-is_err c = c.end-then-is_err.ensures ∙ after (goal.at.returns-then-is_err c).After-is_err true c.if-is_err.true
 
 pub loop-code-smaller : goal.loop-code-smaller
-loop-code-smaller c = let o = after (goal.at.loop-code-smaller c).After-is_fine true c.if-not-is_fine.false in omega (arith, o.later, o.going.within)
+loop-code-smaller c = let o = after (goal.at.loop-code-smaller c).After-is_err false c.if-is_err.false in omega (arith, o.later, o.going.within)
 
 pub loop-code-preserved : goal.loop-code-preserved
-loop-code-preserved c = (after (goal.at.loop-code-preserved c).After-is_fine true c.if-not-is_fine.false).going
+loop-code-preserved c = (after (goal.at.loop-code-preserved c).After-is_err false c.if-is_err.false).going

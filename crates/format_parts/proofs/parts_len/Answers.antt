@@ -1,4 +1,5 @@
 -- `format_parts::parts_len` meets its contract: the parts are as long as each of them. Assumes nothing.
+use Rattle.std.specs.Prelude.{Option}
 use Prim.Native.Nat.{ℕ}
 use native.Mathlib.Omega.{arith}
 use mathlib.Core.Path.{ap, ◌∙◌}
@@ -9,7 +10,7 @@ use Rattle.format_parts.proofs.parts_len.Goals as goal
 
 pub returns : goal.returns
 returns c =
-    let lens : ℕ → ℕ = λ x. length (byte_part x) in (
+    let lens : Option ℕ → ℕ = λ x. length (byte_part x) in (
       omega (
         arith,
         c.byte_len-sign.ensures.0 ∙ ap lens c.sign_of.ensures,

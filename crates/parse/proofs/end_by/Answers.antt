@@ -1,8 +1,8 @@
 -- `parse::end_by` meets its contract: its arms are those of `end_by`. Assumes nothing.
 use Rattle.parse.proofs.end_by.Goals as goal
 
-pub returns-in-Refused : goal.returns-in-Refused
-returns-in-Refused c = rw c.in-Refused.is
+pub returns-in-Err : goal.returns-in-Err
+returns-in-Err c = rw c.in-Err.is
 
-pub returns-in-Read : goal.returns-in-Read
-returns-in-Read c = rw (c.in-Read.is, c.answer_of.ensures)
+pub returns-in-Ok : goal.returns-in-Ok
+returns-in-Ok c = rw (c.in-Ok.is, c.answer_of.ensures)

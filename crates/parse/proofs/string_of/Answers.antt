@@ -3,11 +3,11 @@ use native.Mathlib.Omega.{arith}
 use Rattle.parse.specs.PlanLaws.{string_is, part_in}
 use Rattle.parse.proofs.string_of.Goals as goal
 
-pub overflow_add-end : goal.overflow_add-end
-overflow_add-end c = omega (arith, part_in c.args.format.now c.args.fill _ c.in-Is.is c.requires)
+pub overflow_add-result : goal.overflow_add-result
+overflow_add-result c = omega (arith, part_in c.args.format.now c.args.fill _ c.in-Some.is c.requires)
 
 pub slice_bounds-result-end : goal.slice_bounds-result-end
-slice_bounds-result-end c = part_in c.args.format.now c.args.fill _ c.in-Is.is c.requires
+slice_bounds-result-end c = part_in c.args.format.now c.args.fill _ c.in-Some.is c.requires
 
-pub returns-in-Is : goal.returns-in-Is
-returns-in-Is c = string_is c.args.format.now c.args.fill _ c.in-Is.is
+pub returns-in-Some : goal.returns-in-Some
+returns-in-Some c = string_is c.args.format.now c.args.fill _ c.in-Some.is

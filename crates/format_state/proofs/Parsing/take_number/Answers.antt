@@ -5,10 +5,10 @@ use Rattle.format_number.specs.Number.{digits_of}
 use Rattle.format_state.proofs.Parsing.take_number.Goals as goal
 
 pub overflow_add-at : goal.overflow_add-at
-overflow_add-at c = omega (arith, ap digits_of c.in-Value.is, c.requires)
+overflow_add-at c = omega (arith, ap digits_of c.in-Ok.is, c.requires)
 
-pub returns-in-Value : goal.returns-in-Value
-returns-in-Value c = rw (c.in-Value.is, c.go_numbered.ensures)
+pub returns-in-Ok : goal.returns-in-Ok
+returns-in-Ok c = rw (c.in-Ok.is, c.go_numbered.ensures)
 
-pub returns-in-Wrong : goal.returns-in-Wrong
-returns-in-Wrong c = rw (c.in-Wrong.is, c.fail.ensures)
+pub returns-in-Err : goal.returns-in-Err
+returns-in-Err c = rw (c.in-Err.is, c.fail.ensures)
