@@ -16,8 +16,7 @@ const TEXT_MOST: usize = 1024;
 
 // A space and a number.
 fn print_number(rt: &impl Print, n: u64) -> io::Result<()> {
-    rt.print(" ")?;
-    rt.print(n)
+    print!(rt; " {n}")
 }
 
 // A space and the sign for none.
@@ -69,10 +68,7 @@ fn print_options(rt: &impl Print, options: Options, index: Option<u32>) -> io::R
 
 // A refusal: its number, and its place or value.
 fn print_refused(rt: &impl Print, number: u32, value: u64) -> io::Result<()> {
-    rt.print("refused")?;
-    print_number(rt, number as u64)?;
-    print_number(rt, value)?;
-    rt.println("")
+    println!(rt; "refused {number} {value}")
 }
 
 fn print_answer(rt: &impl Print, parsed: Result<Parsed, ParseError>) -> io::Result<()> {
@@ -82,35 +78,19 @@ fn print_answer(rt: &impl Print, parsed: Result<Parsed, ParseError>) -> io::Resu
     }
 }
 
-// A byte in two hex digits.
-fn print_byte(rt: &impl Print, byte: u8) -> io::Result<()> {
-    print!(rt; "{byte:02x}")
-}
-
-// The bytes from a place to before another, in hex; no byte past the row's end.
-fn print_bytes(rt: &impl Print, bytes: &[u8], start: usize, end: usize) -> io::Result<()> {
-    for i in start..end {
-        if i < bytes.len() {
-            print_byte(rt, bytes[i])?;
-        }
+// A space, and the bytes of a string in hex: those from its place on, as far as the row has them.
+fn print_string(rt: &impl Print, bytes: &[u8], place: u32, len: u32) -> io::Result<()> {
+    rt.print(" ")?;
+    for byte in bytes.iter().skip(place as usize).take(len as usize) {
+        print!(rt; "{byte:02x}")?;
     }
     Ok(())
 }
 
-// A space, and a string by where it starts and how long it is.
-fn print_string(rt: &impl Print, bytes: &[u8], start: u32, long: u32) -> io::Result<()> {
-    let first = start as usize;
-    let end = first + long as usize;
-    rt.print(" ")?;
-    print_bytes(rt, bytes, first, end)
-}
-
 // The strings of the first n entries.
 fn print_strings(rt: &impl Print, bytes: &[u8], entries: &[u32], n: usize) -> io::Result<()> {
-    for k in 0..n {
-        if k < entries.len() / 2 {
-            print_string(rt, bytes, entries[2 * k], entries[2 * k + 1])?;
-        }
+    for entry in entries.chunks_exact(2).take(n) {
+        print_string(rt, bytes, entry[0], entry[1])?;
     }
     Ok(())
 }

@@ -5,8 +5,6 @@ use std::io;
 
 fn main(rt: HostRuntime) -> io::Result<()> {
     // One byte more than a format string may have, so that one too many is seen.
-    let mut text = [0u8; 1025];
-    let mut input = rt.reader();
-    let n = lines::read_full(&mut input, &mut text)?;
-    formatting::print_format(&rt, &text[..n])
+    let text = lines::read_most(&rt, &mut rt.reader(), 1025)?;
+    formatting::print_format(&rt, &text)
 }

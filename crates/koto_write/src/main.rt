@@ -2,20 +2,15 @@
 // them and the fill's bytes in hex, each `-` where there is none. With the small table, and at most 1,024 bytes of a format string.
 #![tactic(auto)]
 
+use lines::Fields;
 use std::io;
 use writer::{WriteError, answer};
 
-// Whether the field at a place of the text is there, and no `-`.
-fn is_given(text: &[u8], at: usize) -> bool {
-    at < text.len() && text[at] != b'-'
-}
-
-// The number at a place of the text.
-fn number_at(text: &[u8], at: usize) -> u64 {
-    if is_given(text, at) {
-        return lines::number(text, at) as u64;
-    }
-    fills::NONE
+// The number of the next field.
+fn next_number(fields: &mut Fields) -> u64 {
+    let is_given = fields.is_given();
+    let number = fields.number();
+    if is_given { number as u64 } else { fills::NONE }
 }
 
 // A refusal: its number and its place.
@@ -32,9 +27,9 @@ fn print_answer(
 ) -> io::Result<()> {
     match written {
         Ok(n) => {
-            if n <= buffer.len() {
+            if let Some(format) = buffer.get(..n) {
                 rt.print("format ")?;
-                rt.write_all(&buffer[..n])?;
+                rt.write_all(format)?;
                 rt.println("")?;
             }
             Ok(())
@@ -44,21 +39,23 @@ fn print_answer(
 }
 
 fn print_format(rt: &impl Print, text: &[u8]) -> io::Result<()> {
-    let width_at = lines::past(text, 0, b' ');
-    let precision_at = lines::past(text, width_at, b' ');
-    let representation_at = lines::past(text, precision_at, b' ');
-    let fill_at = lines::past(text, representation_at, b' ');
-    let mut fill = [0u8; 1024];
-    let n = lines::hex(text, fill_at, &mut fill);
+    let mut fields = Fields::of(text);
+    let alignment = next_number(&mut fields);
+    let width = next_number(&mut fields);
+    let precision = next_number(&mut fields);
+    let representation = next_number(&mut fields);
+    let is_filled = fields.is_given();
+    let mut fill_buffer = [0u8; 1024];
+    let fill = fields.hex(&mut fill_buffer);
     let table = fitness::small_table();
     let mut buffer = [0u8; 1024];
     let written = writer::write_format(
-        number_at(text, 0),
-        number_at(text, width_at),
-        number_at(text, precision_at),
-        number_at(text, representation_at),
-        is_given(text, fill_at),
-        &fill[..n],
+        alignment,
+        width,
+        precision,
+        representation,
+        is_filled,
+        fill,
         &table,
         input::WITH_GB9C,
         &mut buffer,
@@ -67,8 +64,6 @@ fn print_format(rt: &impl Print, text: &[u8]) -> io::Result<()> {
 }
 
 fn main(rt: HostRuntime) -> io::Result<()> {
-    let mut text = [0u8; 4096];
-    let mut input = rt.reader();
-    let n = lines::read_full(&mut input, &mut text)?;
-    print_format(&rt, &text[..n])
+    let text = lines::read_most(&rt, &mut rt.reader(), 4096)?;
+    print_format(&rt, &text)
 }

@@ -1,128 +1,121 @@
-// The fields of a line: one case a line, fields separated by one space, bytes in hex and numbers in decimal (tools/README.md). What is read is
+// The fields of a text: one case a line, fields separated by one space, bytes in hex and numbers in decimal (tools/README.md). What is read is
 // compared by running, so the contracts say no more than what a caller needs to be safe and to end.
-ghost use Rattle.std.specs.Prelude.{◌≡◌, ◌+◌, ◌<◌, length};
-ghost use Rattle.lines.specs.Counts.{IsPrefixLen};
+ghost use Rattle.std.specs.Prelude.{◌≡◌, ◌+◌, ◌<◌, ◌≤◌, length, IfSome};
 
 // The place after the first `mark` from `at` on: with a space the next field, with a newline the next line. Where there is none it is the end
 // of the text, or `at` where that is past the end. So within the text it is further on.
 pub fn past(text: &[u8], at: usize, mark: u8) -> usize
     ensures { at < length text.now → at < result }
 {
-    let mut i = at;
-    while i < text.len() {
-        if text[i] == mark {
-            return i + 1;
-        }
-        i += 1;
+    if text.len() <= at {
+        return at;
     }
-    i
-}
-
-// What a digit says, "0" to "9" or "a" to "f"; 16 for any other byte.
-fn digit_of(b: u8) -> u8 {
-    if b < 48 {
-        return 16;
+    match text[at..].iter().position(|b| *b == mark) {
+        Some(i) => at + i + 1,
+        None => text.len(),
     }
-    if b <= 57 {
-        return b - 48;
-    }
-    if b < 97 {
-        return 16;
-    }
-    if b <= 102 {
-        return b - 87;
-    }
-    16
 }
 
 // The decimal number at a place, up to the first byte that is no digit; 0 where no digit is there. It has at most 19 digits.
 pub fn number(text: &[u8], at: usize) -> usize
     ensures { result < 10000000000000000000 }
 {
-    let mut value: usize = 0;
-    let mut i = at;
-    while i < text.len() {
-        let digit = digit_of(text[i]);
-        if 10 <= digit {
-            return value;
-        }
+    let mut value = 0;
+    for b in text.iter().skip(at) {
         // A number so large takes no further digit.
-        if 1_000_000_000_000_000_000 <= value {
-            return value;
+        if !b.is_ascii_digit() || 1_000_000_000_000_000_000 <= value {
+            break;
         }
-        value = 10 * value + (digit as usize);
-        i += 1;
+        value = 10 * value + usize::from(*b - b'0');
     }
     value
 }
 
-// The place of the next field, where the number at a place is this value; 0 where it is another, or where the place is 0. So fields are
-// compared one after the other, and a difference stays.
-pub fn same(text: &[u8], at: usize, value: usize) -> usize
-    ensures { at ≡ 0 → result ≡ 0 }
+// What a hex digit says.
+fn digit_of(b: u8) -> Option<u8>
+    ensures { IfSome result (λ digit. digit < 16) }
 {
-    if at == 0 {
-        return 0;
+    match b {
+        b'0'..=b'9' => Some(b - b'0'),
+        b'a'..=b'f' => Some(b - b'a' + 10),
+        _ => None,
     }
-    if number(text, at) != value {
-        return 0;
-    }
-    past(text, at, b' ')
 }
 
-fn wide(value: u32) -> usize {
-    value as usize
+// The byte that two hex digits say.
+fn byte_of(high: u8, low: u8) -> Option<u8> {
+    Some(16 * digit_of(high)? + digit_of(low)?)
 }
 
-// The same of so many fields, one after the other.
-pub fn same_all(text: &[u8], at: usize, values: &[u32]) -> usize
-    ensures { at ≡ 0 → result ≡ 0 }
+// Puts the bytes that the hex digits at the start of a text say at the start of out, and answers them. It stops at the first byte that is no
+// digit, as the "-" that stands for no bytes, or when out is full; the rest of out stays.
+pub fn hex<'a>(text: &[u8], out: &'a mut [u8]) -> &'a [u8]
+    ensures { length result.now ≤ length out.old }
 {
-    let mut next = at;
-    let mut i = 0;
-    while i < values.len() {
-        next = same(text, next, wide(values[i]));
-        i += 1;
+    let most = out.len().min(text.len() / 2);
+    for i in 0..most {
+        let Some(byte) = byte_of(text[2 * i], text[2 * i + 1]) else {
+            return &out[..i];
+        };
+        out[i] = byte;
     }
-    next
+    &out[..most]
 }
 
-// The byte that the two hex digits at a place say; 256 where there are no two.
-fn pair_at(text: &[u8], at: usize) -> u16
-    ensures { result < 256 → at + 1 < length text.now }
-{
-    if text.len() < 2 {
-        return 256;
-    }
-    if text.len() - 2 < at {
-        return 256;
-    }
-    let high = digit_of(text[at]);
-    if 16 <= high {
-        return 256;
-    }
-    let low = digit_of(text[at + 1]);
-    if 16 <= low {
-        return 256;
-    }
-    16 * (high as u16) + (low as u16)
+// The fields that are left of a text, in which one space stands between two of them. A field that is not there is empty: no bytes, and the
+// number 0.
+#[derive(Clone, Copy)]
+pub struct Fields<'a> {
+    rest: &'a [u8],
 }
 
-// Puts the bytes that the hex digits at a place say at the start of out, and answers how many there are. It stops at the first byte that
-// is no digit, as the "-" that stands for no bytes, or when out is full; the rest of out stays.
-pub fn hex(text: &[u8], at: usize, out: &mut [u8]) -> usize
-    ensures { IsPrefixLen result out.new }
-{
-    let mut n = 0;
-    let mut i = at;
-    while n < out.len() {
-        let byte = pair_at(text, i);
-        if 256 <= byte {
-            return n;
+impl<'a> Fields<'a> {
+    // All fields of a text.
+    pub fn of(text: &'a [u8]) -> Fields<'a> {
+        Fields { rest: text }
+    }
+
+    // Whether the next field is there, and no `-`.
+    pub fn is_given(&self) -> bool {
+        self.rest.first().is_some_and(|b| *b != b'-')
+    }
+
+    // The next field.
+    pub fn word(&mut self) -> &'a [u8] {
+        let rest = self.rest;
+        match rest.iter().position(|b| *b == b' ') {
+            Some(i) => {
+                self.rest = &rest[i + 1..];
+                &rest[..i]
+            }
+            None => {
+                self.rest = &[];
+                rest
+            }
         }
-        out[n] = byte as u8;
-        n += 1;
-        i += 2;
     }
-    n
+
+    // The number of the next field.
+    pub fn number(&mut self) -> usize
+        ensures { result < 10000000000000000000 }
+    {
+        number(self.word(), 0)
+    }
+
+    // The bytes of the next field, at the start of out, as far as they fit there.
+    pub fn hex<'b>(&mut self, out: &'b mut [u8]) -> &'b [u8]
+        ensures { length result.now ≤ length out.old }
+    {
+        hex(self.word(), out)
+    }
+
+    // Whether the next field has this number.
+    pub fn same(&mut self, value: usize) -> bool {
+        self.number() == value
+    }
+
+    // Whether the next fields have these numbers.
+    pub fn all_same(&mut self, values: &[u32]) -> bool {
+        values.iter().all(|value| self.same(*value as usize))
+    }
 }

@@ -1,17 +1,12 @@
 // A data file or standard input, whole. No contract can say what stands there.
-ghost use Rattle.std.specs.Prelude.{◌≡◌, ◌<◌, length, IfOk};
-ghost use Rattle.std.specs.Io.{ReadsAtMost};
+ghost use Rattle.std.specs.Prelude.{◌≡◌, ◌≤◌, length, vec_len, IfOk};
 
 use std::io::{Cursor, Read, Write};
 use std::rt::Files;
 use std::{fs, io};
 
-// Zeros, of which there are more than any data file has bytes. Their length is what lending them as a slice asks.
-pub fn text_buffer() -> [u8; 524288]
-    ensures { 524288 ≡ length result }
-{
-    [0; 524288]
-}
+// The most bytes that a data file or standard input may have.
+const TEXT_MOST: usize = 524_287;
 
 // 4,096 zeros. Their length is what lending them as a slice asks.
 pub fn buffer() -> [u8; 4096]
@@ -27,39 +22,17 @@ pub fn large_buffer() -> [u8; 65536]
     [0; 65536]
 }
 
-// Reads into the start of text until it is full or the input ends, and answers how many bytes it read.
-pub fn read_full(input: &mut impl Read, text: &mut [u8]) -> io::Result<usize>
-    ensures { ReadsAtMost result text.new }
+// Reads all of an open file. One of too many bytes counts as empty, which is said by this name.
+fn read_all<R: Print + AllocGlobal>(rt: &R, input: &mut impl Read, name: &str) -> io::Result<Vec<u8>>
+    ensures { IfOk result (λ text. vec_len text ≤ 524287) }
 {
-    let mut n = 0;
-    while n < text.len() {
-        let more = input.read(&mut text[n..])?;
-        if more == 0 {
-            return Ok(n);
-        }
-        n += more;
+    let mut text = Vec::new(rt.alloc());
+    input.take(TEXT_MOST as u64 + 1).read_to_end(&mut text)?;
+    if TEXT_MOST < text.len() {
+        println!(rt; "{name}: does not fit")?;
+        return Ok(Vec::new(rt.alloc()));
     }
-    Ok(n)
-}
-
-// Reads all of an open file into the start of text, and answers how many bytes it has; 0 where it leaves no byte of text free, which is said
-// by this name.
-fn read_all(
-    rt: &impl Print,
-    input: &mut impl Read,
-    name: &[u8],
-    text: &mut [u8],
-) -> io::Result<usize>
-    ensures prefix_len { ReadsAtMost result text.new }
-    ensures upper_bound { IfOk result (λ n. 0 < n → n < length text.old) }
-{
-    let n = read_full(input, text)?;
-    if n == text.len() {
-        rt.write_all(name)?;
-        rt.write_all(b": does not fit\n")?;
-        return Ok(0);
-    }
-    Ok(n)
+    Ok(text)
 }
 
 // Says on standard error that the file of that name can't be opened, in the system's words, without the number that std puts behind them.
@@ -74,34 +47,34 @@ fn print_failure(rt: &impl Eprint, name: &str, error: io::Error) -> io::Result<(
     }
 }
 
-// Reads the file of that name into the start of text, and answers how many bytes it has; 0 where it can't be opened or leaves no byte of text
-// free, which is said. Where a read fails, that is the answer.
+// Reads the file of that name. One that can't be opened or has too many bytes counts as empty, which is said. Where a read fails, that is the
+// answer.
 pub fn read_file(
-    rt: &(impl Files + Print + Eprint),
-    name: &[u8],
-    text: &mut [u8],
-) -> io::Result<usize>
-    ensures prefix_len { ReadsAtMost result text.new }
-    ensures upper_bound { IfOk result (λ n. 0 < n → n < length text.old) }
+    rt: &(impl Files + Print + Eprint + AllocGlobal),
+    name: &str,
+) -> io::Result<Vec<u8>>
+    ensures { IfOk result (λ text. vec_len text ≤ 524287) }
 {
-    let Ok(path) = std::str::from_utf8(name) else {
-        eprintln!(rt; "a file's name is no text")?;
-        return Ok(0);
-    };
-    match fs::open(rt, path) {
-        Ok(mut file) => read_all(rt, &mut file, name, text),
+    match fs::open(rt, name) {
+        Ok(mut file) => read_all(rt, &mut file, name),
         Err(error) => {
-            print_failure(rt, path, error)?;
-            Ok(0)
+            print_failure(rt, name, error)?;
+            Ok(Vec::new(rt.alloc()))
         }
     }
 }
 
 // The same of standard input.
-pub fn read_input(rt: &(impl Input + Print), text: &mut [u8]) -> io::Result<usize>
-    ensures prefix_len { ReadsAtMost result text.new }
-    ensures upper_bound { IfOk result (λ n. 0 < n → n < length text.old) }
+pub fn read_input(rt: &(impl Input + Print + AllocGlobal)) -> io::Result<Vec<u8>>
+    ensures { IfOk result (λ text. vec_len text ≤ 524287) }
 {
-    let mut input = rt.reader();
-    read_all(rt, &mut input, b"standard input", text)
+    read_all(rt, &mut rt.reader(), "standard input")
+}
+
+// The first bytes of an input, at most so many.
+pub fn read_most(rt: &impl AllocGlobal, input: &mut impl Read, most: u64) -> io::Result<Vec<u8>>
+{
+    let mut text = Vec::new(rt.alloc());
+    input.take(most).read_to_end(&mut text)?;
+    Ok(text)
 }

@@ -1,5 +1,6 @@
-// What the replay programs share: reading a data file or standard input and its fields, and counting the cases that agree. tools/README.md
-// describes the files. No function has a `requires`, so that the programs need few proofs. This crate knows nothing of what is compared.
+// What the programs share: reading a data file or standard input, its lines and their fields, and counting the cases that agree.
+// tools/README.md describes the files. A function that calls a closure asks that it may, and no other has a `requires`, so that the programs
+// need few proofs. This crate knows nothing of what is compared.
 #![tactic(auto)]
 
 mod fields;
@@ -7,7 +8,7 @@ mod files;
 mod report;
 mod rows;
 
-pub use fields::{hex, number, past, same, same_all};
-pub use files::{buffer, large_buffer, read_file, read_full, read_input, text_buffer};
-pub use report::Tally;
-pub use rows::{same_numbers, within};
+pub use fields::{Fields, hex, number, past};
+pub use files::{buffer, large_buffer, read_file, read_input, read_most};
+pub use report::{print_each, replay};
+pub use rows::within;

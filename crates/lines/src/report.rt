@@ -1,67 +1,78 @@
-// What a replay program says of a file: each of the first ten cases that differ, by its line, and how many cases there were and agreed.
-ghost use Rattle.std.specs.Prelude.{◌≡◌, ◌<◌, length, IfOk};
+// What the programs of many cases share, one case a line: a replay says of a file each of the first ten cases that differ, by its line, and how
+// many cases there were and agreed; another prints of each case of standard input what it has to.
+ghost use Rattle.std.specs.Prelude.{◌≡◌, length, IfOk};
 
 use crate::fields::past;
+use crate::files;
 use std::io;
+use std::rt::Files;
 
-// The cases of a file so far, one a line, and where the line of the next case begins. The counts have 64 bits.
+// The cases of a file so far. The counts have 64 bits.
 #[derive(Clone, Copy)]
-pub struct Tally {
-    pub at: usize,
-    pub agreed: u64,
-    pub differ: u64,
+struct Tally {
+    agreed: u64,
+    differ: u64,
 }
 
 impl Tally {
-    pub fn new() -> Tally
-        ensures { result.at ≡ 0 }
-    {
-        Tally {
-            at: 0,
-            agreed: 0,
-            differ: 0,
-        }
-    }
-
     // How many cases there were.
     fn cases(self) -> u64 {
         self.agreed.wrapping_add(self.differ)
     }
 
-    // Says the line of the next case, which differs, after fewer than ten others.
-    fn print_line(self, rt: &impl Print, name: &[u8]) -> io::Result<()> {
-        if 10 <= self.differ {
+    // Counts the next case, and says its line where it differs, after fewer than ten others.
+    fn count(&mut self, rt: &impl Print, name: &str, agrees: bool) -> io::Result<()> {
+        if agrees {
+            self.agreed = self.agreed.wrapping_add(1);
             return Ok(());
         }
-        rt.write_all(name)?;
-        println!(rt; ": line {} differs", self.cases().wrapping_add(1))
-    }
-
-    // Counts the next case of the text, and says its line where it differs. The case after it is further on, so a loop over the cases ends.
-    pub fn count(self, rt: &impl Print, name: &[u8], text: &[u8], agrees: bool) -> io::Result<Tally>
-        ensures { IfOk result (λ next. self.at < length text.now → self.at < next.at) }
-    {
-        let next = past(text, self.at, b'\n');
-        if agrees {
-            return Ok(Tally {
-                at: next,
-                agreed: self.agreed.wrapping_add(1),
-                differ: self.differ,
-            });
+        if self.differ < 10 {
+            println!(rt; "{name}: line {} differs", self.cases().wrapping_add(1))?;
         }
-        self.print_line(rt, name)?;
-        Ok(Tally {
-            at: next,
-            agreed: self.agreed,
-            differ: self.differ.wrapping_add(1),
-        })
+        self.differ = self.differ.wrapping_add(1);
+        Ok(())
     }
 
     // Says how many cases there were and agreed.
-    pub fn print(self, rt: &impl Print, name: &[u8]) -> io::Result<()>
+    fn print(self, rt: &impl Print, name: &str) -> io::Result<()>
         ensures { IfOk result (λ r. r ≡ tt) }
     {
-        rt.write_all(name)?;
-        println!(rt; ": {} cases, {} agreed", self.cases(), self.agreed)
+        println!(rt; "{name}: {} cases, {} agreed", self.cases(), self.agreed)
     }
+}
+
+// Asks of each line of the file of that name whether its case agrees, and says what came of it.
+pub fn replay<F: FnMut(&[u8]) -> bool>(
+    rt: &(impl Files + Print + Eprint + AllocGlobal),
+    name: &str,
+    mut agrees: F,
+) -> io::Result<()>
+    requires { F.IsAlwaysCallable agrees }
+    ensures { IfOk result (λ r. r ≡ tt) }
+{
+    let text = files::read_file(rt, name)?;
+    let mut tally = Tally {
+        agreed: 0,
+        differ: 0,
+    };
+    for line in text.split_inclusive(|b| *b == b'\n') {
+        tally.count(rt, name, agrees(line))?;
+    }
+    tally.print(rt, name)
+}
+
+// Prints the case of each line of standard input, which is lent with all lines after it.
+pub fn print_each<F: FnMut(&[u8]) -> io::Result<()>>(
+    rt: &(impl Input + Print + AllocGlobal),
+    mut print: F,
+) -> io::Result<()>
+    requires { F.IsAlwaysCallable print }
+{
+    let text = files::read_input(rt)?;
+    let mut at = 0;
+    while at < text.len() {
+        print(&text[at..])?;
+        at = past(&text, at, b'\n');
+    }
+    Ok(())
 }

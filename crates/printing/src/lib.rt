@@ -38,30 +38,16 @@ pub fn numbers(row: Row) -> [u32; 10]
     ]
 }
 
-// Prints number i of a line, and the space before it.
-fn print_field(rt: &impl Print, i: usize, x: u32) -> io::Result<()> {
-    if 0 < i {
-        rt.print(" ")?;
-    }
-    rt.print(x)
-}
-
-// Prints numbers with one space between two of them.
-fn print_numbers(rt: &impl Print, numbers: &[u32]) -> io::Result<()> {
-    let mut i = 0;
-    while i < numbers.len() {
-        print_field(rt, i, numbers[i])?;
-        i += 1;
-    }
-    Ok(())
-}
-
-// Prints a record, by its ten numbers.
+// Prints a record, by its ten numbers with one space between two of them.
 pub fn print_row(rt: &impl Print, row: Row) -> io::Result<()>
     ensures { IfOk result (λ r. r ≡ tt) }
 {
-    let ten = numbers(row);
-    print_numbers(rt, &ten)?;
+    for (i, x) in numbers(row).iter().enumerate() {
+        if 0 < i {
+            rt.print(" ")?;
+        }
+        rt.print(*x)?;
+    }
     rt.println("")
 }
 
@@ -89,15 +75,14 @@ pub fn print_rows(rt: &impl Print, list: &[u32], count: usize) -> io::Result<()>
 // A word with a space after it, and two numbers.
 fn print_last(rt: &impl Print, word: &[u8], first: u64, second: usize) -> io::Result<()> {
     rt.write_all(word)?;
-    print_number(rt, first, b" ")?;
-    print_number(rt, second as u64, b"\n")
+    println!(rt; "{first} {second}")
 }
 
 // Prints a refusal: its number and its place.
 pub fn print_refused(rt: &impl Print, number: u32, place: usize) -> io::Result<()>
     ensures { IfOk result (λ r. r ≡ tt) }
 {
-    print_last(rt, b"refused ", number as u64, place)
+    println!(rt; "refused {number} {place}")
 }
 
 // Prints how a scan ended: its status with the count of records and the current byte, or the number and the place of its refusal.

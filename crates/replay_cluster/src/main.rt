@@ -4,56 +4,24 @@
 #![tactic(auto)]
 
 use cluster::Cluster;
+use lines::Fields;
 use std::io;
-use std::rt::Files;
 
-// Whether the line `HEX LENGTH` at a place of the text has the length of the first cluster.
-fn agrees(text: &[u8], at: usize, table: &[u32], edition: u32) -> bool {
-    let mut bytes = lines::buffer();
-    let n = lines::hex(text, at, &mut bytes);
-    let length_at = lines::past(text, at, b' ');
-    match cluster::first_cluster(&bytes[..n], table, edition) {
-        Cluster::Length(length) => length == lines::number(text, length_at),
+// Whether the line `HEX LENGTH` has the length of the first cluster.
+fn agrees(line: &[u8], table: &[u32], edition: u32) -> bool {
+    let mut fields = Fields::of(line);
+    let mut buffer = lines::buffer();
+    match cluster::first_cluster(fields.hex(&mut buffer), table, edition) {
+        Cluster::Length(length) => fields.same(length),
         Cluster::Refused(_) => false,
     }
 }
 
-fn replay_lines(
-    rt: &impl Print,
-    name: &[u8],
-    text: &[u8],
-    table: &[u32],
-    edition: u32,
-) -> io::Result<()> {
-    let mut tally = lines::Tally::new();
-    while tally.at < text.len() {
-        tally = tally.count(rt, name, text, agrees(text, tally.at, table, edition))?;
-    }
-    tally.print(rt, name)
-}
-
-fn replay(
-    rt: &(impl Files + Print + Eprint),
-    name: &[u8],
-    table: &[u32],
-    edition: u32,
-) -> io::Result<()> {
-    let mut text = lines::text_buffer();
-    let n = lines::read_file(rt, name, &mut text)?;
-    replay_lines(rt, name, &text[..n], table, edition)
-}
-
-fn replay_all(rt: &(impl Files + Print + Eprint), table: &[u32]) -> io::Result<()> {
-    replay(rt, b"clusters.txt", table, input::WITH_GB9C)?;
-    replay(rt, b"older.txt", table, input::WITHOUT_GB9C)?;
-    replay(rt, b"wrong.txt", table, input::WITH_GB9C)
-}
-
 fn main(rt: HostRuntime) -> io::Result<()> {
-    let mut row = tables::row_buffer();
-    let n = tables::full_table(&rt, b"full.kpt", &mut row)?;
-    if n == 0 {
+    let Some(table) = tables::full_table(&rt, "full.kpt")? else {
         return Ok(());
-    }
-    replay_all(&rt, &row[..n])
+    };
+    lines::replay(&rt, "clusters.txt", |line| agrees(line, &table, input::WITH_GB9C))?;
+    lines::replay(&rt, "older.txt", |line| agrees(line, &table, input::WITHOUT_GB9C))?;
+    lines::replay(&rt, "wrong.txt", |line| agrees(line, &table, input::WITH_GB9C))
 }

@@ -1,10 +1,8 @@
 // Whether an answer of the parse is that of a line: `0 A W P R I FILL`, or the number of a refusal and its place or value. A is the alignment;
 // the width, the precision, the representation and the fill's index are 0 for none, else one more than their number; FILL is 0 for none, else 1
 // and the fill's place and length (tools/README.md).
-ghost use Rattle.std.specs.Prelude.{◌≡◌};
-
 use format_options::{Options, Part, Representation};
-use lines::same;
+use lines::Fields;
 use parse::{ParseError, Parsed, answer};
 
 // 0 for none, else one more than the number.
@@ -25,42 +23,31 @@ fn shown_number(shown: Option<Representation>) -> usize {
     }
 }
 
-// A fill; answers the place after it, or 0 where it differs.
-fn same_fill(text: &[u8], at: usize, fill: Option<Part>) -> usize {
+// Whether the next fields are a fill.
+fn same_fill(fields: &mut Fields, fill: Option<Part>) -> bool {
     match fill {
-        Some(part) => {
-            let at = same(text, at, 1);
-            let at = same(text, at, part.place);
-            same(text, at, part.len)
-        }
-        None => same(text, at, 0),
+        Some(part) => fields.same(1) && fields.same(part.place) && fields.same(part.len),
+        None => fields.same(0),
     }
 }
 
 // The same of options with the fill's index.
-fn same_options(text: &[u8], at: usize, options: Options, index: Option<u32>) -> usize {
-    let at = same(
-        text,
-        at,
-        format_options::alignment_number(options.alignment) as usize,
-    );
-    let at = same(text, at, given_number(options.width));
-    let at = same(text, at, given_number(options.precision));
-    let at = same(text, at, shown_number(options.representation));
-    let at = same(text, at, given_number(index));
-    same_fill(text, at, options.fill)
+fn same_options(fields: &mut Fields, options: Options, index: Option<u32>) -> bool {
+    fields.same(format_options::alignment_number(options.alignment) as usize)
+        && fields.same(given_number(options.width))
+        && fields.same(given_number(options.precision))
+        && fields.same(shown_number(options.representation))
+        && fields.same(given_number(index))
+        && same_fill(fields, options.fill)
 }
 
-// The same of an answer: its number, and then the options, or the refusal's place or value. A difference before it stays.
-pub fn same_answer(text: &[u8], at: usize, parsed: Result<Parsed, ParseError>) -> usize
-    ensures { at ≡ 0 → result ≡ 0 }
-{
-    if at == 0 {
-        return 0;
+// The same of an answer: its number, and then the options, or the refusal's place or value.
+pub fn same_answer(fields: &mut Fields, parsed: Result<Parsed, ParseError>) -> bool {
+    if !fields.same(answer::number_of(parsed) as usize) {
+        return false;
     }
-    let at = same(text, at, answer::number_of(parsed) as usize);
     match parsed {
-        Ok(read) => same_options(text, at, read.options, read.index),
-        Err(_) => same(text, at, answer::value_of(parsed) as usize),
+        Ok(read) => same_options(fields, read.options, read.index),
+        Err(_) => fields.same(answer::value_of(parsed) as usize),
     }
 }

@@ -3,43 +3,23 @@
 // file with one wrong line, so that a difference is seen to be reported.
 #![tactic(auto)]
 
-use reading::Scanned;
+use lines::Fields;
 use std::io;
-use std::rt::Files;
 
 // The numbers of 1,365 records.
 const LIST_WORDS: usize = 10_920;
 
-// The list program's scan, into the start of a list.
-fn scan_script(script: &[u8], list: &mut [u32]) -> Scanned {
-    let n = lines::within(LIST_WORDS, list);
-    listing::scan_small(script, &mut list[..n])
-}
-
-// Whether the line `HEX STATUS COUNT BYTE RECORDS..` at a place of the text is what the list program's scan says and writes.
-fn agrees(text: &[u8], at: usize) -> bool {
-    let mut bytes = lines::buffer();
-    let n = lines::hex(text, at, &mut bytes);
+// Whether the line `HEX STATUS COUNT BYTE RECORDS..` is what the list program's scan says and writes.
+fn agrees(line: &[u8]) -> bool {
+    let mut fields = Fields::of(line);
+    let mut buffer = lines::buffer();
+    let script = fields.hex(&mut buffer);
     let mut list = replay_rows::list_buffer();
-    let said = scan_script(&bytes[..n], &mut list);
-    replay_rows::agrees(text, lines::past(text, at, b' '), said, &list)
-}
-
-fn replay_lines(rt: &impl Print, name: &[u8], text: &[u8]) -> io::Result<()> {
-    let mut tally = lines::Tally::new();
-    while tally.at < text.len() {
-        tally = tally.count(rt, name, text, agrees(text, tally.at))?;
-    }
-    tally.print(rt, name)
-}
-
-fn replay(rt: &(impl Files + Print + Eprint), name: &[u8]) -> io::Result<()> {
-    let mut text = lines::text_buffer();
-    let n = lines::read_file(rt, name, &mut text)?;
-    replay_lines(rt, name, &text[..n])
+    let said = listing::scan_small(script, &mut list[..LIST_WORDS]);
+    replay_rows::agrees(fields, said, &list)
 }
 
 fn main(rt: HostRuntime) -> io::Result<()> {
-    replay(&rt, b"lists.txt")?;
-    replay(&rt, b"wrong.txt")
+    lines::replay(&rt, "lists.txt", agrees)?;
+    lines::replay(&rt, "wrong.txt", agrees)
 }

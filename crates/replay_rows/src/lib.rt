@@ -7,7 +7,7 @@ ghost use Rattle.std.specs.Prelude.{◌≡◌, true, ◌≤◌, ◌<◌, length}
 ghost use Rattle.rows.specs.Row.{room};
 ghost use Rattle.reading.specs.Scan.{count_of};
 
-use lines::same;
+use lines::Fields;
 use reading::Scanned;
 use reading::answer::{count_of, number_of, place_of};
 use rows::{Row, RowAt};
@@ -24,14 +24,7 @@ pub fn list_buffer() -> [u32; 16384]
 
 // Are there marks alone from a place of the list on?
 fn stays(list: &[u32], from: usize) -> bool {
-    let mut i = from;
-    while i < list.len() {
-        if list[i] != MARK {
-            return false;
-        }
-        i += 1;
-    }
-    true
+    list.iter().skip(from).all(|number| *number == MARK)
 }
 
 // A line's status: 0 at the end, 1 where stuck, 100 and the refusal's number.
@@ -43,55 +36,46 @@ fn status_of(said: Scanned) -> usize {
     }
 }
 
-// The ten numbers of a record; answers the place after them, or 0 where one differs, or where the place is 0.
-pub fn same_fields(text: &[u8], at: usize, row: Row) -> usize
-    ensures { at ≡ 0 → result ≡ 0 }
-{
-    let ten = printing::numbers(row);
-    lines::same_all(text, at, &ten)
+// Whether the next fields are the ten numbers of a record.
+pub fn same_fields(fields: &mut Fields, row: Row) -> bool {
+    fields.all_same(&printing::numbers(row))
 }
 
 // The same of record i of a list. One that may not be shown differs from every line.
-fn same_row(text: &[u8], at: usize, list: &[u32], i: usize) -> usize
+fn same_row(fields: &mut Fields, list: &[u32], i: usize) -> bool
     requires { i < room list.now }
 {
     match rows::row_at(list, i) {
-        RowAt::Fit(row) => same_fields(text, at, row),
-        RowAt::Unfit => 0,
+        RowAt::Fit(row) => same_fields(fields, row),
+        RowAt::Unfit => false,
     }
 }
 
 // The same of the first so many records of a list.
-fn same_rows(text: &[u8], start: usize, list: &[u32], count: usize) -> usize
+fn same_rows(fields: &mut Fields, list: &[u32], count: usize) -> bool
     requires { count ≤ room list.now }
 {
-    let mut at = start;
-    let mut i = 0;
-    while i < count {
-        at = same_row(text, at, list, i);
-        i += 1;
+    for i in 0..count {
+        if !same_row(fields, list, i) {
+            return false;
+        }
     }
-    at
+    true
 }
 
-// The status, the count and the byte of a line; answers the place after them, or 0 where one differs.
-fn same_answer(text: &[u8], at: usize, said: Scanned) -> usize {
-    let at = same(text, at, status_of(said));
-    let at = same(text, at, count_of(said));
-    same(text, at, place_of(said))
+// Whether the next fields are the status, the count and the byte of an answer.
+fn same_answer(fields: &mut Fields, said: Scanned) -> bool {
+    fields.same(status_of(said)) && fields.same(count_of(said)) && fields.same(place_of(said))
 }
 
-// Whether the fields `STATUS COUNT BYTE RECORDS..` at a place of the text are what a scan said and wrote into a list of marks, and marks
-// stand behind the records. A list that has no room for the records counted agrees with nothing.
-pub fn agrees(text: &[u8], at: usize, said: Scanned, list: &[u32]) -> bool
+// Whether the fields `STATUS COUNT BYTE RECORDS..` are what a scan said and wrote into a list of marks, and marks stand behind the records. A
+// list that has no room for the records counted agrees with nothing.
+pub fn agrees(mut fields: Fields, said: Scanned, list: &[u32]) -> bool
     ensures { result ≡ true → count_of said ≤ room list.now }
 {
     let count = count_of(said);
-    if rows::room(list) < count {
-        return false;
-    }
-    if same_rows(text, same_answer(text, at, said), list, count) == 0 {
-        return false;
-    }
-    stays(list, rows::ROW_WORDS * count)
+    count <= rows::room(list)
+        && same_answer(&mut fields, said)
+        && same_rows(&mut fields, list, count)
+        && stays(list, rows::ROW_WORDS * count)
 }

@@ -3,10 +3,10 @@
 // is seen to be reported.
 #![tactic(auto)]
 
-ghost use Rattle.std.specs.Prelude.{◌<◌, ◌≡◌, length};
+ghost use Rattle.std.specs.Prelude.{◌≡◌, length};
 
+use lines::Fields;
 use std::io;
-use std::rt::Files;
 use table_file::{TableFile, answer};
 
 // The row that each file is read into; no line has more room.
@@ -24,37 +24,22 @@ struct Case {
     count: usize,
 }
 
-fn case_at(text: &[u8], at: usize) -> Case {
-    let room_at = lines::past(text, at, b' ');
-    let number_at = lines::past(text, room_at, b' ');
-    let place_at = lines::past(text, number_at, b' ');
-    let count_at = lines::past(text, place_at, b' ');
+// The case of the fields `ROOM NUMBER PLACE COUNT`.
+fn case_of(mut fields: Fields) -> Case {
     Case {
-        room: lines::number(text, room_at),
-        number: lines::number(text, number_at),
-        place: lines::number(text, place_at),
-        count: lines::number(text, count_at),
+        room: fields.number(),
+        number: fields.number(),
+        place: fields.number(),
+        count: fields.number(),
     }
 }
 
-fn wide(byte: u8) -> u32
-    ensures { result < 256 }
-{
-    byte as u32
-}
-
-// Four bytes of the file as a number, the lowest first; 0 where they are not there.
-fn word_at(file: &[u8], at: usize) -> u32 {
-    if file.len() < 4 {
-        return 0;
+// What four bytes say as a number, the lowest first.
+fn word_of(bytes: &[u8]) -> u32 {
+    match bytes.first_chunk::<4>() {
+        Some(word) => u32::from_le_bytes(*word),
+        None => 0,
     }
-    if file.len() - 4 < at {
-        return 0;
-    }
-    wide(file[at])
-        + 256 * wide(file[at + 1])
-        + 65536 * wide(file[at + 2])
-        + 16777216 * wide(file[at + 3])
 }
 
 fn fresh_row() -> [u32; ROOM]
@@ -63,24 +48,18 @@ fn fresh_row() -> [u32; ROOM]
     [PATTERN; ROOM]
 }
 
-// Puts the file's first numbers at the start of the row.
-fn fill(file: &[u8], count: usize, row: &mut [u32]) {
-    let mut i = 0;
-    while i < row.len() {
-        if count <= i {
-            return;
-        }
-        row[i] = word_at(file, 8 + 4 * i);
-        i += 1;
-    }
-}
-
-// A row with the file's first numbers, and the pattern after them.
+// A row with the file's first numbers, four bytes each, the lowest first, and the pattern after them. Of a number whose bytes are not all there it
+// has 0.
 fn row_of(file: &[u8], count: usize) -> [u32; ROOM]
     ensures { 8192 ≡ length result }
 {
     let mut row = fresh_row();
-    fill(file, count, &mut row);
+    let n = lines::within(count, &row);
+    row[..n].fill(0);
+    let numbers = file.get(8..).unwrap_or(&[]).chunks_exact(4);
+    for (number, word) in row[..n].iter_mut().zip(numbers) {
+        *number = word_of(word);
+    }
     row
 }
 
@@ -91,23 +70,17 @@ fn read_into(case: Case, file: &[u8], row: &mut [u32]) -> TableFile {
 }
 
 fn file_agrees(case: Case, said: TableFile) -> bool {
-    if case.number != answer::number_of(said) as usize {
-        return false;
-    }
-    if case.place != answer::place_of(said) {
-        return false;
-    }
-    case.count == answer::count_of(said)
+    case.number == answer::number_of(said) as usize
+        && case.place == answer::place_of(said)
+        && case.count == answer::count_of(said)
 }
 
 // Checks the first numbers of the row as a table, and compares the answer.
 fn check_agrees(case: Case, row: &[u32], count: usize) -> bool {
     let n = lines::within(count, row);
     let said = fitness::check_table(&row[..n]);
-    if case.number != fitness::answer::number_of(said) as usize {
-        return false;
-    }
-    case.place == fitness::answer::place_of(said)
+    case.number == fitness::answer::number_of(said) as usize
+        && case.place == fitness::answer::place_of(said)
 }
 
 // The same of all numbers of the file.
@@ -128,45 +101,22 @@ fn table_agrees(case: Case, said: TableFile, file: &[u8]) -> bool {
     }
 }
 
-// Whether the row has what the line says: as many numbers of the file, and the pattern after them.
-fn row_agrees(case: Case, file: &[u8], row: &[u32]) -> bool {
-    let wanted = row_of(file, case.count);
-    lines::same_numbers(row, &wanted)
-}
-
 fn case_agrees(case: Case, file: &[u8]) -> bool {
     let mut row = fresh_row();
     let said = read_into(case, file, &mut row);
-    if !file_agrees(case, said) {
-        return false;
-    }
-    if !row_agrees(case, file, &row) {
-        return false;
-    }
-    table_agrees(case, said, file)
+    // The row has as many numbers of the file as the line says, and the pattern after them.
+    file_agrees(case, said) && row == row_of(file, case.count) && table_agrees(case, said, file)
 }
 
-fn agrees(text: &[u8], at: usize) -> bool {
-    let mut bytes = lines::large_buffer();
-    let n = lines::hex(text, at, &mut bytes);
-    case_agrees(case_at(text, at), &bytes[..n])
-}
-
-fn replay_lines(rt: &impl Print, name: &[u8], text: &[u8]) -> io::Result<()> {
-    let mut tally = lines::Tally::new();
-    while tally.at < text.len() {
-        tally = tally.count(rt, name, text, agrees(text, tally.at))?;
-    }
-    tally.print(rt, name)
-}
-
-fn replay(rt: &(impl Files + Print + Eprint), name: &[u8]) -> io::Result<()> {
-    let mut text = lines::text_buffer();
-    let n = lines::read_file(rt, name, &mut text)?;
-    replay_lines(rt, name, &text[..n])
+// Whether the line `HEX ROOM NUMBER PLACE COUNT` is what reading the file says and leaves.
+fn agrees(line: &[u8]) -> bool {
+    let mut fields = Fields::of(line);
+    let mut buffer = lines::large_buffer();
+    let file = fields.hex(&mut buffer);
+    case_agrees(case_of(fields), file)
 }
 
 fn main(rt: HostRuntime) -> io::Result<()> {
-    replay(&rt, b"tables.txt")?;
-    replay(&rt, b"wrong.txt")
+    lines::replay(&rt, "tables.txt", agrees)?;
+    lines::replay(&rt, "wrong.txt", agrees)
 }

@@ -2,8 +2,8 @@
 // then a file with one wrong line, so that a difference is seen to be reported.
 #![tactic(auto)]
 
+use lines::Fields;
 use std::io;
-use std::rt::Files;
 use utf8::{Utf8Check, answer};
 
 // What the check says, as a line has it: 0 fine, 1 bad, 2 cut.
@@ -15,34 +15,15 @@ fn said_by(check: Utf8Check) -> usize {
     }
 }
 
-// Whether the line `HEX ANSWER PLACE` at a place of the text has what the check says.
-fn agrees(text: &[u8], at: usize) -> bool {
-    let mut bytes = lines::buffer();
-    let n = lines::hex(text, at, &mut bytes);
-    let answer_at = lines::past(text, at, b' ');
-    let place_at = lines::past(text, answer_at, b' ');
-    let check = utf8::check_utf8(&bytes[..n]);
-    if said_by(check) != lines::number(text, answer_at) {
-        return false;
-    }
-    answer::check_place(check) == lines::number(text, place_at)
-}
-
-fn replay_lines(rt: &impl Print, name: &[u8], text: &[u8]) -> io::Result<()> {
-    let mut tally = lines::Tally::new();
-    while tally.at < text.len() {
-        tally = tally.count(rt, name, text, agrees(text, tally.at))?;
-    }
-    tally.print(rt, name)
-}
-
-fn replay(rt: &(impl Files + Print + Eprint), name: &[u8]) -> io::Result<()> {
-    let mut text = lines::text_buffer();
-    let n = lines::read_file(rt, name, &mut text)?;
-    replay_lines(rt, name, &text[..n])
+// Whether the line `HEX ANSWER PLACE` has what the check says.
+fn agrees(line: &[u8]) -> bool {
+    let mut fields = Fields::of(line);
+    let mut buffer = lines::buffer();
+    let check = utf8::check_utf8(fields.hex(&mut buffer));
+    fields.same(said_by(check)) && fields.same(answer::check_place(check))
 }
 
 fn main(rt: HostRuntime) -> io::Result<()> {
-    replay(&rt, b"utf8.txt")?;
-    replay(&rt, b"wrong.txt")
+    lines::replay(&rt, "utf8.txt", agrees)?;
+    lines::replay(&rt, "wrong.txt", agrees)
 }

@@ -1,7 +1,8 @@
 // The table that a replay program lends to what it replays, read from its file. This crate knows nothing of what is compared.
 #![tactic(auto)]
 
-ghost use Rattle.std.specs.Prelude.{◌≡◌, length, replicate, IfOk};
+ghost use Rattle.std.specs.Prelude.{IfOk, IfSome};
+ghost use Rattle.fitness.specs.Fit.{FitTable};
 ghost use Rattle.lines.specs.Counts.{IsPrefixLen};
 ghost use Rattle.tables.specs.Tables.{TableIn};
 
@@ -9,13 +10,8 @@ use std::io;
 use std::rt::Files;
 use table_file::answer;
 
-// Zeros, as many as the longest table has numbers. The length, which follows, is what lending them as a slice asks.
-pub fn row_buffer() -> [u32; 8000]
-    ensures value { result ≡ replicate 8000 0 }
-    ensures value_2 { 8000 ≡ length result }
-{
-    [0; 8000]
-}
+// As many numbers as the longest table has.
+const TABLE_MOST: usize = 8000;
 
 // Reads a table file into the start of the row, and answers how many numbers it has; 0 where it is refused.
 fn table_in(file: &[u8], row: &mut [u32]) -> usize
@@ -25,27 +21,21 @@ fn table_in(file: &[u8], row: &mut [u32]) -> usize
     answer::count_of(table_file::read_table(file, row))
 }
 
-// Says how many runs the table of that name has, or that it was refused.
-fn print(rt: &impl Print, name: &[u8], count: usize) -> io::Result<()> {
-    rt.write_all(name)?;
-    if count == 0 {
-        return rt.write_all(b": refused\n");
-    }
-    println!(rt; ": {count} runs")
-}
-
-// Reads the table file of that name into the start of the row, and answers how many runs it has; 0 where it is refused. Either is said.
+// The table in the file of that name, where it is not refused. How many runs it has or that it is refused is said.
 pub fn full_table(
-    rt: &(impl Files + Print + Eprint),
-    name: &[u8],
-    row: &mut [u32],
-) -> io::Result<usize>
-    ensures prefix_len { IfOk result (λ n. IsPrefixLen n row.new) }
-    ensures table_in { IfOk result (λ n. TableIn row.old row.new n) }
+    rt: &(impl Files + Print + Eprint + AllocGlobal),
+    name: &str,
+) -> io::Result<Option<Vec<u32>>>
+    ensures { IfOk result (λ table. IfSome table (λ row. FitTable row.items)) }
 {
-    let mut file = lines::large_buffer();
-    let n = lines::read_file(rt, name, &mut file)?;
-    let count = table_in(&file[..n], row);
-    print(rt, name, count)?;
-    Ok(count)
+    let file = lines::read_file(rt, name)?;
+    let mut row = vec![in rt.alloc(); 0; TABLE_MOST]?;
+    let count = table_in(&file, &mut row);
+    if count == 0 {
+        println!(rt; "{name}: refused")?;
+        return Ok(None);
+    }
+    println!(rt; "{name}: {count} runs")?;
+    row.truncate(count);
+    Ok(Some(row))
 }

@@ -1,7 +1,0 @@
--- `lines::text_buffer` meets its contract: a row of one number has as many as it was made of. Assumes nothing.
-use Rattle.std.proofs.Common.{ℕ, sym}
-use Rattle.std.proofs.lemmas.List.{length-replicate}
-use Rattle.lines.proofs.files.text_buffer.Goals as goal
-
-pub returns : goal.returns
-returns c = sym (length-replicate {A = ℕ} 524288 0)

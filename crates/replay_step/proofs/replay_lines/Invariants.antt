@@ -1,7 +1,0 @@
--- `replay_step::replay_lines` ends: each case leaves less of the text. Nothing has to hold from case to case; the table is fit.
--- Assumes nothing.
-use Rattle.std.proofs.Common.{length, ◌-◌}
-use Rattle.replay_step.proofs.replay_lines.Given as goal
-
-abbrev pub decreases-loop-tally : goal.decreases-loop-tally
-decreases-loop-tally g l = length l.text - l.tally.at
