@@ -5,7 +5,7 @@
 -- Assumes nothing.
 use Prim.Native.Nat.{ℕ, zero, suc, ◌+◌, ◌≤◌, ◌<◌}
 use native.Mathlib.Omega.{arith}
-use Rattle.std.specs.Prelude.{◌≡◌, Bool, ◌⊎◌, List, [], ◌∷◌, eqb}
+use Rattle.std.specs.Prelude.{◌≡◌, Bool, ◌⊎◌, List, [], ◌∷◌, eqb, Option, Some}
 use Rattle.std.proofs.Math.Path.{refl, ap}
 use Rattle.std.proofs.Common.{sym, subst, ◌∙◌, inl, inr, eq-eqb, ne_eqb, le-leb}
 use Rattle.std.proofs.Math.Bool.{true, false, not}
@@ -16,8 +16,6 @@ use Rattle.fitness.specs.First.{first_bad}
 use Rattle.token.specs.Kind.{string_start, colon, curly_open}
 use Rattle.token.specs.declared.Token.{Token}
 use Rattle.rows.specs.declared.Row.{Row}
-use Rattle.rows.specs.declared.RowAt.{RowAt}
-use Rattle.rows.specs.declared.RowAt.TheVariants.{Fit}
 use Rattle.state.specs.Modes.{literal, tag_of}
 use Rattle.state.specs.Lexer.{settled}
 use Rattle.state.specs.Stack.{top, rest, changed}
@@ -174,8 +172,8 @@ module _ (look : ℕ → ℕ) (edition : ℕ) (s : List ℕ) where
       lexed_row : {a b : Row} → some a ≡ some b → a ≡ b
       lexed_row {a} f = ap (λ (o : Option Row). elim o [ none ↦ a | some y ↦ y ]) f
 
-  module _ (q : Reading) (x : TokenLexer) (h : Hands look edition s q x) (at : ℕ → RowAt) (d : Row)
-      (shown : (i : ℕ) → i < length q.rows → at i ≡ Fit (get_or q.rows i d)) where
+  module _ (q : Reading) (x : TokenLexer) (h : Hands look edition s q x) (at : ℕ → Option Row) (d : Row)
+      (shown : (i : ℕ) → i < length q.rows → at i ≡ Some (get_or q.rows i d)) where
     abbrev allowed : ℕ → Bool
     allowed i = not (forbidden_token (stack_of (state_at look edition s i x)) (handed look edition s i x))
 
@@ -196,7 +194,7 @@ module _ (look : ℕ → ℕ) (edition : ℕ) (s : List ℕ) where
         let ok : allowed i ≡ not (is_forbidden modes row) = ap (λ (o : Option Row). not (forbidden_token modes o)) (there i l) in
         let more : is_forbidden modes row ≡ false → pass_from at (opener_at opener (at i)) (suc i) n ≡ first_bad allowed (suc i) n =
         λ f. from n (suc i) (opener_at opener (at i)) (omega arith)
-        (subst (λ (a : RowAt). Shape (opener_at opener a) (stack_of (state_at look edition s (suc i) x))) (sym (shown i l))
+        (subst (λ (a : Option Row). Shape (opener_at opener a) (stack_of (state_at look edition s (suc i) x))) (sym (shown i l))
         (subst (λ (y : TokenLexer). Shape (opener_after opener row) (stack_of y)) (sym (state_next look edition s i x))
         (shape_on opener (state_at look edition s i x) (remaining_at s (state_at look edition s i x).current_byte.0) row (there i l) w f))) in
         chosen (is_forbidden modes row) refl test ok more

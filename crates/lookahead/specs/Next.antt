@@ -1,9 +1,8 @@
 -- Document 01, "Look-ahead": `next`. It checks 8, 9; a refusal leaves the cursor.
 -- Assumes nothing.
-use Rattle.std.specs.Prelude.{ℕ}
+use Rattle.std.specs.Prelude.{ℕ, Option}
 use Rattle.base.specs.Pick.{pick}
 use Rattle.base.specs.Refusal.{none, bad_state, bad_record}
-use Rattle.rows.specs.declared.RowAt.{RowAt}
 use Rattle.cursor.specs.Cursor.{is_fit, moved_on}
 use Rattle.cursor.specs.declared.Cursor.{Cursor}
 use Rattle.lookahead.specs.Seen.{seen_at}
@@ -19,7 +18,7 @@ given_by c seen.Nothing = Nothing
 given_by c (seen.BadRecord i) = BadRecord i
 
 -- the answer, over a list that has room for so many records and shows these
-unfoldable pub next_of : ℕ → (ℕ → RowAt) → Cursor → Given
+unfoldable pub next_of : ℕ → (ℕ → Option Row) → Cursor → Given
 next_of room shown c = pick (is_fit room c) (given_by c (seen_at shown c 0)) BadState
 
 -- document 01's number of an answer

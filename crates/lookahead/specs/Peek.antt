@@ -1,9 +1,8 @@
 -- Document 01, "Look-ahead": `peek`. It checks 8, 6, 7, 9; a refusal leaves the cursor.
 -- Assumes nothing.
-use Rattle.std.specs.Prelude.{ℕ, ◌+◌, eqb, ltb}
+use Rattle.std.specs.Prelude.{ℕ, ◌+◌, eqb, ltb, Option}
 use Rattle.base.specs.Pick.{pick}
 use Rattle.base.specs.Refusal.{none, peek_too_far, queue_full, bad_state, bad_record}
-use Rattle.rows.specs.declared.RowAt.{RowAt}
 use Rattle.cursor.specs.Cursor.{queue_most, is_fit, must_queue, queued_one}
 use Rattle.cursor.specs.declared.Cursor.{Cursor}
 use Rattle.lookahead.specs.Seen.{seen_at}
@@ -19,11 +18,11 @@ shown_by c seen.Nothing = Nothing c
 shown_by c (seen.BadRecord i) = BadRecord i
 
 -- queued token n, or nothing where not so many are queued
-unfoldable pub queued_at : (ℕ → RowAt) → Cursor → ℕ → Peeked
+unfoldable pub queued_at : (ℕ → Option Row) → Cursor → ℕ → Peeked
 queued_at shown c n = pick (ltb n c.queued) (shown_by c (seen_at shown c n)) (Nothing c)
 
 -- the answer, over a list that has room for so many records and shows these
-unfoldable pub peek_of : ℕ → (ℕ → RowAt) → Cursor → ℕ → Peeked
+unfoldable pub peek_of : ℕ → (ℕ → Option Row) → Cursor → ℕ → Peeked
 peek_of room shown c n =
     pick (is_fit room c)
     (pick (ltb (c.queued + 1) n) PeekTooFar

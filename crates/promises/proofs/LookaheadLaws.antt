@@ -5,7 +5,7 @@
 --     after_a_scan    after an unrefused scan 8 and 9 are never given, the definition's tokens are handed out, and the Rust says the same:
 --                     its `KotoLexer` over its own stream of the source
 -- Assumes nothing.
-use Rattle.std.specs.Prelude.{ℕ, ◌+◌, ◌-◌, ◌<◌, ◌≤◌, ◌≡◌, Bool, true, List, length, get_or}
+use Rattle.std.specs.Prelude.{ℕ, ◌+◌, ◌-◌, ◌<◌, ◌≤◌, ◌≡◌, Bool, true, List, length, get_or, Option, Some}
 use Rattle.std.proofs.Common.{add-zero, ap, subst, ◌∙◌, ltb-true, leb-true, lt-ltb, le-leb}
 use native.Mathlib.Omega.{arith}
 use Rattle.std.proofs.Math.Path.{refl, sym}
@@ -16,8 +16,6 @@ use Rattle.base.specs.PickLaws.{split_lt}
 use Rattle.property.specs.Table.{properties_at}
 use Rattle.fitness.specs.FitLaws as property
 use Rattle.rows.specs.declared.Row.{Row}
-use Rattle.rows.specs.declared.RowAt.{RowAt}
-use Rattle.rows.specs.declared.RowAt.TheVariants.{Fit}
 use Rattle.layout.specs.Layout.{room_in, row_in, fits_in, shown_in}
 use Rattle.layout.specs.LayoutLaws.{shown_fit, shown_unfit}
 use Rattle.layout.specs.declared.Layout.{Layout}
@@ -247,7 +245,7 @@ module _ (rows : List Row) (status : Status) (i : ℕ) where
 
 -- a list that has room for these rows, and shows each of them
 module _ (layout : Layout) (list : List ℕ) (rows : List Row) (status : Status) (h : length rows ≤ room_in layout list)
-    (shown : (i : ℕ) (d : Row) → i < length rows → shown_in layout list (length rows) i ≡ Fit (get_or rows i d)) (some-stuck : status ≡ Stuck → 0 < length rows)
+    (shown : (i : ℕ) (d : Row) → i < length rows → shown_in layout list (length rows) i ≡ Some (get_or rows i d)) (some-stuck : status ≡ Stuck → 0 < length rows)
     (stream : Stream) (same : Streams stream rows status) where
   abbrev count : ℕ
   count = length rows
@@ -258,7 +256,7 @@ module _ (layout : Layout) (list : List ℕ) (rows : List Row) (status : Status)
   abbrev room : ℕ
   room = room_in layout list
 
-  abbrev at : ℕ → RowAt
+  abbrev at : ℕ → Option Row
   at = shown_in layout list count
 
   begins_fit : is_fit room begin ≡ true
@@ -313,7 +311,7 @@ module _ (layout : Layout) (source table : List ℕ) (edition : ℕ) (old : List
   holds_room : room_in layout holds ≡ room_in layout old
   holds_room = ap (room_in layout) (sym are_all) ∙ firsts_room layout old (room_in layout old) q (omega arith)
 
-  holds_shown : (i : ℕ) (d : Row) → i < length q.rows → shown_in layout holds (length q.rows) i ≡ Fit (get_or q.rows i d)
+  holds_shown : (i : ℕ) (d : Row) → i < length q.rows → shown_in layout holds (length q.rows) i ≡ Some (get_or q.rows i d)
   holds_shown i d h =
       ap (λ (l : List ℕ). shown_in layout l (length q.rows) i) (sym are_all)
       ∙ firsts_shown source table edition (property.fit_of table w.readable.fit) (start_ok_lem source w.readable.short w.readable.well)

@@ -7,7 +7,7 @@
 -- Assumes nothing.
 use Prim.Native.Nat.{ℕ, zero, suc, ◌+◌, ◌-◌, ◌≤◌, ◌<◌}
 use native.Mathlib.Omega.{arith}
-use Rattle.std.specs.Prelude.{◌≡◌, true, false}
+use Rattle.std.specs.Prelude.{◌≡◌, true, false, Option}
 use Rattle.std.proofs.Math.Path.{refl, sym, ap, subst}
 use Rattle.std.proofs.Common.{◌∙◌}
 use mathlib.Core.List.{List, [], ◌∷◌}
@@ -18,7 +18,6 @@ use borrow.Author.Tests.{ltb-true, ltb-false, leb-true, lt-ltb, le-ltb, le-leb}
 use Rattle.base.specs.PickLaws.{by_lt, split_lt}
 use Rattle.base.specs.Refusal.{none, peek_too_far, queue_full}
 use Rattle.rows.specs.declared.Row.{Row}
-use Rattle.rows.specs.declared.RowAt.{RowAt}
 use Rattle.cursor.specs.Cursor.{queue_most, fit_by, is_fit, start_cursor, record_at, ahead, moved_on, has_more, must_queue, queued_one, there_of, there, queued_for, queueing}
 use Rattle.cursor.specs.CursorLaws.{record_at_lem, last_most, held_plus, same_plus, moved_fits, queued_fits, queued_there, must_both, fits_of, there_end, queued_for_lem}
 use Rattle.lookahead.specs.Next.{next_of}
@@ -311,7 +310,7 @@ max_most n len most h k = by_lt (λ (x : ℕ). x ≤ most) len n (λ _. h) (λ _
 
 -- ---- over a list that shows the rows
 
-module _ (room : ℕ) (shown : ℕ → RowAt) (stream : Stream) (rows : List Row) (status : Status) (w : Shows shown rows)
+module _ (room : ℕ) (shown : ℕ → Option Row) (stream : Stream) (rows : List Row) (status : Status) (w : Shows shown rows)
     (v : Streams stream rows status) where
   -- queued token n, of a cursor and a queue
   queued_agrees : (c : Cursor) (k : KotoLexer) → Mirrors room rows status c k → (old : Cursor) (n : ℕ)

@@ -1,13 +1,11 @@
 -- Sequences of `next`, `peek` and `look_ahead`, here and over the Rust's queue, and when a cursor stands for the Rust's lexer. As a cursor does, they go over a
 -- list that has room for so many records and shows these (`room`, `shown`).
 -- Assumes nothing.
-use Rattle.std.specs.Prelude.{ℕ, ◌+◌, ◌<◌, ◌≡◌, true, List, [], ◌∷◌, length}
+use Rattle.std.specs.Prelude.{ℕ, ◌+◌, ◌<◌, ◌≡◌, true, List, [], ◌∷◌, length, Option, Some}
 use Rattle.std.proofs.Math.Option.{Option, some}
 use Rattle.std.proofs.Math.Option as option
 use Rattle.base.specs.Refusal.{none}
 use Rattle.rows.specs.declared.Row.{Row}
-use Rattle.rows.specs.declared.RowAt.{RowAt}
-use Rattle.rows.specs.declared.RowAt.TheVariants.{Fit}
 use Rattle.cursor.specs.Cursor.{is_fit, record_at, ahead}
 use Rattle.lookahead.specs.Next as ofNext
 use Rattle.lookahead.specs.Next.{next_of}
@@ -77,23 +75,23 @@ abbrev pub of_peeked : Cursor → Peeked → Outcome
 of_peeked c r = record { number = ofPeek.number_of r; token = peeked_token r; cursor = peeked_cursor c r }
 
 -- a call, from a cursor
-abbrev pub call : ℕ → (ℕ → RowAt) → Cursor → Call → Outcome
+abbrev pub call : ℕ → (ℕ → Option Row) → Cursor → Call → Outcome
 call room shown c next = of_given c (next_of room shown c)
 call room shown c (peek n) = of_peeked c (peek_of room shown c n)
 call room shown c (look_ahead n) = of_peeked c (look_ahead_of room shown c n)
 
 -- the cursor after some calls
-unfoldable pub after_calls : ℕ → (ℕ → RowAt) → Cursor → List Call → Cursor
+unfoldable pub after_calls : ℕ → (ℕ → Option Row) → Cursor → List Call → Cursor
 after_calls room shown c [] = c
 after_calls room shown c (x ∷ calls) = after_calls room shown (call room shown c x).cursor calls
 
 -- their tokens, one for each call
-unfoldable pub tokens_of : ℕ → (ℕ → RowAt) → Cursor → List Call → List (Option Row)
+unfoldable pub tokens_of : ℕ → (ℕ → Option Row) → Cursor → List Call → List (Option Row)
 tokens_of room shown c [] = []
 tokens_of room shown c (x ∷ calls) = (call room shown c x).token ∷ tokens_of room shown (call room shown c x).cursor calls
 
 -- none of them is refused
-unfoldable pub Unrefused : ℕ → (ℕ → RowAt) → Cursor → List Call → Type 0
+unfoldable pub Unrefused : ℕ → (ℕ → Option Row) → Cursor → List Call → Type 0
 Unrefused room shown c [] = Unit {0}
 Unrefused room shown c (x ∷ calls) = ((call room shown c x).number ≡ none) × Unrefused room shown (call room shown c x).cursor calls
 
@@ -109,8 +107,8 @@ nexts [] = 0
 nexts (x ∷ calls) = is_next x + nexts calls
 
 -- each of these rows is shown at its index
-abbrev pub Shows : (ℕ → RowAt) → List Row → Type 0
-Shows shown rows = (i : ℕ) (row : Row) → get rows i ≡ some row → shown i ≡ Fit row
+abbrev pub Shows : (ℕ → Option Row) → List Row → Type 0
+Shows shown rows = (i : ℕ) (row : Row) → get rows i ≡ some row → shown i ≡ Some row
 
 -- where a cursor stands after `next` was called i times
 pub record Stands (room count : ℕ) (status : Status) (i : ℕ) (c : Cursor) : Type 0 where

@@ -5,7 +5,7 @@
 --     never_refused               no call gets 8 or 9
 --     next_token_lem                  `next` hands out the token of its place
 -- Assumes nothing.
-use Rattle.std.specs.Prelude.{ℕ, ◌+◌, ◌≤◌, ◌≡◌, true, length}
+use Rattle.std.specs.Prelude.{ℕ, ◌+◌, ◌≤◌, ◌≡◌, true, length, Option}
 use Rattle.std.proofs.Common.{add-zero, sym, ap, ◌∙◌}
 use native.Mathlib.Omega.{arith}
 use Rattle.std.proofs.Math.Path.{refl, subst}
@@ -14,7 +14,6 @@ use Rattle.std.proofs.Math.Option.{Option, some}
 use Rattle.std.proofs.Math.Option as option
 use Rattle.base.specs.Refusal.{none, peek_too_far, queue_full, bad_state, bad_record}
 use Rattle.rows.specs.declared.Row.{Row}
-use Rattle.rows.specs.declared.RowAt.{RowAt}
 use Rattle.cursor.specs.Cursor.{is_fit, start_cursor, record_at, ahead, moved_on, queued_one, queued_for, queueing}
 use Rattle.cursor.specs.CursorLaws.{record_at_lem, held_plus, last_most, taken_held, moved_fits, queued_fits, queueing_fits, must_both}
 use Rattle.lookahead.specs.Next.{next_of}
@@ -37,7 +36,7 @@ pub record Leaves (room : ℕ) (c : Cursor) (m : ℕ) (o : Outcome) : Type 0 whe
   pub ends : o.cursor.status ≡ c.status
   pub place : o.cursor.taken ≡ record_at c.count c.status (c.taken + m)
 
-module _ (room : ℕ) (shown : ℕ → RowAt) (rows : List Row) (w : Shows shown rows) where
+module _ (room : ℕ) (shown : ℕ → Option Row) (rows : List Row) (w : Shows shown rows) where
   module _ (c : Cursor) (f : is_fit room c ≡ true) (counted : c.count ≡ length rows) where
     -- a cursor that does not move stands where it stood
     stays : record_at c.count c.status (c.taken + 0) ≡ c.taken
@@ -119,7 +118,7 @@ pub start_stands : (room count : ℕ) (status : Status) → is_fit room (start_c
 start_stands room count status f =
     record { fit = f; counted = refl; ends = refl; place = sym (taken_held room (start_cursor count status) f) }
 
-module _ (room : ℕ) (shown : ℕ → RowAt) (rows : List Row) (status : Status) (w : Shows shown rows) where
+module _ (room : ℕ) (shown : ℕ → Option Row) (rows : List Row) (status : Status) (w : Shows shown rows) where
   pub call_stands : (i : ℕ) (c : Cursor) → Stands room (length rows) status i c → (x : Call)
       → Stands room (length rows) status (i + is_next x) (call room shown c x).cursor
   call_stands i c s x =

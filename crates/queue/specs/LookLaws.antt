@@ -8,14 +8,12 @@ use Prim.Native.Nat.{ℕ, zero, suc, ◌+◌, ◌-◌, ◌≤◌, ◌<◌}
 use native.Mathlib.Omega.{arith}
 use Rattle.std.proofs.Math.Path.{◌≡◌, refl, ap, subst}
 use Rattle.std.proofs.Common.{sym, ◌∙◌}
-use Rattle.std.specs.Prelude.{Bool, List, replicate}
+use Rattle.std.specs.Prelude.{Bool, List, replicate, Option, Some, None}
 use Rattle.std.proofs.Math.Bool.{true, false}
 use Rattle.std.proofs.Math.Dec.{ltb}
 use borrow.Author.Tests.{ltb-false, lt-ltb}
 use Rattle.base.specs.PickLaws.{split_lt}
 use Rattle.base.specs.Refusal.{none}
-use Rattle.rows.specs.declared.RowAt.{RowAt}
-use Rattle.rows.specs.declared.RowAt.TheVariants.{Fit, Unfit}
 use Rattle.cursor.specs.Cursor.{queue_most, is_fit, record_at, ahead, moved_on, queued_for, queueing}
 use Rattle.cursor.specs.CursorLaws.{record_at_lem, held_plus, last_most, moved_fits, queueing_fits}
 use Rattle.lookahead.specs.Seen.{seen_at}
@@ -30,7 +28,7 @@ use Rattle.lookahead.specs.declared.Given.{Given}
 use Rattle.lookahead.specs.declared.Given.TheVariants as given
 use Rattle.queue.specs.Calls.{Call, next, Outcome, given_token, peeked_token, peeked_cursor, of_given, call, after_calls, Unrefused}
 
-module _ (room : ℕ) (shown : ℕ → RowAt) where
+module _ (room : ℕ) (shown : ℕ → Option Row) where
   -- what `next` answers a cursor that is fit
   next_seen : (c : Cursor) → is_fit room c ≡ true → next_of room shown c ≡ given_by c (seen_at shown c 0)
   unfolding next_of
@@ -131,9 +129,9 @@ module _ (room : ℕ) (shown : ℕ → RowAt) where
   unfolding seen_at
   seen_none c e = split_lt (ahead c 0) c.count (λ h. absurd (by_row (shown (ahead c 0)) refl h)) (λ h. h)
     where
-      by_row : (r : RowAt) → shown (ahead c 0) ≡ r → ahead c 0 < c.count → ⊥
-      by_row (Fit row) t h = let k = lt-ltb (ahead c 0) c.count h in let z : ◌≡◌ {A = ℕ} 0 1 = cc in omega arith
-      by_row Unfit t h = let k = lt-ltb (ahead c 0) c.count h in let z : ◌≡◌ {A = ℕ} 0 1 = cc in omega arith
+      by_row : (r : Option Row) → shown (ahead c 0) ≡ r → ahead c 0 < c.count → ⊥
+      by_row (Some row) t h = let k = lt-ltb (ahead c 0) c.count h in let z : ◌≡◌ {A = ℕ} 0 1 = cc in omega arith
+      by_row None t h = let k = lt-ltb (ahead c 0) c.count h in let z : ◌≡◌ {A = ℕ} 0 1 = cc in omega arith
 
   -- of calls of which none is refused
   first_unrefused : (n : ℕ) (c : Cursor) {g : Given} → next_of room shown c ≡ g → Unrefused room shown c (nexts (suc n)) → (of_given c g).number ≡ none

@@ -5,13 +5,11 @@
 --     by_next, by_queued        a property of `next`'s answers, and of a look's at the queue, over rows that are shown
 --     by_peek, by_look          a property of `peek`'s and of `look_ahead`'s answers, by their tests
 -- Assumes nothing.
-use Rattle.std.specs.Prelude.{ℕ, zero, suc, ◌+◌, ◌≤◌, ◌<◌, ◌≡◌, refl, Bool, true, false, List, [], ◌∷◌, ◌++◌, ltb, length, get_or}
+use Rattle.std.specs.Prelude.{ℕ, zero, suc, ◌+◌, ◌≤◌, ◌<◌, ◌≡◌, refl, Bool, true, false, List, [], ◌∷◌, ◌++◌, ltb, length, get_or, Option, Some}
 use Rattle.std.proofs.Common.{arith, sym, ap, subst, ◌∙◌, ltb-true, ltb-false}
 use Rattle.std.proofs.Math.Option.{none, some, some-injective, none-ne-some}
 use Rattle.base.specs.PickLaws.{split_lt, split_eq}
 use Rattle.rows.specs.declared.Row.{Row}
-use Rattle.rows.specs.declared.RowAt.{RowAt}
-use Rattle.rows.specs.declared.RowAt.TheVariants.{Fit}
 use Rattle.cursor.specs.Cursor.{queue_most, is_fit, ahead, moved_on, must_queue, queued_one, queued_for, queueing}
 use Rattle.cursor.specs.CursorLaws.{queued_there}
 use Rattle.lookahead.specs.Next.{next_of}
@@ -61,13 +59,13 @@ get_last (x ∷ l) t (suc i) e = get_last l t i (omega arith)
 
 -- ---- the cursor's answers
 
-pub shows_by : (shown : ℕ → RowAt) (rows : List Row) → ((i : ℕ) (d : Row) → i < length rows → shown i ≡ Fit (get_or rows i d)) → Shows shown rows
+pub shows_by : (shown : ℕ → Option Row) (rows : List Row) → ((i : ℕ) (d : Row) → i < length rows → shown i ≡ Some (get_or rows i d)) → Shows shown rows
 shows_by shown rows h i row e =
     split_lt i (length rows)
-    (λ lt. h i row lt ∙ ap Fit (some-injective (get_or rows i row) row (sym (get_in rows i row lt) ∙ e)))
+    (λ lt. h i row lt ∙ ap Some (some-injective (get_or rows i row) row (sym (get_in rows i row lt) ∙ e)))
     (λ ge. absurd (none-ne-some row (sym (get_past rows i ge) ∙ e)))
 
-module _ (room : ℕ) (shown : ℕ → RowAt) (rows : List Row) (w : Shows shown rows) (c : Cursor) (f : is_fit room c ≡ true)
+module _ (room : ℕ) (shown : ℕ → Option Row) (rows : List Row) (w : Shows shown rows) (c : Cursor) (f : is_fit room c ≡ true)
     (counted : c.count ≡ length rows) where
   -- the row that is ahead, or nothing
   pub by_next : (P : Given → Type 0) → ((row : Row) → get rows (ahead c 0) ≡ some row → P (given.Token row (moved_on c)))
@@ -88,7 +86,7 @@ module _ (room : ℕ) (shown : ℕ → RowAt) (rows : List Row) (w : Shows shown
       subst P (queued_row shown c n refl below h (w (ahead c n) there.0 there.1)) (token there.0 h there.1))
       (λ h. subst P (queued_none shown c n h) (past h))
 
-pub by_peek : (room : ℕ) (shown : ℕ → RowAt) (c : Cursor) → is_fit room c ≡ true → (P : Peeked → Type 0) (n : ℕ)
+pub by_peek : (room : ℕ) (shown : ℕ → Option Row) (c : Cursor) → is_fit room c ≡ true → (P : Peeked → Type 0) (n : ℕ)
     → (c.queued + 1 < n → P peeked.PeekTooFar)
     → (must_queue c n ≡ true → c.queued ≡ queue_most → P peeked.QueueFull)
     → (must_queue c n ≡ true → (c.queued ≡ queue_most → ⊥) → P (queued_at shown (queued_one c) n))
@@ -102,7 +100,7 @@ by_peek room shown c f P n far full more as_is =
         (λ q. subst P (peek_more room shown c n f h e q) (more e q))
     near h false e = subst P (peek_as_is room shown c n f h e) (as_is e h)
 
-pub by_look : (room : ℕ) (shown : ℕ → RowAt) (c : Cursor) → is_fit room c ≡ true → (P : Peeked → Type 0) (n : ℕ)
+pub by_look : (room : ℕ) (shown : ℕ → Option Row) (c : Cursor) → is_fit room c ≡ true → (P : Peeked → Type 0) (n : ℕ)
     → (queue_most < queued_for c n → P peeked.QueueFull)
     → (queued_for c n ≤ queue_most → P (queued_at shown (queueing c (queued_for c n)) n)) → P (look_ahead_of room shown c n)
 by_look room shown c f P n full shows = by_room_lem (ltb queue_most (queued_for c n)) refl
