@@ -3,7 +3,6 @@
 #![tactic(auto)]
 
 ghost use Rattle.std.specs.Prelude.{◌≡◌, ◌+◌, ◌-◌, ◌≤◌, ltb};
-ghost use Rattle.base.specs.Pick.{pick};
 ghost use Rattle.cursor.specs.Cursor.{queue_most, is_fit, last_place, ahead, moved_on, must_queue, queued_one, is_full, queued_past, there, queued_for, queueing};
 
 // The most tokens that may be queued.
@@ -29,26 +28,6 @@ pub struct Cursor {
     pub status: Status,
 }
 
-// One less, and none of none.
-fn lower(n: usize) -> usize
-    ensures { result ≡ n - 1 }
-{
-    if n == 0 {
-        return 0;
-    }
-    n - 1
-}
-
-// The larger of two.
-fn larger(m: usize, n: usize) -> usize
-    ensures { result ≡ pick (ltb m n) n m }
-{
-    if m < n {
-        return n;
-    }
-    m
-}
-
 impl Cursor {
     // Is the cursor fit for a list with room for so many records?
     pub fn is_fit(self, room: usize) -> bool
@@ -63,8 +42,7 @@ impl Cursor {
         if QUEUE_MOST < self.queued {
             return false;
         }
-        let status = self.status;
-        match status {
+        match self.status {
             Status::End => self.queued <= self.count - self.taken,
             Status::Stuck => self.taken < self.count,
         }
@@ -74,10 +52,9 @@ impl Cursor {
     pub fn last_place(self) -> usize
         ensures { result ≡ last_place self.count self.status }
     {
-        let status = self.status;
-        match status {
+        match self.status {
             Status::End => self.count,
-            Status::Stuck => lower(self.count),
+            Status::Stuck => self.count.saturating_sub(1),
         }
     }
 
@@ -106,28 +83,15 @@ impl Cursor {
     }
 
     // The cursor after a token was handed out.
+    #[tactic(auto, unfolding(crate::specs::Cursor::moved_on))]
     pub fn moved_on(self) -> Cursor
         ensures { result ≡ moved_on self }
     {
-        let taken = self.ahead_one();
-        let queued = lower(self.queued);
-        let status = self.status;
         Cursor {
-            taken,
-            queued,
-            count: self.count,
-            status,
+            taken: self.ahead_one(),
+            queued: self.queued.saturating_sub(1),
+            ..self
         }
-    }
-
-    // How many records are not taken.
-    fn left(self) -> usize
-        ensures { result ≡ self.count - self.taken }
-    {
-        if self.count < self.taken {
-            return 0;
-        }
-        self.count - self.taken
     }
 
     // Must a token be queued before queued token n is looked for?
@@ -137,9 +101,8 @@ impl Cursor {
         if self.queued < n {
             return false;
         }
-        let status = self.status;
-        match status {
-            Status::End => self.queued < self.left(),
+        match self.status {
+            Status::End => self.queued < self.count.saturating_sub(self.taken),
             Status::Stuck => 0 < self.count,
         }
     }
@@ -155,16 +118,14 @@ impl Cursor {
     }
 
     // The cursor that has queued one more token.
+    #[tactic(auto, unfolding(crate::specs::Cursor::queued_one))]
     pub fn queued_one(self) -> Cursor
         requires { self.queued ≤ queue_most }
         ensures { result ≡ queued_one self }
     {
-        let status = self.status;
         Cursor {
-            taken: self.taken,
             queued: self.queued + 1,
-            count: self.count,
-            status,
+            ..self
         }
     }
 
@@ -187,8 +148,7 @@ impl Cursor {
         if n < QUEUE_MOST {
             return false;
         }
-        let status = self.status;
-        match status {
+        match self.status {
             Status::End => QUEUE_MOST < self.count - self.taken,
             Status::Stuck => true,
         }
@@ -199,8 +159,7 @@ impl Cursor {
         requires { (self.taken ≤ self.count) × (there self (n + 1) ≤ queue_most) }
         ensures { result ≡ there self (n + 1) }
     {
-        let status = self.status;
-        match status {
+        match self.status {
             Status::End => {
                 let left = self.count - self.taken;
                 if n < left {
@@ -217,14 +176,9 @@ impl Cursor {
         requires { (self.taken ≤ self.count) × (queued_for self n ≤ queue_most) }
         ensures { result ≡ queueing self (queued_for self n) }
     {
-        let there = self.there(n);
-        let queued = larger(self.queued, there);
-        let status = self.status;
         Cursor {
-            taken: self.taken,
-            queued,
-            count: self.count,
-            status,
+            queued: self.queued.max(self.there(n)),
+            ..self
         }
     }
 }

@@ -3,9 +3,9 @@
 -- Assumes nothing.
 use Rattle.std.specs.Prelude.{ℕ, ◌≡◌, List}
 use Rattle.std.proofs.Common.{sym, ◌∙◌}
-use Rattle.lookahead.specs.declared.Given.{Given}
-use Rattle.lookahead.specs.declared.Peeked.{Peeked}
 use Rattle.cursor_numbers.specs.Cursors.{GivenIs, NextIs, LookedIs, PeekIs, LookAheadIs}
+use Rattle.lookahead.specs.Next.{Given}
+use Rattle.lookahead.specs.Peek.{Peeked}
 
 given_has_one_answer : {given : Given} {words words' : List ℕ}
     {taken queued newTaken newQueued shown place r newTaken' newQueued' shown' place' r' : ℕ}

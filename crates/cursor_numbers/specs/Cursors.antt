@@ -1,7 +1,7 @@
 -- What `koto_next`, `koto_peek` and `koto_look_ahead` return and write, from the inner calls' answers. A cursor goes in as its numbers, with the status as
 -- `koto_scan` or `koto_scan_half` writes it, so that it tells the list's layout; any other number there is refusal 8, before the list is looked at.
 -- Assumes nothing.
-use Rattle.std.specs.Prelude.{ℕ, ◌≡◌, List, eqb}
+use Rattle.std.specs.Prelude.{ℕ, ◌≡◌, List, eqb, Err}
 use Rattle.base.specs.Pick.{pick}
 use Rattle.reading.specs.Status.{end_number, stuck_number, end_half_number, stuck_half_number}
 use Rattle.lookahead.specs.Told.{record_numbers, given_told, peeked_told}
@@ -10,17 +10,15 @@ use Rattle.layout.specs.Layout.{room_in, shown_in}
 use Rattle.layout.specs.declared.Layout.{Layout}
 use Rattle.layout.specs.declared.Layout.TheVariants.{Whole, Half}
 use Rattle.lookahead.specs.Next as next
-use Rattle.lookahead.specs.Next.{next_of}
+use Rattle.lookahead.specs.Next.{next_of, Given}
 use Rattle.lookahead.specs.Peek as peek
-use Rattle.lookahead.specs.Peek.{peek_of}
+use Rattle.lookahead.specs.Peek.{peek_of, Peeked}
 use Rattle.lookahead.specs.LookAhead.{look_ahead_of}
+use Rattle.lookahead.specs.declared.NextError.TheVariants as given
+use Rattle.lookahead.specs.declared.LookError.TheVariants as peeked
 use Rattle.cursor.specs.declared.Status.{Status}
 use Rattle.cursor.specs.declared.Status.TheVariants.{End, Stuck}
 use Rattle.cursor.specs.declared.Cursor.{Cursor}
-use Rattle.lookahead.specs.declared.Given.{Given}
-use Rattle.lookahead.specs.declared.Given.TheVariants as given
-use Rattle.lookahead.specs.declared.Peeked.{Peeked}
-use Rattle.lookahead.specs.declared.Peeked.TheVariants as peeked
 use Rattle.cursor_numbers.specs.declared.Named.{Named}
 use Rattle.cursor_numbers.specs.declared.Named.TheVariants.{As, Nothing}
 
@@ -59,7 +57,7 @@ pub record ShownIs (shows : ℕ) (row : Row) (number at shown : ℕ) (words : Li
 -- the answer for these numbers
 abbrev pub next_by : List ℕ → ℕ → ℕ → ℕ → ℕ → Given
 next_by list taken queued count status =
-    by_status (λ (l : Layout) (x : Status). next_of (room_in l list) (shown_in l list count) (cursor_of taken queued count x)) given.BadState status
+    by_status (λ (l : Layout) (x : Status). next_of (room_in l list) (shown_in l list count) (cursor_of taken queued count x)) (Err given.BadState) status
 
 -- what a call over these numbers ensures that answers so
 pub record GivenIs (given : Given) (taken queued newTaken newQueued shown : ℕ) (words : List ℕ) (place r : ℕ) : Type 0 where
@@ -87,7 +85,7 @@ pub record LookedIs (looked : Peeked) (taken queued newQueued shown : ℕ) (word
 -- the answer of `peek` for these numbers
 abbrev pub peek_by : List ℕ → ℕ → ℕ → ℕ → ℕ → ℕ → Peeked
 peek_by list taken queued count status n =
-    by_status (λ (l : Layout) (x : Status). peek_of (room_in l list) (shown_in l list count) (cursor_of taken queued count x) n) peeked.BadState status
+    by_status (λ (l : Layout) (x : Status). peek_of (room_in l list) (shown_in l list count) (cursor_of taken queued count x) n) (Err peeked.BadState) status
 
 -- what `koto_peek` ensures
 abbrev pub PeekIs : List ℕ → ℕ → ℕ → ℕ → ℕ → ℕ → ℕ → ℕ → List ℕ → ℕ → ℕ → Type 0
@@ -96,7 +94,7 @@ PeekIs list taken queued count status n = LookedIs (peek_by list taken queued co
 -- the answer of `look_ahead` for these numbers
 abbrev pub look_by : List ℕ → ℕ → ℕ → ℕ → ℕ → ℕ → Peeked
 look_by list taken queued count status n =
-    by_status (λ (l : Layout) (x : Status). look_ahead_of (room_in l list) (shown_in l list count) (cursor_of taken queued count x) n) peeked.BadState status
+    by_status (λ (l : Layout) (x : Status). look_ahead_of (room_in l list) (shown_in l list count) (cursor_of taken queued count x) n) (Err peeked.BadState) status
 
 -- what `koto_look_ahead` ensures
 abbrev pub LookAheadIs : List ℕ → ℕ → ℕ → ℕ → ℕ → ℕ → ℕ → ℕ → List ℕ → ℕ → ℕ → Type 0

@@ -4,20 +4,20 @@
 --     next_refused, peek_refused, look_refused    refusal 8, whatever the list and the other numbers are
 --     given_shown, looked_shown, given_told_lem, looked_told       each number is that of an answer
 -- Assumes nothing.
-use Rattle.std.specs.Prelude.{ℕ, ◌≡◌, refl, List}
+use Rattle.std.specs.Prelude.{ℕ, ◌≡◌, refl, List, Err}
 use Rattle.std.proofs.Common.{ap, ◌∙◌}
 use Rattle.lookahead.specs.Next as next
 use Rattle.lookahead.specs.Peek as peek
 use Rattle.lookahead.specs.Told.{record_numbers, given_told, peeked_told}
 use Rattle.lookahead.specs.declared.answer.Told.{Told}
+use Rattle.lookahead.specs.Next.{Given}
+use Rattle.lookahead.specs.Peek.{Peeked}
+use Rattle.lookahead.specs.declared.NextError.TheVariants as given
+use Rattle.lookahead.specs.declared.LookError.TheVariants as peeked
 use Rattle.layout.specs.declared.Layout.{Layout}
 use Rattle.layout.specs.declared.Layout.TheVariants.{Whole, Half}
 use Rattle.cursor.specs.declared.Status.{Status}
 use Rattle.cursor.specs.declared.Status.TheVariants.{End, Stuck}
-use Rattle.lookahead.specs.declared.Given.{Given}
-use Rattle.lookahead.specs.declared.Given.TheVariants as given
-use Rattle.lookahead.specs.declared.Peeked.{Peeked}
-use Rattle.lookahead.specs.declared.Peeked.TheVariants as peeked
 use Rattle.reading.specs.Status.{end_number, stuck_number, refused_number, end_half_number, stuck_half_number}
 use Rattle.cursor_numbers.specs.Cursors.{by_status, ShownIs, next_by, GivenIs, LookedIs, peek_by, look_by}
 
@@ -37,13 +37,13 @@ module _ {A : Type 0} (f : Layout → Status → A) (y : A) where
   pub by_refused : by_status f y refused_number ≡ y
   by_refused = refl
 
-pub next_refused : (list : List ℕ) (taken queued count : ℕ) → next_by list taken queued count refused_number ≡ given.BadState
+pub next_refused : (list : List ℕ) (taken queued count : ℕ) → next_by list taken queued count refused_number ≡ Err given.BadState
 next_refused list taken queued count = refl
 
-pub peek_refused : (list : List ℕ) (taken queued count n : ℕ) → peek_by list taken queued count refused_number n ≡ peeked.BadState
+pub peek_refused : (list : List ℕ) (taken queued count n : ℕ) → peek_by list taken queued count refused_number n ≡ Err peeked.BadState
 peek_refused list taken queued count n = refl
 
-pub look_refused : (list : List ℕ) (taken queued count n : ℕ) → look_by list taken queued count refused_number n ≡ peeked.BadState
+pub look_refused : (list : List ℕ) (taken queued count n : ℕ) → look_by list taken queued count refused_number n ≡ Err peeked.BadState
 look_refused list taken queued count n = refl
 
 -- ---- for the code

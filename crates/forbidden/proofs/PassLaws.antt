@@ -5,19 +5,16 @@
 -- Assumes nothing.
 use Prim.Native.Nat.{ℕ, zero, suc, ◌+◌, ◌≤◌, ◌<◌}
 use native.Mathlib.Omega.{arith}
-use Rattle.std.specs.Prelude.{◌≡◌, Bool, ◌⊎◌, List, [], ◌∷◌, eqb}
+use Rattle.std.specs.Prelude.{◌≡◌, Bool, ◌⊎◌, List, [], ◌∷◌, eqb, Option, Some, None}
 use Rattle.std.proofs.Math.Path.{refl, ap}
 use Rattle.std.proofs.Common.{sym, subst, ◌∙◌, inl, inr, eq-eqb, ne_eqb, le-leb}
 use Rattle.std.proofs.Math.Bool.{true, false, not}
-use Rattle.std.proofs.Math.Option.{Option, none, some}
 use Rattle.std.proofs.Math.ListN.{length, get_or}
 use Rattle.base.specs.Pick.{pick}
 use Rattle.fitness.specs.First.{first_bad}
 use Rattle.token.specs.Kind.{string_start, colon, curly_open}
 use Rattle.token.specs.declared.Token.{Token}
 use Rattle.rows.specs.declared.Row.{Row}
-use Rattle.rows.specs.declared.RowAt.{RowAt}
-use Rattle.rows.specs.declared.RowAt.TheVariants.{Fit}
 use Rattle.state.specs.Modes.{literal, tag_of}
 use Rattle.state.specs.Lexer.{settled}
 use Rattle.state.specs.Stack.{top, rest, changed}
@@ -159,7 +156,7 @@ module _ (look : ℕ → ℕ) (edition : ℕ) (s : List ℕ) where
   next x = (get_next_token look edition s x).after
 
   -- a call that hands out a record which is not forbidden
-  shape_on : (opener : ℕ) (x : TokenLexer) (cs : List ℕ) (r : Row) → lexed_of x (given_at look edition cs x).token (given_at look edition cs x).after ≡ some r
+  shape_on : (opener : ℕ) (x : TokenLexer) (cs : List ℕ) (r : Row) → lexed_of x (given_at look edition cs x).token (given_at look edition cs x).after ≡ Some r
       → Shape opener (stack_of x) → is_forbidden (stack_of x) r ≡ false → Shape (opener_after opener r) (stack_of (given_at look edition cs x).after)
   shape_on opener x [] r e h n = absurd (let z : ◌≡◌ {A = ℕ} 0 1 = cc in omega arith)
   shape_on opener x (c ∷ cs) r e h n =
@@ -171,16 +168,16 @@ module _ (look : ℕ → ℕ) (edition : ℕ) (s : List ℕ) where
       (λ k. not_inner (stack_of x) r n (sym (ap (λ (y : Row). y.kind) q) ∙ k))
       h (take_moves (settled (view_of x)) look edition (c ∷ cs)))
     where
-      lexed_row : {a b : Row} → some a ≡ some b → a ≡ b
-      lexed_row {a} f = ap (λ (o : Option Row). elim o [ none ↦ a | some y ↦ y ]) f
+      lexed_row : {a b : Row} → Some a ≡ Some b → a ≡ b
+      lexed_row {a} f = ap (λ (o : Option Row). elim o [ None ↦ a | Some y ↦ y ]) f
 
-  module _ (q : Reading) (x : TokenLexer) (h : Hands look edition s q x) (at : ℕ → RowAt) (d : Row)
-      (shown : (i : ℕ) → i < length q.rows → at i ≡ Fit (get_or q.rows i d)) where
+  module _ (q : Reading) (x : TokenLexer) (h : Hands look edition s q x) (at : ℕ → Option Row) (d : Row)
+      (shown : (i : ℕ) → i < length q.rows → at i ≡ Some (get_or q.rows i d)) where
     abbrev allowed : ℕ → Bool
     allowed i = not (forbidden_token (stack_of (state_at look edition s i x)) (handed look edition s i x))
 
     -- the record of call i
-    there : (i : ℕ) → i < length q.rows → handed look edition s i x ≡ some (get_or q.rows i d)
+    there : (i : ℕ) → i < length q.rows → handed look edition s i x ≡ Some (get_or q.rows i d)
     there i l = h.each i l ∙ get_in q.rows i d l
 
     from : (n i opener : ℕ) → i + n ≡ length q.rows → Shape opener (stack_of (state_at look edition s i x)) → pass_from at opener i n ≡ first_bad allowed i n
@@ -196,7 +193,7 @@ module _ (look : ℕ → ℕ) (edition : ℕ) (s : List ℕ) where
         let ok : allowed i ≡ not (is_forbidden modes row) = ap (λ (o : Option Row). not (forbidden_token modes o)) (there i l) in
         let more : is_forbidden modes row ≡ false → pass_from at (opener_at opener (at i)) (suc i) n ≡ first_bad allowed (suc i) n =
         λ f. from n (suc i) (opener_at opener (at i)) (omega arith)
-        (subst (λ (a : RowAt). Shape (opener_at opener a) (stack_of (state_at look edition s (suc i) x))) (sym (shown i l))
+        (subst (λ (a : Option Row). Shape (opener_at opener a) (stack_of (state_at look edition s (suc i) x))) (sym (shown i l))
         (subst (λ (y : TokenLexer). Shape (opener_after opener row) (stack_of y)) (sym (state_next look edition s i x))
         (shape_on opener (state_at look edition s i x) (remaining_at s (state_at look edition s i x).current_byte.0) row (there i l) w f))) in
         chosen (is_forbidden modes row) refl test ok more

@@ -2,8 +2,7 @@
 -- token)". It is told by the token and by the modes that stand on koto's own stack before it (lexer.rs `string_mode_stack`), which the crate
 -- `rust` has as the Rust does.
 -- Assumes nothing.
-use Rattle.std.specs.Prelude.{ℕ, Bool, false, not, ◌&&◌, ◌||◌, List, [], ◌∷◌, leb, eqb, length}
-use Rattle.std.proofs.Math.Option.{Option, none, some}
+use Rattle.std.specs.Prelude.{ℕ, Bool, false, not, ◌&&◌, ◌||◌, List, [], ◌∷◌, leb, eqb, length, Option, Some, None}
 use Rattle.base.specs.Pick.{pick}
 use Rattle.property.specs.Table.{properties_at}
 use Rattle.fitness.specs.First.{first_bad}
@@ -38,8 +37,8 @@ is_forbidden modes r = pick (eqb r.kind string_start) (is_raw r.detail) (pick (e
 
 -- where there is no token, none is forbidden
 abbrev pub forbidden_token : List ℕ → Option Row → Bool
-forbidden_token modes none = false
-forbidden_token modes (some r) = is_forbidden modes r
+forbidden_token modes None = false
+forbidden_token modes (Some r) = is_forbidden modes r
 
 module _ (source table : List ℕ) (edition : ℕ) where
   -- the modes on koto's stack once i tokens were handed out

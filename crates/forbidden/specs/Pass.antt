@@ -3,12 +3,10 @@
 -- map. So a "{" opens a second template at depth 4, and at depth 3 where what opened depth 3 was a string: that is the last record of depth 2.
 -- That this is what `Forbidden` says is `PassLaws`.
 -- Assumes nothing.
-use Rattle.std.specs.Prelude.{ℕ, zero, suc, Bool, false, leb, eqb}
+use Rattle.std.specs.Prelude.{ℕ, zero, suc, Bool, false, leb, eqb, Option, Some, None}
 use Rattle.base.specs.Pick.{pick}
 use Rattle.token.specs.Kind.{string_start, curly_open}
 use Rattle.rows.specs.declared.Row.{Row}
-use Rattle.rows.specs.declared.RowAt.{RowAt}
-use Rattle.rows.specs.declared.RowAt.TheVariants.{Fit, Unfit}
 use Rattle.forbidden.specs.Forbidden.{is_raw}
 
 -- the kind of the last record of depth 2
@@ -24,15 +22,15 @@ is_forbidden_by opener r =
     pick (eqb r.kind string_start) (is_raw r.detail) (pick (eqb r.kind curly_open) (is_inner opener r.depth) false)
 
 -- a record that may not be shown is none of a scan's
-abbrev pub forbidden_at : ℕ → RowAt → Bool
-forbidden_at opener (Fit r) = is_forbidden_by opener r
-forbidden_at opener Unfit = false
+abbrev pub forbidden_at : ℕ → Option Row → Bool
+forbidden_at opener (Some r) = is_forbidden_by opener r
+forbidden_at opener None = false
 
-abbrev pub opener_at : ℕ → RowAt → ℕ
-opener_at opener (Fit r) = opener_after opener r
-opener_at opener Unfit = opener
+abbrev pub opener_at : ℕ → Option Row → ℕ
+opener_at opener (Some r) = opener_after opener r
+opener_at opener None = opener
 
 -- the first forbidden of the n records from i on; the number after them where there is none
-unfoldable pub pass_from : (ℕ → RowAt) → ℕ → ℕ → ℕ → ℕ
+unfoldable pub pass_from : (ℕ → Option Row) → ℕ → ℕ → ℕ → ℕ
 pass_from at opener i zero = i
 pass_from at opener i (suc n) = pick (forbidden_at opener (at i)) i (pass_from at (opener_at opener (at i)) (suc i) n)

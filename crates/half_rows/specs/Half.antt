@@ -3,13 +3,12 @@
 -- it ends (0, 0, 0 for the first), and one with the mark where the one before it starts: where the one before that ends. Whether the one before
 -- it has the mark is not asked.
 -- Assumes nothing.
-use Rattle.std.specs.Prelude.{◌≡◌, Bool, true, false, ◌&&◌, List, [], ◌∷◌, ℕ, zero, suc, ◌+◌, ◌*◌, ◌-◌, eqb, get_or}
+use Rattle.std.specs.Prelude.{◌≡◌, Bool, true, false, ◌&&◌, List, [], ◌∷◌, ℕ, zero, suc, ◌+◌, ◌*◌, ◌-◌, eqb, get_or, Option}
 use Rattle.base.specs.Pick.{pick}
 use Rattle.token.specs.Kind.{error}
 use Rattle.rows.specs.First.{above_unit, first_of, kind_in, detail_in, depth_in, above_in, fits_below, shown_below}
 use Rattle.rows.specs.Store.{room_for, put_at, put_all, put_from}
 use Rattle.rows.specs.declared.Row.{Row}
-use Rattle.rows.specs.declared.RowAt.{RowAt}
 use Rattle.half_rows.specs.declared.Edge.{Edge}
 
 -- how many numbers a record has
@@ -122,5 +121,5 @@ unfoldable pub fits_at : List ℕ → ℕ → ℕ → Bool
 fits_at list count i = fits_below (above_at list count i) (row_at list i)
 
 -- record i of so many, if it may be shown
-unfoldable pub shown_at : List ℕ → ℕ → ℕ → RowAt
+unfoldable pub shown_at : List ℕ → ℕ → ℕ → Option Row
 shown_at list count i = shown_below (above_at list count i) (row_at list i)

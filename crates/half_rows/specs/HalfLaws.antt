@@ -9,7 +9,7 @@
 --     shown_fit, shown_unfit                 what is shown at an index, by the test
 --     halves_shown                           a record that was put and may be shown is shown
 -- Assumes nothing.
-use Rattle.std.specs.Prelude.{◌≡◌, Bool, true, false, ℕ, zero, suc, ◌+◌, ◌*◌, ◌-◌, ◌%◌, ◌≤◌, ◌<◌, eqb, length, take, drop}
+use Rattle.std.specs.Prelude.{◌≡◌, Bool, true, false, ℕ, zero, suc, ◌+◌, ◌*◌, ◌-◌, ◌%◌, ◌≤◌, ◌<◌, eqb, length, take, drop, Option, Some, None}
 use Rattle.std.proofs.Math.Path.{refl, sym, ap}
 use Rattle.std.proofs.Common.{◌∙◌, add-zero, get_or-drop, eq-eqb}
 use mathlib.Core.List.{List, [], ◌∷◌, ◌++◌}
@@ -23,8 +23,6 @@ use Rattle.rows.specs.FirstLaws.{kind_back, detail_back, depth_back, above_back,
 use Rattle.rows.specs.Store.{words_all}
 use Rattle.rows.specs.StoreLaws as store
 use Rattle.rows.specs.declared.Row.{Row}
-use Rattle.rows.specs.declared.RowAt.{RowAt}
-use Rattle.rows.specs.declared.RowAt.TheVariants.{Fit, Unfit}
 use Rattle.half_rows.specs.Half.{half_words, room, Marked, mark_of, marked_first, words_of, put_half, put_halves, put_halves_at, start_edge, end_edge, no_edge, Starts}
 use Rattle.half_rows.specs.Half.{first_at, is_marked, end_before, start_at, row_at, may_stand, above_at, fits_at, shown_at}
 use Rattle.half_rows.specs.declared.Edge.{Edge}
@@ -177,11 +175,11 @@ module _ (l : List ℕ) (ms : List Marked) (d : Marked) where
 
 -- ---- what may be shown
 
-pub shown_fit : (l : List ℕ) (count i : ℕ) → fits_at l count i ≡ true → shown_at l count i ≡ Fit (row_at l i)
+pub shown_fit : (l : List ℕ) (count i : ℕ) → fits_at l count i ≡ true → shown_at l count i ≡ Some (row_at l i)
 unfolding shown_at fits_at
 shown_fit l count i e = below_fit (above_at l count i) (row_at l i) e
 
-pub shown_unfit : (l : List ℕ) (count i : ℕ) → fits_at l count i ≡ false → shown_at l count i ≡ Unfit
+pub shown_unfit : (l : List ℕ) (count i : ℕ) → fits_at l count i ≡ false → shown_at l count i ≡ None
 unfolding shown_at fits_at
 shown_unfit l count i e = below_unfit (above_at l count i) (row_at l i) e
 
@@ -213,9 +211,9 @@ module _ (l : List ℕ) (ms : List Marked) (d : Marked) (count i : ℕ) (h : i <
       ap (fits_below (above_at (put_halves l ms) count i)) (halves_at l ms d i h (fits_packs (get_or ms i d).row f) s)
       ∙ fits_first (get_or ms i d).row (above_at (put_halves l ms) count i) above_none f
 
-  pub halves_shown : Starts no_edge no_edge ms → shown_at (put_halves l ms) count i ≡ Fit (get_or ms i d).row
+  pub halves_shown : Starts no_edge no_edge ms → shown_at (put_halves l ms) count i ≡ Some (get_or ms i d).row
   halves_shown s =
-      shown_fit (put_halves l ms) count i (halves_fit s) ∙ ap Fit (halves_at l ms d i h (fits_packs (get_or ms i d).row f) s)
+      shown_fit (put_halves l ms) count i (halves_fit s) ∙ ap Some (halves_at l ms d i h (fits_packs (get_or ms i d).row f) s)
 
 -- ---- for the code
 
@@ -227,7 +225,7 @@ before_some l (suc i) n = let e : suc i - 1 ≡ i = omega arith in rw e
 pub depth_below : (first : ℕ) → depth_in first ≡ depth_in (first % above_unit)
 depth_below first = omega arith
 
-module _ (l : List ℕ) (count i : ℕ) {row : Row} {v : RowAt} (e : row ≡ row_at l i) where
+module _ (l : List ℕ) (count i : ℕ) {row : Row} {v : Option Row} (e : row ≡ row_at l i) where
   -- without the mark, where it may stand
   pub shown_marked : may_stand (first_at l i) (eqb (i + 1) count) ≡ true → v ≡ shown_below (above_in (first_at l i % above_unit)) row → v ≡ shown_at l count i
   unfolding shown_at

@@ -10,7 +10,7 @@ ghost use Rattle.rows.specs.First.{Packs};
 ghost use Rattle.half_rows.specs.Half.{room, marked, marked_first, put_half, end_before, start_at, row_at, may_stand, shown_at};
 
 use rows::first::{ABOVE_UNIT, DEPTH_ROOM, DEPTH_UNIT, DETAIL_ROOM, KIND_ROOM, first_of, shown_by};
-use rows::{Row, RowAt};
+use rows::Row;
 use token::kinds;
 
 // How many numbers a record has.
@@ -78,23 +78,13 @@ fn end_before(list: &[u32], i: usize) -> Edge
     }
 }
 
-// The index before this one; 0 where there is none.
-fn index_before(i: usize) -> usize
-    ensures { result ≡ i - 1 }
-{
-    if i == 0 {
-        return 0;
-    }
-    i - 1
-}
-
 // Where record i starts: where the record before it ends, or with the mark where that one starts.
 fn start_at(list: &[u32], i: usize) -> Edge
     requires { i < room list.now }
     ensures { result ≡ start_at list.now i }
 {
     if list[HALF_WORDS * i] / ABOVE_UNIT == 1 {
-        return end_before(list, index_before(i));
+        return end_before(list, i.saturating_sub(1));
     }
     end_before(list, i)
 }
@@ -128,8 +118,8 @@ fn may_stand(first: u32, last: bool) -> bool
     first / ABOVE_UNIT == 1 && (first % KIND_ROOM == ERROR && last)
 }
 
-// Record i of so many, or that it is none that may be shown (refusal 9).
-pub fn half_at(list: &[u32], count: usize, i: usize) -> RowAt
+// Record i of so many; `None` where it may not be shown (refusal 9).
+pub fn half_at(list: &[u32], count: usize, i: usize) -> Option<Row>
     requires { i < room list.now }
     ensures { result ≡ shown_at list.now count i }
 {

@@ -1,10 +1,9 @@
 -- The two layouts of a list: records of eight numbers (document 01, "Records"), and of five (document 02, C-5). What is asked of a list in
 -- either of them.
 -- Assumes nothing.
-use Rattle.std.specs.Prelude.{Bool, List, ℕ}
+use Rattle.std.specs.Prelude.{Bool, List, ℕ, Option}
 use Rattle.rows.specs.Row as rows
 use Rattle.rows.specs.declared.Row.{Row}
-use Rattle.rows.specs.declared.RowAt.{RowAt}
 use Rattle.half_rows.specs.Half as half
 use Rattle.half_rows.specs.Half.{Marked}
 use Rattle.layout.specs.declared.Layout.{Layout}
@@ -36,6 +35,6 @@ fits_in Whole list count = rows.fits_at list
 fits_in Half list count = half.fits_at list count
 
 -- record i of so many, if it may be shown
-abbrev pub shown_in : Layout → List ℕ → ℕ → ℕ → RowAt
+abbrev pub shown_in : Layout → List ℕ → ℕ → ℕ → Option Row
 shown_in Whole list count = rows.shown_at list
 shown_in Half list count = half.shown_at list count

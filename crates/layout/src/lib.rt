@@ -7,7 +7,7 @@ ghost use Rattle.rows.specs.First.{Packs};
 ghost use Rattle.half_rows.specs.Half.{marked};
 ghost use Rattle.layout.specs.Layout.{room_in, put_in, shown_in};
 
-use rows::{Row, RowAt};
+use rows::Row;
 
 #[derive(Clone, Copy)]
 pub enum Layout {
@@ -39,8 +39,8 @@ impl Layout {
         }
     }
 
-    // Record i of so many, or that it is none that may be shown (refusal 9).
-    pub fn shown(self, list: &[u32], count: usize, i: usize) -> RowAt
+    // Record i of so many; `None` where it may not be shown (refusal 9).
+    pub fn shown(self, list: &[u32], count: usize, i: usize) -> Option<Row>
         requires { i < room_in self list.now }
         ensures { result ≡ shown_in self list.now count i }
     {

@@ -1,37 +1,42 @@
 -- Document 01, "Look-ahead": `next`. It checks 8, 9; a refusal leaves the cursor.
 -- Assumes nothing.
-use Rattle.std.specs.Prelude.{ℕ}
+use Rattle.std.specs.Prelude.{ℕ, Option, Some, None, Result, Ok, Err}
 use Rattle.base.specs.Pick.{pick}
 use Rattle.base.specs.Refusal.{none, bad_state, bad_record}
-use Rattle.rows.specs.declared.RowAt.{RowAt}
+use Rattle.rows.specs.declared.Row.{Row}
 use Rattle.cursor.specs.Cursor.{is_fit, moved_on}
 use Rattle.cursor.specs.declared.Cursor.{Cursor}
 use Rattle.lookahead.specs.Seen.{seen_at}
-use Rattle.lookahead.specs.declared.Seen.{Seen}
-use Rattle.lookahead.specs.declared.Seen.TheVariants as seen
-use Rattle.lookahead.specs.declared.Given.{Given}
-use Rattle.lookahead.specs.declared.Given.TheVariants.{Token, Nothing, BadState, BadRecord}
+use Rattle.lookahead.specs.declared.Handed.{Handed}
+use Rattle.lookahead.specs.declared.NextError.{NextError}
+use Rattle.lookahead.specs.declared.NextError.TheVariants.{BadState, BadRecord}
+
+-- what `next` answers: the next token and the cursor after it, none where all are taken, or a refusal
+abbrev pub Given : Type 0
+Given = Result (Option Handed) NextError
+
+-- a token is handed out
+abbrev pub handed : Row → Cursor → Given
+handed row after = Ok (Some (record { row = row; cursor = after }))
 
 -- what is seen there is handed out
-abbrev pub given_by : Cursor → Seen → Given
-given_by c (seen.Token row) = Token row (moved_on c)
-given_by c seen.Nothing = Nothing
-given_by c (seen.BadRecord i) = BadRecord i
+abbrev pub given_by : Cursor → Result (Option Row) ℕ → Given
+given_by c (Ok (Some row)) = handed row (moved_on c)
+given_by c (Ok None) = Ok None
+given_by c (Err i) = Err (BadRecord i)
 
 -- the answer, over a list that has room for so many records and shows these
-unfoldable pub next_of : ℕ → (ℕ → RowAt) → Cursor → Given
-next_of room shown c = pick (is_fit room c) (given_by c (seen_at shown c 0)) BadState
+unfoldable pub next_of : ℕ → (ℕ → Option Row) → Cursor → Given
+next_of room shown c = pick (is_fit room c) (given_by c (seen_at shown c 0)) (Err BadState)
 
 -- document 01's number of an answer
 abbrev pub number_of : Given → ℕ
-number_of (Token row after) = none
-number_of Nothing = none
-number_of BadState = bad_state
-number_of (BadRecord i) = bad_record
+number_of (Ok given) = none
+number_of (Err BadState) = bad_state
+number_of (Err (BadRecord i)) = bad_record
 
 -- and its place
 abbrev pub place_of : Given → ℕ
-place_of (Token row after) = 0
-place_of Nothing = 0
-place_of BadState = 0
-place_of (BadRecord i) = i
+place_of (Ok given) = 0
+place_of (Err BadState) = 0
+place_of (Err (BadRecord i)) = i

@@ -1,14 +1,12 @@
 -- What an answer of `next` or `peek` tells beside its refusal, number by number: whether a token is shown, its record, and how many tokens
 -- are taken and queued after it.
 -- Assumes nothing.
-use Rattle.std.specs.Prelude.{ℕ, List, [], ◌∷◌}
+use Rattle.std.specs.Prelude.{ℕ, List, [], ◌∷◌, Option, Some, None, Ok, Err}
 use Rattle.rows.specs.declared.Row.{Row}
 use Rattle.cursor.specs.declared.Cursor.{Cursor}
 use Rattle.lookahead.specs.declared.answer.Told.{Told}
-use Rattle.lookahead.specs.declared.Given.{Given}
-use Rattle.lookahead.specs.declared.Given.TheVariants as given
-use Rattle.lookahead.specs.declared.Peeked.{Peeked}
-use Rattle.lookahead.specs.declared.Peeked.TheVariants as peeked
+use Rattle.lookahead.specs.Next.{Given}
+use Rattle.lookahead.specs.Peek.{Peeked}
 
 -- ---- a record
 
@@ -46,16 +44,16 @@ not_shown taken queued = record { shown = 0; row = no_row; taken = taken; queued
 
 -- of an answer of `next`, where so many were taken and queued before
 abbrev pub given_told : Given → ℕ → ℕ → Told
-given_told (given.Token row after) taken queued = shown_with row after
-given_told given.Nothing taken queued = not_shown taken queued
-given_told given.BadState taken queued = not_shown taken queued
-given_told (given.BadRecord i) taken queued = not_shown taken queued
+given_told (Ok (Some handed)) taken queued = shown_with handed.row handed.cursor
+given_told (Ok None) taken queued = not_shown taken queued
+given_told (Err e) taken queued = not_shown taken queued
+
+-- a token is shown, if there is one, and the cursor is the one after it
+abbrev pub look_told : Option Row → Cursor → Told
+look_told (Some row) after = shown_with row after
+look_told None after = not_shown after.taken after.queued
 
 -- of an answer of `peek`
 abbrev pub peeked_told : Peeked → ℕ → ℕ → Told
-peeked_told (peeked.Token row after) taken queued = shown_with row after
-peeked_told (peeked.Nothing after) taken queued = not_shown after.taken after.queued
-peeked_told peeked.BadState taken queued = not_shown taken queued
-peeked_told peeked.PeekTooFar taken queued = not_shown taken queued
-peeked_told peeked.QueueFull taken queued = not_shown taken queued
-peeked_told (peeked.BadRecord i) taken queued = not_shown taken queued
+peeked_told (Ok look) taken queued = look_told look.row look.cursor
+peeked_told (Err e) taken queued = not_shown taken queued

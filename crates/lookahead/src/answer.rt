@@ -4,7 +4,7 @@ ghost use Rattle.lookahead.specs.Next as next;
 ghost use Rattle.lookahead.specs.Peek as peek;
 ghost use Rattle.lookahead.specs.Told.{record_numbers, shown_with, not_shown, given_told, peeked_told};
 
-use crate::{Cursor, Given, Peeked};
+use crate::{Cursor, Handed, Look, LookError, NextError};
 use base::refusals::{BAD_RECORD, BAD_STATE, NO_REFUSAL, PEEK_TOO_FAR, QUEUE_FULL};
 use rows::Row;
 
@@ -78,81 +78,70 @@ fn not_shown(taken: usize, queued: usize) -> Told
 // ---- `next`
 
 // The number of a refusal; 0 where there is none.
-pub fn given_number(given: Given) -> u32
+pub fn given_number(given: Result<Option<Handed>, NextError>) -> u32
     ensures { result ≡ next.number_of given }
 {
     match given {
-        Given::Token { row: _, cursor: _ } => NO_REFUSAL,
-        Given::Nothing => NO_REFUSAL,
-        Given::BadState => BAD_STATE,
-        Given::BadRecord(_) => BAD_RECORD,
+        Ok(_) => NO_REFUSAL,
+        Err(NextError::BadState) => BAD_STATE,
+        Err(NextError::BadRecord(_)) => BAD_RECORD,
     }
 }
 
 // Its place; 0 where there is none.
-pub fn given_place(given: Given) -> usize
+pub fn given_place(given: Result<Option<Handed>, NextError>) -> usize
     ensures { result ≡ next.place_of given }
 {
     match given {
-        Given::Token { row: _, cursor: _ } => 0,
-        Given::Nothing => 0,
-        Given::BadState => 0,
-        Given::BadRecord(i) => i,
+        Err(NextError::BadRecord(i)) => i,
+        _ => 0,
     }
 }
 
 // What it tells, where so many tokens were taken and queued before it.
-pub fn given_told(given: Given, taken: usize, queued: usize) -> Told
+pub fn given_told(given: Result<Option<Handed>, NextError>, taken: usize, queued: usize) -> Told
     ensures { result ≡ given_told given taken queued }
 {
     match given {
-        Given::Token { row, cursor } => shown_with(row, cursor),
-        Given::Nothing => not_shown(taken, queued),
-        Given::BadState => not_shown(taken, queued),
-        Given::BadRecord(_) => not_shown(taken, queued),
+        Ok(Some(handed)) => shown_with(handed.row, handed.cursor),
+        _ => not_shown(taken, queued),
     }
 }
 
 // ---- `peek`
 
 // The number of a refusal; 0 where there is none.
-pub fn peeked_number(peeked: Peeked) -> u32
+pub fn peeked_number(peeked: Result<Look, LookError>) -> u32
     ensures { result ≡ peek.number_of peeked }
 {
     match peeked {
-        Peeked::Token { row: _, cursor: _ } => NO_REFUSAL,
-        Peeked::Nothing { cursor: _ } => NO_REFUSAL,
-        Peeked::BadState => BAD_STATE,
-        Peeked::PeekTooFar => PEEK_TOO_FAR,
-        Peeked::QueueFull => QUEUE_FULL,
-        Peeked::BadRecord(_) => BAD_RECORD,
+        Ok(_) => NO_REFUSAL,
+        Err(LookError::BadState) => BAD_STATE,
+        Err(LookError::PeekTooFar) => PEEK_TOO_FAR,
+        Err(LookError::QueueFull) => QUEUE_FULL,
+        Err(LookError::BadRecord(_)) => BAD_RECORD,
     }
 }
 
 // Its place; 0 where there is none.
-pub fn peeked_place(peeked: Peeked) -> usize
+pub fn peeked_place(peeked: Result<Look, LookError>) -> usize
     ensures { result ≡ peek.place_of peeked }
 {
     match peeked {
-        Peeked::Token { row: _, cursor: _ } => 0,
-        Peeked::Nothing { cursor: _ } => 0,
-        Peeked::BadState => 0,
-        Peeked::PeekTooFar => 0,
-        Peeked::QueueFull => 0,
-        Peeked::BadRecord(i) => i,
+        Err(LookError::BadRecord(i)) => i,
+        _ => 0,
     }
 }
 
 // What it tells, where so many tokens were taken and queued before it.
-pub fn peeked_told(peeked: Peeked, taken: usize, queued: usize) -> Told
+pub fn peeked_told(peeked: Result<Look, LookError>, taken: usize, queued: usize) -> Told
     ensures { result ≡ peeked_told peeked taken queued }
 {
     match peeked {
-        Peeked::Token { row, cursor } => shown_with(row, cursor),
-        Peeked::Nothing { cursor } => not_shown(cursor.taken, cursor.queued),
-        Peeked::BadState => not_shown(taken, queued),
-        Peeked::PeekTooFar => not_shown(taken, queued),
-        Peeked::QueueFull => not_shown(taken, queued),
-        Peeked::BadRecord(_) => not_shown(taken, queued),
+        Ok(look) => match look.row {
+            Some(row) => shown_with(row, look.cursor),
+            None => not_shown(look.cursor.taken, look.cursor.queued),
+        },
+        Err(_) => not_shown(taken, queued),
     }
 }

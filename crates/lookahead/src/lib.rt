@@ -17,114 +17,119 @@ ghost use Rattle.lookahead.specs.LookAhead.{look_ahead_of};
 
 use cursor::Cursor;
 use layout::Layout;
-use rows::{Row, RowAt};
+use rows::Row;
 
-// A token that is looked at.
+// The token that `next` hands out, and the cursor after it.
 #[derive(Clone, Copy)]
-pub enum Seen {
-    Token(Row),
-    Nothing,
-    BadRecord(usize),
+pub struct Handed {
+    pub row: Row,
+    pub cursor: Cursor,
 }
 
-// What `next` answers. A refusal leaves the cursor, so it has none.
+// Why `next` refuses. It leaves the cursor.
 #[derive(Clone, Copy)]
-pub enum Given {
-    Token { row: Row, cursor: Cursor },
-    // All tokens are taken; the cursor stays.
-    Nothing,
+pub enum NextError {
     // Refusal 8: the cursor is unfit for this list.
     BadState,
-    // Refusal 9: the record at this index is none that may be shown (`rows::RowAt`).
+    // Refusal 9: the record at this index is none that may be shown.
     BadRecord(usize),
 }
 
-// What `peek` and `look_ahead` answer. A refusal leaves the cursor, so it has none.
+// What `peek` and `look_ahead` show, and the cursor after it.
 #[derive(Clone, Copy)]
-pub enum Peeked {
-    Token { row: Row, cursor: Cursor },
-    // There is no token n, or `peek` has not queued it. Some may have been queued all the same.
-    Nothing { cursor: Cursor },
+pub struct Look {
+    // `None` where there is no token n, or `peek` has not queued it. Some may have been queued all the same.
+    pub row: Option<Row>,
+    pub cursor: Cursor,
+}
+
+// Why `peek` or `look_ahead` refuses. It leaves the cursor.
+#[derive(Clone, Copy)]
+pub enum LookError {
     // Refusal 8: the cursor is unfit for this list.
     BadState,
     // Refusal 6, of `peek` alone: n is over queued + 1, where the Rust's subtraction underflows.
     PeekTooFar,
     // Refusal 7: a token must be queued, and no more may be.
     QueueFull,
-    // Refusal 9: the record at this index is none that may be shown (`rows::RowAt`).
+    // Refusal 9: the record at this index is none that may be shown.
     BadRecord(usize),
 }
 
-// The token that comes after n others.
-fn see(layout: Layout, list: &[u32], cursor: Cursor, n: usize) -> Seen
+// The token that comes after n others, if there is one; `Err` is the index of a record that may not be shown.
+fn see(layout: Layout, list: &[u32], cursor: Cursor, n: usize) -> Result<Option<Row>, usize>
     requires { cursor.count ≤ room_in layout list.now }
     ensures { result ≡ seen_at (shown_in layout list.now cursor.count) cursor n }
 {
     let i = cursor.ahead(n);
-    if i < cursor.count {
-        return match layout.shown(list, cursor.count, i) {
-            RowAt::Fit(row) => Seen::Token(row),
-            RowAt::Unfit => Seen::BadRecord(i),
-        };
+    if cursor.count <= i {
+        return Ok(None);
     }
-    Seen::Nothing
+    let Some(row) = layout.shown(list, cursor.count, i) else {
+        return Err(i);
+    };
+    Ok(Some(row))
 }
 
-// Hands out the next token. Refused are an unfit cursor, then a record that may not be shown.
-pub fn next(layout: Layout, list: &[u32], cursor: Cursor) -> Given
+// Hands out the next token; `None` where all are taken. Refused are an unfit cursor, then a record that may not be shown.
+pub fn next(layout: Layout, list: &[u32], cursor: Cursor) -> Result<Option<Handed>, NextError>
     ensures { result ≡ next_of (room_in layout list.now) (shown_in layout list.now cursor.count) cursor }
 {
     if !cursor.is_fit(layout.room(list)) {
-        return Given::BadState;
+        return Err(NextError::BadState);
     }
     let i = cursor.taken;
     if cursor.count <= i {
-        return Given::Nothing;
+        return Ok(None);
     }
-    match layout.shown(list, cursor.count, i) {
-        RowAt::Fit(row) => Given::Token {
-            row,
-            cursor: cursor.moved_on(),
-        },
-        RowAt::Unfit => Given::BadRecord(i),
-    }
+    let Some(row) = layout.shown(list, cursor.count, i) else {
+        return Err(NextError::BadRecord(i));
+    };
+    Ok(Some(Handed {
+        row,
+        cursor: cursor.moved_on(),
+    }))
 }
 
 // What was seen is shown.
-fn show(cursor: Cursor, seen: Seen) -> Peeked
+fn show(cursor: Cursor, seen: Result<Option<Row>, usize>) -> Result<Look, LookError>
     ensures { result ≡ shown_by cursor seen }
 {
     match seen {
-        Seen::Token(row) => Peeked::Token { row, cursor },
-        Seen::Nothing => Peeked::Nothing { cursor },
-        Seen::BadRecord(i) => Peeked::BadRecord(i),
+        Ok(row) => Ok(Look { row, cursor }),
+        Err(i) => Err(LookError::BadRecord(i)),
     }
 }
 
 // The token that comes after n others, where so many are queued.
-fn see_queued(layout: Layout, list: &[u32], cursor: Cursor, n: usize) -> Seen
+fn see_queued(
+    layout: Layout,
+    list: &[u32],
+    cursor: Cursor,
+    n: usize,
+) -> Result<Option<Row>, usize>
     requires { cursor.count ≤ room_in layout list.now }
     ensures { shown_by cursor result ≡ queued_at (shown_in layout list.now cursor.count) cursor n }
 {
     if n < cursor.queued {
         return see(layout, list, cursor, n);
     }
-    Seen::Nothing
+    Ok(None)
 }
 
 // Queues one more token, if there is one and n is at most what is queued, and shows queued token n. Refused are an unfit cursor, then an n
 // that is too far, then a full queue, then a record that may not be shown.
-pub fn peek(layout: Layout, list: &[u32], cursor: Cursor, n: usize) -> Peeked
+pub fn peek(layout: Layout, list: &[u32], cursor: Cursor, n: usize) -> Result<Look, LookError>
     ensures { result ≡ peek_of (room_in layout list.now) (shown_in layout list.now cursor.count) cursor n }
 {
     if !cursor.is_fit(layout.room(list)) {
-        return Peeked::BadState;
+        return Err(LookError::BadState);
     }
     if cursor.queued + 1 < n {
-        return Peeked::PeekTooFar;
+        return Err(LookError::PeekTooFar);
     }
     if cursor.is_full(n) {
-        return Peeked::QueueFull;
+        return Err(LookError::QueueFull);
     }
     let after = cursor.queued_past(n);
     show(after, see_queued(layout, list, after, n))
@@ -132,14 +137,14 @@ pub fn peek(layout: Layout, list: &[u32], cursor: Cursor, n: usize) -> Peeked
 
 // Shows the token that the (n+1)th following `next` would hand out, and queues what is lacking for it. Refused are an unfit cursor, then more
 // tokens than may be queued, then a record that may not be shown.
-pub fn look_ahead(layout: Layout, list: &[u32], cursor: Cursor, n: usize) -> Peeked
+pub fn look_ahead(layout: Layout, list: &[u32], cursor: Cursor, n: usize) -> Result<Look, LookError>
     ensures { result ≡ look_ahead_of (room_in layout list.now) (shown_in layout list.now cursor.count) cursor n }
 {
     if !cursor.is_fit(layout.room(list)) {
-        return Peeked::BadState;
+        return Err(LookError::BadState);
     }
     if cursor.overfills(n) {
-        return Peeked::QueueFull;
+        return Err(LookError::QueueFull);
     }
     let after = cursor.queued_for(n);
     show(after, see(layout, list, cursor, n))

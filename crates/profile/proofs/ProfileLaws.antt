@@ -7,7 +7,7 @@
 --     judged_out, judged_in             with a forbidden record, and without
 --     one_answer                        no second answer and no second list fits
 -- Assumes nothing.
-use Rattle.std.specs.Prelude.{ℕ, ◌<◌, ◌≤◌, ◌≡◌, refl, List, length, get_or}
+use Rattle.std.specs.Prelude.{ℕ, ◌<◌, ◌≤◌, ◌≡◌, refl, List, length, get_or, Some}
 use Rattle.std.proofs.Common.{arith, sym, subst, ◌∙◌, lt-ltb, le-ltb}
 use Rattle.std.proofs.Math.Path.{ap}
 use Rattle.property.specs.Table.{properties_at}
@@ -17,7 +17,6 @@ use Rattle.token.specs.Token.{token_of}
 use Rattle.rows.specs.Row.{room, put_rows, shown_at}
 use Rattle.rows.specs.RowLaws.{rows_room, rows_shown}
 use Rattle.rows.specs.declared.Row.{Row}
-use Rattle.rows.specs.declared.RowAt.TheVariants.{Fit}
 use Rattle.state.specs.Lexer.{start_lexer}
 use Rattle.state.specs.State.{start_state}
 use Rattle.stepping.specs.InvariantLaws.{start_ok_lem}
@@ -51,7 +50,7 @@ module _ (source table : List ℕ) (edition : ℕ) (old new : List ℕ) where
         let h : length rows ≤ room old = omega (arith, w.counted, w.has_room) in
         omega (arith, w.has_room, ap room e, rows_room old rows h)
 
-    shown : (i : ℕ) → i < length rows → shown_at new i ≡ Fit (get_or rows i some_row)
+    shown : (i : ℕ) → i < length rows → shown_at new i ≡ Some (get_or rows i some_row)
     shown i h =
         ap (λ (l : List ℕ). shown_at l i) e
         ∙ rows_shown old rows i some_row h

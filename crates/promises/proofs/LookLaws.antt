@@ -1,7 +1,7 @@
 -- The promise of `Look`, proved, and that no second answer fits.
 --     look_ahead_promise, look_ahead_has_one_answer
 -- Assumes nothing.
-use Rattle.std.specs.Prelude.{ℕ, ◌+◌, ◌-◌, ◌<◌, ◌≤◌, ◌≡◌, Bool, List, ltb}
+use Rattle.std.specs.Prelude.{ℕ, ◌+◌, ◌-◌, ◌<◌, ◌≤◌, ◌≡◌, Bool, List, ltb, Option, Some, None, Result, Ok, Err}
 use native.Mathlib.Omega.{arith}
 use Rattle.std.proofs.Math.Path.{refl}
 use Rattle.std.proofs.Common.{sym, ap, subst, ◌∙◌, lt-ltb, le-ltb}
@@ -10,20 +10,18 @@ use Rattle.base.specs.Refusal.{none, peek_too_far}
 use Rattle.layout.specs.Layout.{room_in, shown_in}
 use Rattle.layout.specs.LayoutLaws.{shown_fit, shown_unfit}
 use Rattle.layout.specs.declared.Layout.{Layout}
+use Rattle.rows.specs.declared.Row.{Row}
 use Rattle.cursor.specs.Cursor.{queue_most, is_fit, ahead, queued_for, queueing}
 use Rattle.cursor.specs.CursorLaws.{there_end, queued_for_lem}
 use Rattle.lookahead.specs.Seen.{seen_at}
 use Rattle.lookahead.specs.Peek as ofPeek
-use Rattle.lookahead.specs.Peek.{shown_by}
+use Rattle.lookahead.specs.Peek.{shown_by, Peeked}
 use Rattle.lookahead.specs.LookAhead.{look_ahead_of}
 use Rattle.lookahead.specs.AnswerLaws.{see_token, see_bad, see_nothing, look_unfit, look_full, look_is}
+use Rattle.lookahead.specs.declared.LookError.TheVariants as peeked
 use Rattle.cursor.specs.declared.Status.{Status}
 use Rattle.cursor.specs.declared.Status.TheVariants.{End, Stuck}
 use Rattle.cursor.specs.declared.Cursor.{Cursor}
-use Rattle.lookahead.specs.declared.Seen.{Seen}
-use Rattle.lookahead.specs.declared.Seen.TheVariants as seen
-use Rattle.lookahead.specs.declared.Peeked.{Peeked}
-use Rattle.lookahead.specs.declared.Peeked.TheVariants as peeked
 use Rattle.queue.specs.Calls.{peeked_token, peeked_cursor, next, call, after_calls}
 use Rattle.queue.specs.LookLaws.{same_nexts, look_fits, look_token}
 use Rattle.promises.specs.Lookahead.{peeked_says}
@@ -50,10 +48,10 @@ module _ (layout : Layout) (list : List ℕ) (c : Cursor) (n : ℕ) where
   unfolding look_ahead_of
   never_far = by_fit (is_fit (room_in layout list) c) refl
     where
-      by_seen : (s : Seen) → ofPeek.number_of (shown_by (queueing c (queued_for c n)) s) ≡ peek_too_far → ⊥
-      by_seen (seen.Token row) z = omega arith
-      by_seen seen.Nothing z = omega arith
-      by_seen (seen.BadRecord i) z = omega arith
+      by_seen : (s : Result (Option Row) ℕ) → ofPeek.number_of (shown_by (queueing c (queued_for c n)) s) ≡ peek_too_far → ⊥
+      by_seen (Ok (Some row)) z = omega arith
+      by_seen (Ok None) z = omega arith
+      by_seen (Err i) z = omega arith
 
       by_room_lem : (t : Bool) → is_fit (room_in layout list) c ≡ true → ltb queue_most (queued_for c n) ≡ t → ofPeek.number_of looked ≡ peek_too_far → ⊥
       by_room_lem true f e z = omega (arith, rw (f, e) at z)
@@ -64,12 +62,12 @@ module _ (layout : Layout) (list : List ℕ) (c : Cursor) (n : ℕ) where
       by_fit false f z = omega (arith, rw f at z)
 
   module _ (f : is_fit (room_in layout list) c ≡ true) (m : ℕ) (l : Lacks c n m) where
-    is_full_lem : queue_most < m → looked ≡ peeked.QueueFull
+    is_full_lem : queue_most < m → looked ≡ Err peeked.QueueFull
     is_full_lem h = sym (look_full (room_in layout list) (shown_in layout list c.count) c n f (lt-ltb queue_most (queued_for c n) (omega (arith, lacks_is c n m l))))
 
     module _ (h : m ≤ queue_most) where
       -- by what is seen
-      is_seen : {s : Seen} → s ≡ seen_at (shown_in layout list c.count) c n → looked ≡ shown_by (queueing c m) s
+      is_seen : {s : Result (Option Row) ℕ} → s ≡ seen_at (shown_in layout list c.count) c n → looked ≡ shown_by (queueing c m) s
       is_seen e =
           let q = lacks_is c n m l in
           sym (look_is (room_in layout list) (shown_in layout list c.count) c n f (le-ltb queue_most (queued_for c n) (omega (arith, q)))

@@ -5,19 +5,16 @@
 --     after_a_scan    after an unrefused scan 8 and 9 are never given, the definition's tokens are handed out, and the Rust says the same:
 --                     its `KotoLexer` over its own stream of the source
 -- Assumes nothing.
-use Rattle.std.specs.Prelude.{ℕ, ◌+◌, ◌-◌, ◌<◌, ◌≤◌, ◌≡◌, Bool, true, List, length, get_or}
+use Rattle.std.specs.Prelude.{ℕ, ◌+◌, ◌-◌, ◌<◌, ◌≤◌, ◌≡◌, Bool, true, List, length, get_or, Option, Some, None, Err}
 use Rattle.std.proofs.Common.{add-zero, ap, subst, ◌∙◌, ltb-true, leb-true, lt-ltb, le-leb}
 use native.Mathlib.Omega.{arith}
 use Rattle.std.proofs.Math.Path.{refl, sym}
 use Rattle.std.proofs.Math.Bool.{false}
-use Rattle.std.proofs.Math.Option.{some}
 use Rattle.std.proofs.lemmas.Bool.{lt-leb}
 use Rattle.base.specs.PickLaws.{split_lt}
 use Rattle.property.specs.Table.{properties_at}
 use Rattle.fitness.specs.FitLaws as property
 use Rattle.rows.specs.declared.Row.{Row}
-use Rattle.rows.specs.declared.RowAt.{RowAt}
-use Rattle.rows.specs.declared.RowAt.TheVariants.{Fit}
 use Rattle.layout.specs.Layout.{room_in, row_in, fits_in, shown_in}
 use Rattle.layout.specs.LayoutLaws.{shown_fit, shown_unfit}
 use Rattle.layout.specs.declared.Layout.{Layout}
@@ -33,17 +30,15 @@ use Rattle.reading.specs.declared.Scanned.TheVariants as scanned
 use Rattle.cursor.specs.Cursor.{queue_most, fit_by, is_fit, start_cursor, record_at, ahead, moved_on, has_more, must_queue, queued_one}
 use Rattle.cursor.specs.CursorLaws as cursor
 use Rattle.cursor.specs.CursorLaws.{fits_of, fit_of, record_at_lem, record_in, start_fits, queued_fits, taken_held, queued_there}
-use Rattle.lookahead.specs.Next.{next_of}
-use Rattle.lookahead.specs.Peek.{queued_at, peek_of}
+use Rattle.lookahead.specs.Next.{next_of, Given, handed}
+use Rattle.lookahead.specs.Peek.{queued_at, peek_of, Peeked, looked}
 use Rattle.lookahead.specs.AnswerLaws.{next_row, next_bad, next_none, queued_row, queued_bad, queued_none}
 use Rattle.lookahead.specs.AnswerLaws.{peek_far, peek_as_is, peek_full, peek_more}
+use Rattle.lookahead.specs.declared.NextError.TheVariants as given
+use Rattle.lookahead.specs.declared.LookError.TheVariants as peeked
 use Rattle.cursor.specs.declared.Status.{Status}
 use Rattle.cursor.specs.declared.Status.TheVariants.{End, Stuck}
 use Rattle.cursor.specs.declared.Cursor.{Cursor}
-use Rattle.lookahead.specs.declared.Given.{Given}
-use Rattle.lookahead.specs.declared.Given.TheVariants as given
-use Rattle.lookahead.specs.declared.Peeked.{Peeked}
-use Rattle.lookahead.specs.declared.Peeked.TheVariants as peeked
 use Rattle.queue.specs.Queue.{Stream, new_lexer, get}
 use Rattle.queue.specs.Calls.{Call, next, nexts, Shows, Stands, rust_after, Streams, Mirrors}
 use Rattle.queue.specs.StreamLaws.{get_in, get_past, shows_by}
@@ -105,11 +100,11 @@ module _ (layout : Layout) (list : List ℕ) (c : Cursor) (n : Unfit layout list
   moved_to taken e = rw e
 
   given_to : (taken : ℕ) → c.taken < c.count → fits_in layout list c.count c.taken ≡ true → ahead c 1 ≡ taken
-      → next_of (room_in layout list) (shown_in layout list c.count) c ≡ given.Token (row_in layout list c.taken) (handed_on c taken)
+      → next_of (room_in layout list) (shown_in layout list c.count) c ≡ handed (row_in layout list c.taken) (handed_on c taken)
   given_to taken h t e =
-      sym (next_row (room_in layout list) (shown_in layout list c.count) c (fit_is layout list c n) first h (shown_fit layout list c.count c.taken t)) ∙ ap (given.Token (row_in layout list c.taken)) (moved_to taken e)
+      sym (next_row (room_in layout list) (shown_in layout list c.count) c (fit_is layout list c n) first h (shown_fit layout list c.count c.taken t)) ∙ ap (handed (row_in layout list c.taken)) (moved_to taken e)
 
-unfit_next : (layout : Layout) (list : List ℕ) (c : Cursor) → is_fit (room_in layout list) c ≡ false → next_of (room_in layout list) (shown_in layout list c.count) c ≡ given.BadState
+unfit_next : (layout : Layout) (list : List ℕ) (c : Cursor) → is_fit (room_in layout list) c ≡ false → next_of (room_in layout list) (shown_in layout list c.count) c ≡ Err given.BadState
 unfolding next_of
 unfit_next layout list c f = rw f
 
@@ -138,7 +133,7 @@ next_has_one_answer layout list c r q e f = e ∙ sym f
 
 -- ---- `peek`
 
-unfit_peek : (layout : Layout) (list : List ℕ) (c : Cursor) (n : ℕ) → is_fit (room_in layout list) c ≡ false → peek_of (room_in layout list) (shown_in layout list c.count) c n ≡ peeked.BadState
+unfit_peek : (layout : Layout) (list : List ℕ) (c : Cursor) (n : ℕ) → is_fit (room_in layout list) c ≡ false → peek_of (room_in layout list) (shown_in layout list c.count) c n ≡ Err peeked.BadState
 unfolding peek_of
 unfit_peek layout list c n f = rw f
 
@@ -195,17 +190,17 @@ module _ (layout : Layout) (list : List ℕ) (c : Cursor) (f : is_fit (room_in l
 
   -- the answer for such a look
   module _ (n : ℕ) (d : Cursor) (l : Looks n d) where
-    look_none : d.queued ≤ n → peek_of (room_in layout list) (shown_in layout list c.count) c n ≡ peeked.Nothing d
+    look_none : d.queued ≤ n → peek_of (room_in layout list) (shown_in layout list c.count) c n ≡ looked None d
     look_none h = l.answer ∙ sym (queued_none (shown_in layout list c.count) d n h)
 
     module _ (h : n < d.queued) where
       there : ahead c n < d.count
       there = subst (λ (i : ℕ). i < d.count) l.same (queued_there (room_in layout list) d l.fit n h)
 
-      look_bad : fits_in layout list c.count (ahead c n) ≡ false → peek_of (room_in layout list) (shown_in layout list c.count) c n ≡ peeked.BadRecord (ahead c n)
+      look_bad : fits_in layout list c.count (ahead c n) ≡ false → peek_of (room_in layout list) (shown_in layout list c.count) c n ≡ Err (peeked.BadRecord (ahead c n))
       look_bad t = l.answer ∙ sym (queued_bad (shown_in layout list c.count) d n l.same there h (shown_unfit layout list c.count (ahead c n) t))
 
-      look_row : fits_in layout list c.count (ahead c n) ≡ true → peek_of (room_in layout list) (shown_in layout list c.count) c n ≡ peeked.Token (row_in layout list (ahead c n)) d
+      look_row : fits_in layout list c.count (ahead c n) ≡ true → peek_of (room_in layout list) (shown_in layout list c.count) c n ≡ looked (Some (row_in layout list (ahead c n))) d
       look_row t = l.answer ∙ sym (queued_row (shown_in layout list c.count) d n l.same there h (shown_fit layout list c.count (ahead c n) t))
 
 pub peek_promise : (layout : Layout) (list : List ℕ) (c : Cursor) (n : ℕ) (r : Peeked) → PeekEnsures layout list c n r → PeekPromise layout list c n r
@@ -247,7 +242,7 @@ module _ (rows : List Row) (status : Status) (i : ℕ) where
 
 -- a list that has room for these rows, and shows each of them
 module _ (layout : Layout) (list : List ℕ) (rows : List Row) (status : Status) (h : length rows ≤ room_in layout list)
-    (shown : (i : ℕ) (d : Row) → i < length rows → shown_in layout list (length rows) i ≡ Fit (get_or rows i d)) (some-stuck : status ≡ Stuck → 0 < length rows)
+    (shown : (i : ℕ) (d : Row) → i < length rows → shown_in layout list (length rows) i ≡ Some (get_or rows i d)) (some-stuck : status ≡ Stuck → 0 < length rows)
     (stream : Stream) (same : Streams stream rows status) where
   abbrev count : ℕ
   count = length rows
@@ -258,7 +253,7 @@ module _ (layout : Layout) (list : List ℕ) (rows : List Row) (status : Status)
   abbrev room : ℕ
   room = room_in layout list
 
-  abbrev at : ℕ → RowAt
+  abbrev at : ℕ → Option Row
   at = shown_in layout list count
 
   begins_fit : is_fit room begin ≡ true
@@ -313,7 +308,7 @@ module _ (layout : Layout) (source table : List ℕ) (edition : ℕ) (old : List
   holds_room : room_in layout holds ≡ room_in layout old
   holds_room = ap (room_in layout) (sym are_all) ∙ firsts_room layout old (room_in layout old) q (omega arith)
 
-  holds_shown : (i : ℕ) (d : Row) → i < length q.rows → shown_in layout holds (length q.rows) i ≡ Fit (get_or q.rows i d)
+  holds_shown : (i : ℕ) (d : Row) → i < length q.rows → shown_in layout holds (length q.rows) i ≡ Some (get_or q.rows i d)
   holds_shown i d h =
       ap (λ (l : List ℕ). shown_in layout l (length q.rows) i) (sym are_all)
       ∙ firsts_shown source table edition (property.fit_of table w.readable.fit) (start_ok_lem source w.readable.short w.readable.well)
@@ -327,14 +322,14 @@ module _ {layout : Layout} (source table : List ℕ) (edition : ℕ) (old new : 
   from_whole n stop status c w p e k same =
       let rows : List Row = (reading_of source table edition).rows in
       let begin : c ≡ start_cursor (length rows) status = e ∙ ap (λ (m : ℕ). start_cursor m status) w.counted in
-      let some : status ≡ Stuck → 0 < length rows =
+      let Some : status ≡ Stuck → 0 < length rows =
       λ s. stuck_some (properties_at table) edition source start_state (w.stops ∙ k s) in
       let list : List ℕ = holds_in layout old (reading_of source table edition) in
       let has_room : length rows ≤ room_in layout list =
       omega (arith, w.counted, w.has_room, holds_room layout source table edition old n stop w) in
       subst (λ (l : List ℕ). HandsOut layout l rows (rust_stream source table edition) c) (sym p)
       (subst (HandsOut layout list rows (rust_stream source table edition)) (sym begin)
-      (hands_out layout list rows status has_room (holds_shown layout source table edition old n stop w) some (rust_stream source table edition) same))
+      (hands_out layout list rows status has_room (holds_shown layout source table edition old n stop w) Some (rust_stream source table edition) same))
 
   -- to its end, and until it stood still
   pub ended_hands : (n : ℕ) (c : Cursor) → ReadWhole source table edition (room_in layout old) n ended

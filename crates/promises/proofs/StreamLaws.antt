@@ -1,7 +1,6 @@
 -- The promise of `Stream`, proved: `stream_promise`. And what the stream does for ever, whatever the source: `error_for_ever`, `none_for_ever`.
 -- Assumes nothing.
-use Rattle.std.specs.Prelude.{ℕ, ◌≡◌, List}
-use Rattle.std.proofs.Math.Option.{none}
+use Rattle.std.specs.Prelude.{ℕ, ◌≡◌, List, None}
 use Rattle.base.specs.Refusal.{source_most}
 use Rattle.property.specs.Table.{properties_at}
 use Rattle.fitness.specs.Fit.{FitTable}
@@ -40,5 +39,5 @@ module _ (look : ℕ → ℕ) (edition : ℕ) (source : List ℕ) (x : TokenLexe
   error_for_ever = rust.still_for_ever look edition source x
 
   -- and so is None
-  pub none_for_ever : (get_next_token look edition source x).token ≡ none → (n : ℕ) → handed look edition source n x ≡ none
+  pub none_for_ever : (get_next_token look edition source x).token ≡ None → (n : ℕ) → handed look edition source n x ≡ None
   none_for_ever = rust.none_for_ever look edition source x

@@ -7,10 +7,10 @@ use Rattle.layout.specs.declared.Layout.TheVariants.{Whole, Half}
 use Rattle.reading.specs.Scan.{Scans, ScansIn, count_of}
 use Rattle.reading.specs.declared.Scanned.{Scanned}
 use Rattle.cursor.specs.declared.Cursor.{Cursor}
-use Rattle.lookahead.specs.declared.Given.{Given}
-use Rattle.lookahead.specs.declared.Peeked.{Peeked}
 use Rattle.promises.specs.Lookahead.{NextEnsures, PeekEnsures}
 use Rattle.promises.specs.Look.{LookAheadEnsures}
+use Rattle.lookahead.specs.Next.{Given}
+use Rattle.lookahead.specs.Peek.{Peeked}
 
 -- a scan into whole records that answers r and leaves `new` of `old`, and one of the same input into half records that answers q and leaves `other`
 -- of `half`, where the two lists have room for as many

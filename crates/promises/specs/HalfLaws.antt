@@ -1,6 +1,6 @@
 -- The promise of `Half`, proved: `half_promise`.
 -- Assumes nothing.
-use Rattle.std.specs.Prelude.{ℕ, ◌*◌, ◌≤◌, ◌<◌, ◌≡◌, refl, List, length, get_or, take, drop}
+use Rattle.std.specs.Prelude.{ℕ, ◌*◌, ◌≤◌, ◌<◌, ◌≡◌, refl, List, length, get_or, take, drop, Option, Some}
 use Rattle.std.proofs.Common.{arith, sym, ap, subst, ◌∙◌, take_all, length-take-le}
 use Rattle.base.specs.PickLaws.{split_lt}
 use Rattle.base.specs.Refusal.{source_most}
@@ -11,8 +11,6 @@ use Rattle.input.specs.declared.Refusal.{Refusal}
 use Rattle.input.specs.declared.Input.{Input}
 use Rattle.input.specs.declared.Input.TheVariants as input
 use Rattle.rows.specs.declared.Row.{Row}
-use Rattle.rows.specs.declared.RowAt.{RowAt}
-use Rattle.rows.specs.declared.RowAt.TheVariants.{Fit}
 use Rattle.layout.specs.Layout.{words_in, room_in, row_in, shown_in}
 use Rattle.layout.specs.declared.Layout.{Layout}
 use Rattle.layout.specs.declared.Layout.TheVariants.{Whole, Half}
@@ -73,7 +71,7 @@ module _ (source table : List ℕ) (edition : ℕ) (g : Readable source table ed
     row_in_lem : row_in layout (firsts_in layout old n q) i ≡ get_or q.rows i d
     row_in_lem = let b = in_both n i q.rows h in firsts_row source table edition (fit_of table g.fit) ok old n i d b.0 b.1 layout
 
-    shown_in_lem : shown_in layout (firsts_in layout old n q) count i ≡ Fit (get_or q.rows i d)
+    shown_in_lem : shown_in layout (firsts_in layout old n q) count i ≡ Some (get_or q.rows i d)
     shown_in_lem =
         let b = in_both n i q.rows h in
         firsts_shown source table edition (fit_of table g.fit) ok old n i d b.0 b.1 count h count_most_lem layout
@@ -146,10 +144,10 @@ module _ {source table : List ℕ} {edition : ℕ} {old half : List ℕ} {r q : 
     shown_same : (i : ℕ) → i < c.count → shown_in Half other c.count i ≡ shown_in Whole new c.count i
     shown_same = subst (λ (k : ℕ). (i : ℕ) → i < k → shown_in Half other k i ≡ shown_in Whole new k i) (sym e) lists.alike.shown
 
-    abbrev there : ℕ → RowAt
+    abbrev there : ℕ → Option Row
     there = shown_in Half other c.count
 
-    abbrev here : ℕ → RowAt
+    abbrev here : ℕ → Option Row
     here = shown_in Whole new c.count
 
     nexts : next_of (room_in Half other) there c ≡ next_of (room_in Whole new) here c

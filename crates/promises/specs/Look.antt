@@ -2,17 +2,16 @@
 -- to `next`, and that 6 is never given. After a scan, `after_a_scan` of `LookaheadLaws` speaks of it too: there no call gets 8 or 9, `next`
 -- hands out the records in order whatever was looked at in between, and a look is the comment's over the Rust's own queue.
 -- Assumes nothing.
-use Rattle.std.specs.Prelude.{ℕ, ◌+◌, ◌-◌, ◌<◌, ◌≤◌, ◌≡◌, true, false, List, replicate}
+use Rattle.std.specs.Prelude.{ℕ, ◌+◌, ◌-◌, ◌<◌, ◌≤◌, ◌≡◌, true, false, List, replicate, Some, None}
 use Rattle.base.specs.Refusal.{none, peek_too_far, queue_full, bad_state, bad_record}
 use Rattle.layout.specs.Layout.{room_in, row_in, fits_in, shown_in}
 use Rattle.layout.specs.declared.Layout.{Layout}
 use Rattle.cursor.specs.Cursor.{queue_most, is_fit, ahead, queueing}
 use Rattle.lookahead.specs.Peek as ofPeek
 use Rattle.lookahead.specs.LookAhead.{look_ahead_of}
+use Rattle.lookahead.specs.Peek.{Peeked, looked}
 use Rattle.cursor.specs.declared.Status.TheVariants.{End, Stuck}
 use Rattle.cursor.specs.declared.Cursor.{Cursor}
-use Rattle.lookahead.specs.declared.Peeked.{Peeked}
-use Rattle.lookahead.specs.declared.Peeked.TheVariants as peeked
 use Rattle.queue.specs.Calls.{Call, next, peeked_token, peeked_cursor}
 use Rattle.promises.specs.Said.{says}
 use Rattle.promises.specs.Lookahead.{Unfit, peeked_says, call_on, after_on, UnrefusedOn}
@@ -38,13 +37,13 @@ pub record LookAheadPromise (layout : Layout) (list : List ℕ) (c : Cursor) (n 
   -- 7 exactly where more than 65,535 would be queued
   pub full : (Unfit layout list c → ⊥) → (m : ℕ) → Lacks c n m → queue_most < m → peeked_says r ≡ says queue_full 0
   pub nothing_there :
-      (Unfit layout list c → ⊥) → (m : ℕ) → Lacks c n m → m ≤ queue_most → c.count ≤ ahead c n → r ≡ peeked.Nothing (queueing c m)
+      (Unfit layout list c → ⊥) → (m : ℕ) → Lacks c n m → m ≤ queue_most → c.count ≤ ahead c n → r ≡ looked None (queueing c m)
   pub bad_record_lem :
       (Unfit layout list c → ⊥) → (m : ℕ) → Lacks c n m → m ≤ queue_most → ahead c n < c.count → fits_in layout list c.count (ahead c n) ≡ false
       → peeked_says r ≡ says bad_record (ahead c n)
   pub shown :
       (Unfit layout list c → ⊥) → (m : ℕ) → Lacks c n m → m ≤ queue_most → ahead c n < c.count → fits_in layout list c.count (ahead c n) ≡ true
-      → r ≡ peeked.Token (row_in layout list (ahead c n)) (queueing c m)
+      → r ≡ looked (Some (row_in layout list (ahead c n))) (queueing c m)
   pub never_too_far : ofPeek.number_of r ≡ peek_too_far → ⊥
   -- after an unrefused look the cursor is fit
   pub fit_after : ofPeek.number_of r ≡ none → is_fit (room_in layout list) (peeked_cursor c r) ≡ true

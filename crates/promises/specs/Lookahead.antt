@@ -1,9 +1,7 @@
 -- The promises of `lookahead::next` and `lookahead::peek` over a list in either layout, case by case in document 01's order, and what the two say
 -- after a scan.
 -- Assumes nothing.
-use Rattle.std.specs.Prelude.{ℕ, ◌+◌, ◌-◌, ◌<◌, ◌≤◌, ◌≡◌, true, false, List, length, get_or}
-use Rattle.std.proofs.Math.Option.{Option, some}
-use Rattle.std.proofs.Math.Option as option
+use Rattle.std.specs.Prelude.{ℕ, ◌+◌, ◌-◌, ◌<◌, ◌≤◌, ◌≡◌, true, false, List, length, get_or, Option, Some, None, Ok}
 use Rattle.base.specs.Refusal.{peek_too_far, queue_full, bad_state, bad_record}
 use Rattle.layout.specs.Layout.{room_in, row_in, fits_in, shown_in}
 use Rattle.layout.specs.declared.Layout.{Layout}
@@ -12,15 +10,11 @@ use Rattle.reading.specs.declared.Scanned.{Scanned}
 use Rattle.reading.specs.declared.Scanned.TheVariants as scanned
 use Rattle.cursor.specs.Cursor.{queue_most, start_cursor, ahead}
 use Rattle.lookahead.specs.Next as ofNext
-use Rattle.lookahead.specs.Next.{next_of}
+use Rattle.lookahead.specs.Next.{next_of, Given, handed}
 use Rattle.lookahead.specs.Peek as ofPeek
-use Rattle.lookahead.specs.Peek.{peek_of}
+use Rattle.lookahead.specs.Peek.{peek_of, Peeked, looked}
 use Rattle.cursor.specs.declared.Status.TheVariants.{End, Stuck}
 use Rattle.cursor.specs.declared.Cursor.{Cursor}
-use Rattle.lookahead.specs.declared.Given.{Given}
-use Rattle.lookahead.specs.declared.Given.TheVariants as given
-use Rattle.lookahead.specs.declared.Peeked.{Peeked}
-use Rattle.lookahead.specs.declared.Peeked.TheVariants as peeked
 use Rattle.queue.specs.Queue.{KotoLexer, Stream, new_lexer, underflows}
 use Rattle.queue.specs.Calls.{Call, next, peek, Outcome, call, after_calls, tokens_of, Unrefused, nexts, rust_after, rust_tokens}
 use Rattle.promises.specs.Said.{Said, says}
@@ -56,19 +50,19 @@ handed_on c taken = record { taken = taken; queued = c.queued - 1; count = c.cou
 -- the cases shut each other out, and leave nothing out
 pub record NextPromise (layout : Layout) (list : List ℕ) (c : Cursor) (r : Given) : Type 0 where
   pub unfit : Unfit layout list c → given_says r ≡ says bad_state 0
-  pub nothing_left : (Unfit layout list c → ⊥) → c.taken ≡ c.count → r ≡ given.Nothing
+  pub nothing_left : (Unfit layout list c → ⊥) → c.taken ≡ c.count → r ≡ Ok None
   pub bad_record_lem :
       (Unfit layout list c → ⊥) → c.taken < c.count → fits_in layout list c.count c.taken ≡ false → given_says r ≡ says bad_record c.taken
   pub at_end :
       (Unfit layout list c → ⊥) → c.status ≡ End → c.taken < c.count → fits_in layout list c.count c.taken ≡ true
-      → r ≡ given.Token (row_in layout list c.taken) (handed_on c (c.taken + 1))
+      → r ≡ handed (row_in layout list c.taken) (handed_on c (c.taken + 1))
   pub at_stuck :
       (Unfit layout list c → ⊥) → c.status ≡ Stuck → c.taken + 1 < c.count → fits_in layout list c.count c.taken ≡ true
-      → r ≡ given.Token (row_in layout list c.taken) (handed_on c (c.taken + 1))
+      → r ≡ handed (row_in layout list c.taken) (handed_on c (c.taken + 1))
   -- the last record is handed out again and again
   pub at_last :
       (Unfit layout list c → ⊥) → c.status ≡ Stuck → c.taken + 1 ≡ c.count → fits_in layout list c.count c.taken ≡ true
-      → r ≡ given.Token (row_in layout list c.taken) (handed_on c c.taken)
+      → r ≡ handed (row_in layout list c.taken) (handed_on c c.taken)
 
 -- ---- `peek`
 
@@ -92,13 +86,13 @@ pub record PeekPromise (layout : Layout) (list : List ℕ) (c : Cursor) (n : ℕ
   pub unfit : Unfit layout list c → peeked_says r ≡ says bad_state 0
   pub too_far : (Unfit layout list c → ⊥) → c.queued + 1 < n → peeked_says r ≡ says peek_too_far 0
   pub full : (Unfit layout list c → ⊥) → n ≤ c.queued → More c → c.queued ≡ queue_most → peeked_says r ≡ says queue_full 0
-  pub nothing : (Unfit layout list c → ⊥) → (d : Cursor) → Queues c n d → d.queued ≤ n → r ≡ peeked.Nothing d
+  pub nothing : (Unfit layout list c → ⊥) → (d : Cursor) → Queues c n d → d.queued ≤ n → r ≡ looked None d
   pub bad_record_lem :
       (Unfit layout list c → ⊥) → (d : Cursor) → Queues c n d → n < d.queued → fits_in layout list c.count (ahead c n) ≡ false
       → peeked_says r ≡ says bad_record (ahead c n)
   pub shown :
       (Unfit layout list c → ⊥) → (d : Cursor) → Queues c n d → n < d.queued → fits_in layout list c.count (ahead c n) ≡ true
-      → r ≡ peeked.Token (row_in layout list (ahead c n)) d
+      → r ≡ looked (Some (row_in layout list (ahead c n))) d
   -- which record that is: the one n places on, and at Stuck no other than the last past it
   pub place_at_end : c.status ≡ End → c.taken + n ≤ c.count → ahead c n ≡ c.taken + n
   pub place_at_stuck : c.status ≡ Stuck → c.taken + n < c.count → ahead c n ≡ c.taken + n
@@ -148,13 +142,13 @@ pub record HandsOut (layout : Layout) (list : List ℕ) (rows : List Row) (strea
   -- `next` hands out the rows in order, whatever was looked at between
   pub in_order :
       (calls : List Call) (d : Row) → nexts calls < length rows
-      → (call_on layout list c.count (after_on layout list c.count c calls) next).token ≡ some (get_or rows (nexts calls) d)
+      → (call_on layout list c.count (after_on layout list c.count c calls) next).token ≡ Some (get_or rows (nexts calls) d)
   -- and then nothing at End, and the last for ever at Stuck
   pub ended :
-      c.status ≡ End → (calls : List Call) → length rows ≤ nexts calls → (call_on layout list c.count (after_on layout list c.count c calls) next).token ≡ option.none
+      c.status ≡ End → (calls : List Call) → length rows ≤ nexts calls → (call_on layout list c.count (after_on layout list c.count c calls) next).token ≡ None
   pub endless :
       c.status ≡ Stuck → (calls : List Call) (d : Row) → length rows ≤ nexts calls
-      → (call_on layout list c.count (after_on layout list c.count c calls) next).token ≡ some (get_or rows (length rows - 1) d)
+      → (call_on layout list c.count (after_on layout list c.count c calls) next).token ≡ Some (get_or rows (length rows - 1) d)
   -- calls of which none is refused answer what the Rust's answer
   pub as_in_rust : (calls : List Call) → UnrefusedOn layout list c.count c calls → rust_tokens stream new_lexer calls ≡ tokens_on layout list c.count c calls
   -- after such calls 6 is given exactly where the Rust's subtraction underflows, and 7 only where its queue is full

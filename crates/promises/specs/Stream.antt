@@ -1,8 +1,7 @@
 -- The promise that joins the records of a scan to koto's lexer: the crate `rust` has lexer.rs's `TokenLexer` as the Rust has it, and its
 -- stream, which is what its calls answer one after the other.
 -- Assumes nothing.
-use Rattle.std.specs.Prelude.{ℕ, suc, ◌≤◌, ◌≡◌, List, length}
-use Rattle.std.proofs.Math.Option.{some}
+use Rattle.std.specs.Prelude.{ℕ, suc, ◌≤◌, ◌≡◌, List, length, Some}
 use Rattle.property.specs.Table.{properties_at}
 use Rattle.rows.specs.declared.Row.{Row}
 use Rattle.reading.specs.Reading.{Reading, reading}
@@ -32,9 +31,9 @@ rust_depth source table edition n = length (state_at (properties_at table) editi
 
 -- document 02, C-4: each record has the depth that the Rust has before its token; so the first has 0, and neighbours differ by at most one
 pub record Depths (source table : List ℕ) (edition : ℕ) (rows : List Row) : Type 0 where
-  pub before : (i : ℕ) (row : Row) → get rows i ≡ some row → row.depth ≡ rust_depth source table edition i
-  pub first : (row : Row) → get rows 0 ≡ some row → row.depth ≡ 0
-  pub near : (i : ℕ) (row next : Row) → get rows i ≡ some row → get rows (suc i) ≡ some next
+  pub before : (i : ℕ) (row : Row) → get rows i ≡ Some row → row.depth ≡ rust_depth source table edition i
+  pub first : (row : Row) → get rows 0 ≡ Some row → row.depth ≡ 0
+  pub near : (i : ℕ) (row next : Row) → get rows i ≡ Some row → get rows (suc i) ≡ Some next
       → (next.depth ≤ suc row.depth) × (row.depth ≤ suc next.depth)
 
 -- what holds of every source that no refusal meets before the work

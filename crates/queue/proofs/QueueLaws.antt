@@ -7,31 +7,25 @@
 -- Assumes nothing.
 use Prim.Native.Nat.{ℕ, zero, suc, ◌+◌, ◌-◌, ◌≤◌, ◌<◌}
 use native.Mathlib.Omega.{arith}
-use Rattle.std.specs.Prelude.{◌≡◌, true, false}
+use Rattle.std.specs.Prelude.{◌≡◌, true, false, Option, Some, None, Ok}
 use Rattle.std.proofs.Math.Path.{refl, sym, ap, subst}
 use Rattle.std.proofs.Common.{◌∙◌}
 use mathlib.Core.List.{List, [], ◌∷◌}
-use Rattle.std.proofs.Math.Option.{Option, some}
-use Rattle.std.proofs.Math.Option as option
 use Rattle.std.proofs.Math.ListN.{length, length-append}
 use borrow.Author.Tests.{ltb-true, ltb-false, leb-true, lt-ltb, le-ltb, le-leb}
 use Rattle.base.specs.PickLaws.{by_lt, split_lt}
 use Rattle.base.specs.Refusal.{none, peek_too_far, queue_full}
 use Rattle.rows.specs.declared.Row.{Row}
-use Rattle.rows.specs.declared.RowAt.{RowAt}
 use Rattle.cursor.specs.Cursor.{queue_most, fit_by, is_fit, start_cursor, record_at, ahead, moved_on, has_more, must_queue, queued_one, there_of, there, queued_for, queueing}
 use Rattle.cursor.specs.CursorLaws.{record_at_lem, last_most, held_plus, same_plus, moved_fits, queued_fits, queued_there, must_both, fits_of, there_end, queued_for_lem}
-use Rattle.lookahead.specs.Next.{next_of}
+use Rattle.lookahead.specs.Next.{next_of, Given, handed}
 use Rattle.lookahead.specs.Peek as ofPeek
-use Rattle.lookahead.specs.Peek.{queued_at, peek_of}
+use Rattle.lookahead.specs.Peek.{queued_at, peek_of, Peeked}
 use Rattle.lookahead.specs.LookAhead.{look_ahead_of}
 use Rattle.lookahead.specs.AnswerLaws.{peek_far}
 use Rattle.cursor.specs.declared.Status.{Status}
 use Rattle.cursor.specs.declared.Status.TheVariants.{End, Stuck}
 use Rattle.cursor.specs.declared.Cursor.{Cursor}
-use Rattle.lookahead.specs.declared.Given.{Given}
-use Rattle.lookahead.specs.declared.Given.TheVariants as given
-use Rattle.lookahead.specs.declared.Peeked.{Peeked}
 use Rattle.queue.specs.Queue.{KotoLexer, new_lexer, Stream, get, rust_next}
 use Rattle.queue.specs.Queue.{max_of, tokens_to_add, underflows, push_back, add_tokens, rust_peek, lacking, comment_look}
 use Rattle.queue.specs.Calls.{Call, next, peek, look_ahead, of_given, of_peeked, call, after_calls, tokens_of, Unrefused, Shows}
@@ -55,7 +49,7 @@ module _ (stream : Stream) (k : KotoLexer) where
   pop_empty e f = rw (e, f) (search refl)
 
   pop_front_lem : {t : Row} {queue : List Row} → k.token_queue ≡ t ∷ queue
-      → rust_next stream k ≡ record { token = some t; after = record { lexer = k.lexer; token_queue = queue } }
+      → rust_next stream k ≡ record { token = Some t; after = record { lexer = k.lexer; token_queue = queue } }
   unfolding rust_next
   pop_front_lem e = rw e
 
@@ -139,26 +133,26 @@ module _ (room : ℕ) (stream : Stream) (rows : List Row) (status : Status) (v :
       }
 
   -- by what the queue is
-  give_agrees : (row : Row) → get rows (ahead c 0) ≡ some row → (queue : List Row) → k.token_queue ≡ queue
-      → Agrees room rows status (of_given c (given.Token row (moved_on c))) (rust_next stream k)
+  give_agrees : (row : Row) → get rows (ahead c 0) ≡ Some row → (queue : List Row) → k.token_queue ≡ queue
+      → Agrees room rows status (of_given c (handed row (moved_on c))) (rust_next stream k)
   unfolding get
   give_agrees row s [] e =
       let z : c.queued ≡ 0 = sym m.long ∙ ap length e in
-      let t : stream k.lexer ≡ some row = lexer_token ∙ ap (λ (i : ℕ). get rows (ahead c i)) z ∙ s in
-      subst (Agrees room rows status (of_given c (given.Token row (moved_on c)))) (sym (pop_empty stream k e t))
+      let t : stream k.lexer ≡ Some row = lexer_token ∙ ap (λ (i : ℕ). get rows (ahead c i)) z ∙ s in
+      subst (Agrees room rows status (of_given c (handed row (moved_on c)))) (sym (pop_empty stream k e t))
       (record { token = refl; mirrors = moved_lexer z })
   give_agrees row s (t ∷ queue) e =
       let n : suc (length queue) ≡ c.queued = sym (ap length e) ∙ m.long in
-      subst (Agrees room rows status (of_given c (given.Token row (moved_on c)))) (sym (pop_front_lem stream k e))
+      subst (Agrees room rows status (of_given c (handed row (moved_on c)))) (sym (pop_front_lem stream k e))
       (record { token = ap (λ (l : List Row). get l 0) (sym e) ∙ m.queue 0 (omega arith) ∙ s; mirrors = moved_queue t queue e })
 
   none_agrees : c.count ≤ ahead c 0 → (queue : List Row) → k.token_queue ≡ queue
-      → Agrees room rows status (of_given c given.Nothing) (rust_next stream k)
+      → Agrees room rows status (of_given c (Ok None)) (rust_next stream k)
   none_agrees h [] e =
       let z : c.queued ≡ 0 = sym m.long ∙ ap length e in
-      let t : stream k.lexer ≡ option.none =
+      let t : stream k.lexer ≡ None =
       lexer_token ∙ ap (λ (i : ℕ). get rows (ahead c i)) z ∙ get_past rows (ahead c 0) (omega (arith, m.counted)) in
-      subst (Agrees room rows status (of_given c given.Nothing)) (sym (pop_empty stream k e t)) (record { token = refl; mirrors = called_past (subst (λ (i : ℕ). c.count ≤ ahead c i) (sym z) h) })
+      subst (Agrees room rows status (of_given c (Ok None))) (sym (pop_empty stream k e t)) (record { token = refl; mirrors = called_past (subst (λ (i : ℕ). c.count ≤ ahead c i) (sym z) h) })
   none_agrees h (t ∷ queue) e =
       let n : suc (length queue) ≡ c.queued = sym (ap length e) ∙ m.long in
       absurd (omega (arith, queued_there room c m.fit 0 (omega arith)))
@@ -166,7 +160,7 @@ module _ (room : ℕ) (stream : Stream) (rows : List Row) (status : Status) (v :
   -- ---- a token is queued
 
   -- one more
-  pushed : has_more c ≡ true → (c.queued ≡ queue_most → ⊥) → (t : Row) → get rows (ahead c c.queued) ≡ some t
+  pushed : has_more c ≡ true → (c.queued ≡ queue_most → ⊥) → (t : Row) → get rows (ahead c c.queued) ≡ Some t
       → Mirrors room rows status (queued_one c) (push_back (called k) t)
   unfolding queued_one
   pushed h n t e =
@@ -183,7 +177,7 @@ module _ (room : ℕ) (stream : Stream) (rows : List Row) (status : Status) (v :
         position = same_plus c.count c.status k.lexer (c.taken + c.queued) 1 m.position ∙ ap here p;
       }
 
-  one_added : (n : ℕ) → n ≤ c.queued → (t : Row) → get rows (ahead c c.queued) ≡ some t
+  one_added : (n : ℕ) → n ≤ c.queued → (t : Row) → get rows (ahead c c.queued) ≡ Some t
       → add_tokens stream (tokens_to_add n (length k.token_queue)) k ≡ push_back (called k) t
   unfolding add_tokens
   one_added n le t e =
@@ -266,12 +260,12 @@ fill_look room c n f = go c.status refl (fits_of room c f).by_status_lem
     go Stuck e b = omega (arith, queued_for_lem c n e)
 
 module _ (room : ℕ) (stream : Stream) (rows : List Row) (status : Status) (v : Streams stream rows status) where
-  adds_one : (c : Cursor) (k : KotoLexer) → Mirrors room rows status c k → (m : ℕ) (t : Row) → get rows (ahead c c.queued) ≡ some t
+  adds_one : (c : Cursor) (k : KotoLexer) → Mirrors room rows status c k → (m : ℕ) (t : Row) → get rows (ahead c c.queued) ≡ Some t
       → add_tokens stream (suc m) k ≡ add_tokens stream m (push_back (called k) t)
   unfolding add_tokens
   adds_one c k w m t e = rw (lexer_token room stream rows status v c k w ∙ e)
 
-  adds_none : (c : Cursor) (k : KotoLexer) → Mirrors room rows status c k → (m : ℕ) → get rows (ahead c c.queued) ≡ option.none
+  adds_none : (c : Cursor) (k : KotoLexer) → Mirrors room rows status c k → (m : ℕ) → get rows (ahead c c.queued) ≡ None
       → add_tokens stream (suc m) k ≡ called k
   unfolding add_tokens
   adds_none c k w m e = rw (lexer_token room stream rows status v c k w ∙ e)
@@ -311,7 +305,7 @@ max_most n len most h k = by_lt (λ (x : ℕ). x ≤ most) len n (λ _. h) (λ _
 
 -- ---- over a list that shows the rows
 
-module _ (room : ℕ) (shown : ℕ → RowAt) (stream : Stream) (rows : List Row) (status : Status) (w : Shows shown rows)
+module _ (room : ℕ) (shown : ℕ → Option Row) (stream : Stream) (rows : List Row) (status : Status) (w : Shows shown rows)
     (v : Streams stream rows status) where
   -- queued token n, of a cursor and a queue
   queued_agrees : (c : Cursor) (k : KotoLexer) → Mirrors room rows status c k → (old : Cursor) (n : ℕ)
@@ -340,7 +334,7 @@ module _ (room : ℕ) (shown : ℕ → RowAt) (stream : Stream) (rows : List Row
         subst (Agrees room rows status (of_peeked c (queued_at shown d n))) (sym (rust_peek_is stream k n e)) (queued_agrees d after x c n)
 
     -- the row that is queued next
-    next_row : has_more c ≡ true → (row : Row) × (get rows (ahead c c.queued) ≡ some row)
+    next_row : has_more c ≡ true → (row : Row) × (get rows (ahead c c.queued) ≡ Some row)
     next_row h = get_some rows (ahead c c.queued) (omega (arith, ltb-true (ahead c c.queued) c.count h, m.counted))
 
     pub peek_agrees : (n : ℕ) → PeekAgrees n (peek_of room shown c n)

@@ -1,26 +1,18 @@
 -- Sequences of `next`, `peek` and `look_ahead`, here and over the Rust's queue, and when a cursor stands for the Rust's lexer. As a cursor does, they go over a
 -- list that has room for so many records and shows these (`room`, `shown`).
 -- Assumes nothing.
-use Rattle.std.specs.Prelude.{ℕ, ◌+◌, ◌<◌, ◌≡◌, true, List, [], ◌∷◌, length}
-use Rattle.std.proofs.Math.Option.{Option, some}
-use Rattle.std.proofs.Math.Option as option
+use Rattle.std.specs.Prelude.{ℕ, ◌+◌, ◌<◌, ◌≡◌, true, List, [], ◌∷◌, length, Option, Some, None, Ok, Err}
 use Rattle.base.specs.Refusal.{none}
 use Rattle.rows.specs.declared.Row.{Row}
-use Rattle.rows.specs.declared.RowAt.{RowAt}
-use Rattle.rows.specs.declared.RowAt.TheVariants.{Fit}
 use Rattle.cursor.specs.Cursor.{is_fit, record_at, ahead}
 use Rattle.lookahead.specs.Next as ofNext
-use Rattle.lookahead.specs.Next.{next_of}
+use Rattle.lookahead.specs.Next.{next_of, Given, handed}
 use Rattle.lookahead.specs.Peek as ofPeek
-use Rattle.lookahead.specs.Peek.{peek_of}
+use Rattle.lookahead.specs.Peek.{peek_of, Peeked}
 use Rattle.lookahead.specs.LookAhead.{look_ahead_of}
 use Rattle.queue.specs.Queue.{KotoLexer, Answered, Stream, get, rust_next, rust_peek, comment_look}
 use Rattle.cursor.specs.declared.Status.{Status}
 use Rattle.cursor.specs.declared.Cursor.{Cursor}
-use Rattle.lookahead.specs.declared.Given.{Given}
-use Rattle.lookahead.specs.declared.Given.TheVariants as given
-use Rattle.lookahead.specs.declared.Peeked.{Peeked}
-use Rattle.lookahead.specs.declared.Peeked.TheVariants as peeked
 
 -- one of the calls
 pub data Call : Type 0 where
@@ -38,35 +30,25 @@ pub record Outcome : Type 0 where
 
 -- the token that `next` hands out
 abbrev pub given_token : Given → Option Row
-given_token (given.Token row after) = some row
-given_token given.Nothing = option.none
-given_token given.BadState = option.none
-given_token (given.BadRecord i) = option.none
+given_token (Ok (Some handed)) = Some handed.row
+given_token (Ok None) = None
+given_token (Err e) = None
 
 -- the cursor after it: the old one, where none is handed back
 abbrev pub given_cursor : Cursor → Given → Cursor
-given_cursor c (given.Token row after) = after
-given_cursor c given.Nothing = c
-given_cursor c given.BadState = c
-given_cursor c (given.BadRecord i) = c
+given_cursor c (Ok (Some handed)) = handed.cursor
+given_cursor c (Ok None) = c
+given_cursor c (Err e) = c
 
 -- the token that `peek` or `look_ahead` shows
 abbrev pub peeked_token : Peeked → Option Row
-peeked_token (peeked.Token row after) = some row
-peeked_token (peeked.Nothing after) = option.none
-peeked_token peeked.BadState = option.none
-peeked_token peeked.PeekTooFar = option.none
-peeked_token peeked.QueueFull = option.none
-peeked_token (peeked.BadRecord i) = option.none
+peeked_token (Ok look) = look.row
+peeked_token (Err e) = None
 
 -- the cursor after it: the old one, where none is handed back
 abbrev pub peeked_cursor : Cursor → Peeked → Cursor
-peeked_cursor c (peeked.Token row after) = after
-peeked_cursor c (peeked.Nothing after) = after
-peeked_cursor c peeked.BadState = c
-peeked_cursor c peeked.PeekTooFar = c
-peeked_cursor c peeked.QueueFull = c
-peeked_cursor c (peeked.BadRecord i) = c
+peeked_cursor c (Ok look) = look.cursor
+peeked_cursor c (Err e) = c
 
 -- an answer of `next`
 abbrev pub of_given : Cursor → Given → Outcome
@@ -77,23 +59,23 @@ abbrev pub of_peeked : Cursor → Peeked → Outcome
 of_peeked c r = record { number = ofPeek.number_of r; token = peeked_token r; cursor = peeked_cursor c r }
 
 -- a call, from a cursor
-abbrev pub call : ℕ → (ℕ → RowAt) → Cursor → Call → Outcome
+abbrev pub call : ℕ → (ℕ → Option Row) → Cursor → Call → Outcome
 call room shown c next = of_given c (next_of room shown c)
 call room shown c (peek n) = of_peeked c (peek_of room shown c n)
 call room shown c (look_ahead n) = of_peeked c (look_ahead_of room shown c n)
 
 -- the cursor after some calls
-unfoldable pub after_calls : ℕ → (ℕ → RowAt) → Cursor → List Call → Cursor
+unfoldable pub after_calls : ℕ → (ℕ → Option Row) → Cursor → List Call → Cursor
 after_calls room shown c [] = c
 after_calls room shown c (x ∷ calls) = after_calls room shown (call room shown c x).cursor calls
 
 -- their tokens, one for each call
-unfoldable pub tokens_of : ℕ → (ℕ → RowAt) → Cursor → List Call → List (Option Row)
+unfoldable pub tokens_of : ℕ → (ℕ → Option Row) → Cursor → List Call → List (Option Row)
 tokens_of room shown c [] = []
 tokens_of room shown c (x ∷ calls) = (call room shown c x).token ∷ tokens_of room shown (call room shown c x).cursor calls
 
 -- none of them is refused
-unfoldable pub Unrefused : ℕ → (ℕ → RowAt) → Cursor → List Call → Type 0
+unfoldable pub Unrefused : ℕ → (ℕ → Option Row) → Cursor → List Call → Type 0
 Unrefused room shown c [] = Unit {0}
 Unrefused room shown c (x ∷ calls) = ((call room shown c x).number ≡ none) × Unrefused room shown (call room shown c x).cursor calls
 
@@ -109,8 +91,8 @@ nexts [] = 0
 nexts (x ∷ calls) = is_next x + nexts calls
 
 -- each of these rows is shown at its index
-abbrev pub Shows : (ℕ → RowAt) → List Row → Type 0
-Shows shown rows = (i : ℕ) (row : Row) → get rows i ≡ some row → shown i ≡ Fit row
+abbrev pub Shows : (ℕ → Option Row) → List Row → Type 0
+Shows shown rows = (i : ℕ) (row : Row) → get rows i ≡ Some row → shown i ≡ Some row
 
 -- where a cursor stands after `next` was called i times
 pub record Stands (room count : ℕ) (status : Status) (i : ℕ) (c : Cursor) : Type 0 where

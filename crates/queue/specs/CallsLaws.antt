@@ -5,25 +5,20 @@
 --     never_refused               no call gets 8 or 9
 --     next_token_lem                  `next` hands out the token of its place
 -- Assumes nothing.
-use Rattle.std.specs.Prelude.{ℕ, ◌+◌, ◌≤◌, ◌≡◌, true, length}
+use Rattle.std.specs.Prelude.{ℕ, ◌+◌, ◌≤◌, ◌≡◌, true, length, Option, Some, None}
 use Rattle.std.proofs.Common.{add-zero, sym, ap, ◌∙◌}
 use native.Mathlib.Omega.{arith}
 use Rattle.std.proofs.Math.Path.{refl, subst}
 use mathlib.Core.List.{List, [], ◌∷◌}
-use Rattle.std.proofs.Math.Option.{Option, some}
-use Rattle.std.proofs.Math.Option as option
 use Rattle.base.specs.Refusal.{none, peek_too_far, queue_full, bad_state, bad_record}
 use Rattle.rows.specs.declared.Row.{Row}
-use Rattle.rows.specs.declared.RowAt.{RowAt}
 use Rattle.cursor.specs.Cursor.{is_fit, start_cursor, record_at, ahead, moved_on, queued_one, queued_for, queueing}
 use Rattle.cursor.specs.CursorLaws.{record_at_lem, held_plus, last_most, taken_held, moved_fits, queued_fits, queueing_fits, must_both}
-use Rattle.lookahead.specs.Next.{next_of}
-use Rattle.lookahead.specs.Peek.{queued_at, peek_of}
+use Rattle.lookahead.specs.Next.{next_of, Given}
+use Rattle.lookahead.specs.Peek.{queued_at, peek_of, Peeked}
 use Rattle.lookahead.specs.LookAhead.{look_ahead_of}
 use Rattle.cursor.specs.declared.Status.{Status}
 use Rattle.cursor.specs.declared.Cursor.{Cursor}
-use Rattle.lookahead.specs.declared.Given.{Given}
-use Rattle.lookahead.specs.declared.Peeked.{Peeked}
 use Rattle.queue.specs.Queue.{get}
 use Rattle.queue.specs.Calls.{Call, next, peek, look_ahead, Outcome, of_given, of_peeked, call, after_calls, is_next, nexts, Shows, Stands}
 use Rattle.queue.specs.StreamLaws.{get_past, by_next, by_queued, by_peek, by_look}
@@ -37,7 +32,7 @@ pub record Leaves (room : ℕ) (c : Cursor) (m : ℕ) (o : Outcome) : Type 0 whe
   pub ends : o.cursor.status ≡ c.status
   pub place : o.cursor.taken ≡ record_at c.count c.status (c.taken + m)
 
-module _ (room : ℕ) (shown : ℕ → RowAt) (rows : List Row) (w : Shows shown rows) where
+module _ (room : ℕ) (shown : ℕ → Option Row) (rows : List Row) (w : Shows shown rows) where
   module _ (c : Cursor) (f : is_fit room c ≡ true) (counted : c.count ≡ length rows) where
     -- a cursor that does not move stands where it stood
     stays : record_at c.count c.status (c.taken + 0) ≡ c.taken
@@ -87,16 +82,16 @@ module _ (room : ℕ) (shown : ℕ → RowAt) (rows : List Row) (w : Shows shown
       queued_leaves : (n : ℕ) → Leaves room c 0 (of_peeked c (queued_at shown d n))
       queued_leaves n =
           by_queued room shown rows w d g (a ∙ counted) (λ (r : Peeked). Leaves room c 0 (of_peeked c r)) n
-          (λ row h t. same_place none (some row) (λ z. omega arith) (λ z. omega arith))
-          (λ h. same_place none option.none (λ z. omega arith) (λ z. omega arith))
+          (λ row h t. same_place none (Some row) (λ z. omega arith) (λ z. omega arith))
+          (λ h. same_place none None (λ z. omega arith) (λ z. omega arith))
 
     -- refusals 6 and 7 leave the cursor
     peek_leaves : (n : ℕ) → Leaves room c 0 (of_peeked c (peek_of room shown c n))
     unfolding queued_one
     peek_leaves n =
         by_peek room shown c f (λ (r : Peeked). Leaves room c 0 (of_peeked c r)) n
-        (λ far. same_place c f refl refl refl peek_too_far option.none (λ z. omega arith) (λ z. omega arith))
-        (λ m q. same_place c f refl refl refl queue_full option.none (λ z. omega arith) (λ z. omega arith))
+        (λ far. same_place c f refl refl refl peek_too_far None (λ z. omega arith) (λ z. omega arith))
+        (λ m q. same_place c f refl refl refl queue_full None (λ z. omega arith) (λ z. omega arith))
         (λ m q. queued_leaves (queued_one c) (queued_fits room c f (must_both c n m).1 q) refl refl refl n)
         (λ m h. queued_leaves c f refl refl refl n)
 
@@ -104,7 +99,7 @@ module _ (room : ℕ) (shown : ℕ → RowAt) (rows : List Row) (w : Shows shown
     look_leaves : (n : ℕ) → Leaves room c 0 (of_peeked c (look_ahead_of room shown c n))
     look_leaves n =
         by_look room shown c f (λ (r : Peeked). Leaves room c 0 (of_peeked c r)) n
-        (λ h. same_place c f refl refl refl queue_full option.none (λ z. omega arith) (λ z. omega arith))
+        (λ h. same_place c f refl refl refl queue_full None (λ z. omega arith) (λ z. omega arith))
         (λ h. queued_leaves (queueing c (queued_for c n)) (queueing_fits room c n f h) refl refl refl n)
 
     pub call_leaves : (x : Call) → Leaves room c (is_next x) (call room shown c x)
@@ -119,7 +114,7 @@ pub start_stands : (room count : ℕ) (status : Status) → is_fit room (start_c
 start_stands room count status f =
     record { fit = f; counted = refl; ends = refl; place = sym (taken_held room (start_cursor count status) f) }
 
-module _ (room : ℕ) (shown : ℕ → RowAt) (rows : List Row) (status : Status) (w : Shows shown rows) where
+module _ (room : ℕ) (shown : ℕ → Option Row) (rows : List Row) (status : Status) (w : Shows shown rows) where
   pub call_stands : (i : ℕ) (c : Cursor) → Stands room (length rows) status i c → (x : Call)
       → Stands room (length rows) status (i + is_next x) (call room shown c x).cursor
   call_stands i c s x =

@@ -8,29 +8,25 @@ use Prim.Native.Nat.{ℕ, zero, suc, ◌+◌, ◌-◌, ◌≤◌, ◌<◌}
 use native.Mathlib.Omega.{arith}
 use Rattle.std.proofs.Math.Path.{◌≡◌, refl, ap, subst}
 use Rattle.std.proofs.Common.{sym, ◌∙◌}
-use Rattle.std.specs.Prelude.{Bool, List, replicate}
+use Rattle.std.specs.Prelude.{Bool, List, replicate, Option, Some, None, Result, Ok, Err}
 use Rattle.std.proofs.Math.Bool.{true, false}
 use Rattle.std.proofs.Math.Dec.{ltb}
 use borrow.Author.Tests.{ltb-false, lt-ltb}
 use Rattle.base.specs.PickLaws.{split_lt}
 use Rattle.base.specs.Refusal.{none}
-use Rattle.rows.specs.declared.RowAt.{RowAt}
-use Rattle.rows.specs.declared.RowAt.TheVariants.{Fit, Unfit}
+use Rattle.rows.specs.declared.Row.{Row}
 use Rattle.cursor.specs.Cursor.{queue_most, is_fit, record_at, ahead, moved_on, queued_for, queueing}
 use Rattle.cursor.specs.CursorLaws.{record_at_lem, held_plus, last_most, moved_fits, queueing_fits}
 use Rattle.lookahead.specs.Seen.{seen_at}
-use Rattle.lookahead.specs.Next.{given_by, next_of}
+use Rattle.lookahead.specs.Next.{given_by, next_of, Given, handed}
 use Rattle.lookahead.specs.Peek as ofPeek
 use Rattle.lookahead.specs.Peek.{shown_by}
 use Rattle.lookahead.specs.LookAhead.{look_ahead_of}
+use Rattle.lookahead.specs.declared.NextError.TheVariants as given
 use Rattle.cursor.specs.declared.Cursor.{Cursor}
-use Rattle.lookahead.specs.declared.Seen.{Seen}
-use Rattle.lookahead.specs.declared.Seen.TheVariants as seen
-use Rattle.lookahead.specs.declared.Given.{Given}
-use Rattle.lookahead.specs.declared.Given.TheVariants as given
 use Rattle.queue.specs.Calls.{Call, next, Outcome, given_token, peeked_token, peeked_cursor, of_given, call, after_calls, Unrefused}
 
-module _ (room : ℕ) (shown : ℕ → RowAt) where
+module _ (room : ℕ) (shown : ℕ → Option Row) where
   -- what `next` answers a cursor that is fit
   next_seen : (c : Cursor) → is_fit room c ≡ true → next_of room shown c ≡ given_by c (seen_at shown c 0)
   unfolding next_of
@@ -65,25 +61,25 @@ module _ (room : ℕ) (shown : ℕ → RowAt) where
       Alike (call room shown (after_calls room shown (queueing c q) (nexts m)) next) (call room shown (after_calls room shown c (nexts m)) next)
 
   module _ (c : Cursor) (q : ℕ) (f : is_fit room c ≡ true) (g : is_fit room (queueing c q) ≡ true) where
-    told : {s : Seen} → seen_at shown c 0 ≡ s → next_of room shown c ≡ given_by c s
+    told : {s : Result (Option Row) ℕ} → seen_at shown c 0 ≡ s → next_of room shown c ≡ given_by c s
     told e = next_seen c f ∙ ap (given_by c) e
 
-    told_queueing : {s : Seen} → seen_at shown c 0 ≡ s → next_of room shown (queueing c q) ≡ given_by (queueing c q) s
+    told_queueing : {s : Result (Option Row) ℕ} → seen_at shown c 0 ≡ s → next_of room shown (queueing c q) ≡ given_by (queueing c q) s
     unfolding seen_at
     told_queueing e = next_seen (queueing c q) g ∙ ap (given_by (queueing c q)) e
 
-    first_same : (s : Seen) → seen_at shown c 0 ≡ s → Same 0 c q
+    first_same : (s : Result (Option Row) ℕ) → seen_at shown c 0 ≡ s → Same 0 c q
     unfolding after_calls
-    first_same (seen.Token row) e = rw (told e, told_queueing e) (record { number = refl; token = refl })
-    first_same seen.Nothing e = rw (told e, told_queueing e) (record { number = refl; token = refl })
-    first_same (seen.BadRecord i) e = rw (told e, told_queueing e) (record { number = refl; token = refl })
+    first_same (Ok (Some row)) e = rw (told e, told_queueing e) (record { number = refl; token = refl })
+    first_same (Ok None) e = rw (told e, told_queueing e) (record { number = refl; token = refl })
+    first_same (Err i) e = rw (told e, told_queueing e) (record { number = refl; token = refl })
 
     -- the first call moves both cursors on, or leaves both
-    then_same : (m : ℕ) (s : Seen) → seen_at shown c 0 ≡ s → Same m (moved_on c) (q - 1) → Same m c q → Same (suc m) c q
+    then_same : (m : ℕ) (s : Result (Option Row) ℕ) → seen_at shown c 0 ≡ s → Same m (moved_on c) (q - 1) → Same m c q → Same (suc m) c q
     unfolding moved_on
-    then_same m (seen.Token row) e on as_is = alike_by (after_next m (queueing c q) (told_queueing e)) (after_next m c (told e)) on
-    then_same m seen.Nothing e on as_is = alike_by (after_next m (queueing c q) (told_queueing e)) (after_next m c (told e)) as_is
-    then_same m (seen.BadRecord i) e on as_is = alike_by (after_next m (queueing c q) (told_queueing e)) (after_next m c (told e)) as_is
+    then_same m (Ok (Some row)) e on as_is = alike_by (after_next m (queueing c q) (told_queueing e)) (after_next m c (told e)) on
+    then_same m (Ok None) e on as_is = alike_by (after_next m (queueing c q) (told_queueing e)) (after_next m c (told e)) as_is
+    then_same m (Err i) e on as_is = alike_by (after_next m (queueing c q) (told_queueing e)) (after_next m c (told e)) as_is
 
   pub same_nexts : (m : ℕ) (c : Cursor) (q : ℕ) → is_fit room c ≡ true → is_fit room (queueing c q) ≡ true → Same m c q
   unfolding moved_on
@@ -127,13 +123,13 @@ module _ (room : ℕ) (shown : ℕ → RowAt) where
       }
 
   -- nothing is seen only past the last record
-  seen_none : (c : Cursor) → seen_at shown c 0 ≡ seen.Nothing → c.count ≤ ahead c 0
+  seen_none : (c : Cursor) → seen_at shown c 0 ≡ Ok None → c.count ≤ ahead c 0
   unfolding seen_at
   seen_none c e = split_lt (ahead c 0) c.count (λ h. absurd (by_row (shown (ahead c 0)) refl h)) (λ h. h)
     where
-      by_row : (r : RowAt) → shown (ahead c 0) ≡ r → ahead c 0 < c.count → ⊥
-      by_row (Fit row) t h = let k = lt-ltb (ahead c 0) c.count h in let z : ◌≡◌ {A = ℕ} 0 1 = cc in omega arith
-      by_row Unfit t h = let k = lt-ltb (ahead c 0) c.count h in let z : ◌≡◌ {A = ℕ} 0 1 = cc in omega arith
+      by_row : (r : Option Row) → shown (ahead c 0) ≡ r → ahead c 0 < c.count → ⊥
+      by_row (Some row) t h = let k = lt-ltb (ahead c 0) c.count h in let z : ◌≡◌ {A = ℕ} 0 1 = cc in omega arith
+      by_row None t h = let k = lt-ltb (ahead c 0) c.count h in let z : ◌≡◌ {A = ℕ} 0 1 = cc in omega arith
 
   -- of calls of which none is refused
   first_unrefused : (n : ℕ) (c : Cursor) {g : Given} → next_of room shown c ≡ g → Unrefused room shown c (nexts (suc n)) → (of_given c g).number ≡ none
@@ -145,17 +141,17 @@ module _ (room : ℕ) (shown : ℕ → RowAt) where
   unfolding Unrefused
   rest_unrefused n c e u = subst (λ (x : Given). Unrefused room shown (of_given c x).cursor (nexts n)) e u.1
 
-  on_step : (n : ℕ) (c : Cursor) → is_fit room c ≡ true → (s : Seen) → seen_at shown c 0 ≡ s
+  on_step : (n : ℕ) (c : Cursor) → is_fit room c ≡ true → (s : Result (Option Row) ℕ) → seen_at shown c 0 ≡ s
       → ((d : Cursor) → is_fit room d ≡ true → Unrefused room shown d (nexts n) → On n d (after_calls room shown d (nexts n)))
       → Unrefused room shown c (nexts (suc n)) → On (suc n) c (after_calls room shown c (nexts (suc n)))
-  on_step n c f (seen.Token row) e more u =
-      let t : next_of room shown c ≡ given.Token row (moved_on c) = next_seen c f ∙ ap (given_by c) e in
+  on_step n c f (Ok (Some row)) e more u =
+      let t : next_of room shown c ≡ handed row (moved_on c) = next_seen c f ∙ ap (given_by c) e in
       subst (On (suc n) c) (sym (after_next n c t)) (on_token c n _ (more (moved_on c) (moved_fits room c f) (rest_unrefused n c t u)))
-  on_step n c f seen.Nothing e more u =
-      let t : next_of room shown c ≡ given.Nothing = next_seen c f ∙ ap (given_by c) e in
+  on_step n c f (Ok None) e more u =
+      let t : next_of room shown c ≡ Ok None = next_seen c f ∙ ap (given_by c) e in
       subst (On (suc n) c) (sym (after_next n c t)) (on_none c n _ (seen_none c e) (more c f (rest_unrefused n c t u)))
-  on_step n c f (seen.BadRecord i) e more u =
-      let t : next_of room shown c ≡ given.BadRecord i = next_seen c f ∙ ap (given_by c) e in absurd (omega (arith, first_unrefused n c t u))
+  on_step n c f (Err i) e more u =
+      let t : next_of room shown c ≡ Err (given.BadRecord i) = next_seen c f ∙ ap (given_by c) e in absurd (omega (arith, first_unrefused n c t u))
 
   pub ahead_by_nexts : (n : ℕ) (c : Cursor) → is_fit room c ≡ true → Unrefused room shown c (nexts n) → On n c (after_calls room shown c (nexts n))
   unfolding after_calls
@@ -184,10 +180,10 @@ module _ (room : ℕ) (shown : ℕ → RowAt) where
     abbrev after : Cursor
     after = queueing c (queued_for c n)
 
-    by_seen : (s : Seen) → ofPeek.number_of (shown_by after s) ≡ none → peeked_cursor c (shown_by after s) ≡ after
-    by_seen (seen.Token row) e = refl
-    by_seen seen.Nothing e = refl
-    by_seen (seen.BadRecord i) e = absurd (omega arith)
+    by_seen : (s : Result (Option Row) ℕ) → ofPeek.number_of (shown_by after s) ≡ none → peeked_cursor c (shown_by after s) ≡ after
+    by_seen (Ok (Some row)) e = refl
+    by_seen (Ok None) e = refl
+    by_seen (Err i) e = absurd (omega arith)
 
     pub look_fits : (is_fit room after ≡ true) × (peeked_cursor c (look_ahead_of room shown c n) ≡ after)
     look_fits =
@@ -196,10 +192,10 @@ module _ (room : ℕ) (shown : ℕ → RowAt) where
           ap (peeked_cursor c) l.1 ∙ by_seen (seen_at shown c n) (ap ofPeek.number_of (sym l.1) ∙ z),
         )
 
-    token_by : (s : Seen) (d : Cursor) → peeked_token (shown_by after s) ≡ given_token (given_by d s)
-    token_by (seen.Token row) d = refl
-    token_by seen.Nothing d = refl
-    token_by (seen.BadRecord i) d = refl
+    token_by : (s : Result (Option Row) ℕ) (d : Cursor) → peeked_token (shown_by after s) ≡ given_token (given_by d s)
+    token_by (Ok (Some row)) d = refl
+    token_by (Ok None) d = refl
+    token_by (Err i) d = refl
 
     pub look_token : Unrefused room shown c (nexts n)
         → peeked_token (look_ahead_of room shown c n) ≡ (call room shown (after_calls room shown c (nexts n)) next).token
@@ -208,5 +204,5 @@ module _ (room : ℕ) (shown : ℕ → RowAt) where
         let d = after_calls room shown c (nexts n) in
         ap peeked_token (look_shows c n f z).1
         ∙ token_by (seen_at shown c n) d
-        ∙ ap (λ (s : Seen). given_token (given_by d s)) (sym (seen_on n c d w))
+        ∙ ap (λ (s : Result (Option Row) ℕ). given_token (given_by d s)) (sym (seen_on n c d w))
         ∙ ap given_token (sym (next_seen d w.fit))

@@ -2,8 +2,7 @@
 -- calls answer one after the other, and by how many were made; the crate `rust` has the stream of a source. `QueueLaws` proves that a
 -- cursor says the same. Beside them stands the look-ahead that the comment there describes.
 -- Assumes nothing.
-use Rattle.std.specs.Prelude.{ℕ, zero, suc, ◌+◌, ◌-◌, Bool, List, [], ◌∷◌, ◌++◌, ltb, length}
-use Rattle.std.proofs.Math.Option.{Option, none, some}
+use Rattle.std.specs.Prelude.{ℕ, zero, suc, ◌+◌, ◌-◌, Bool, List, [], ◌∷◌, ◌++◌, ltb, length, Option, Some, None}
 use Rattle.base.specs.Pick.{pick}
 use Rattle.rows.specs.declared.Row.{Row}
 
@@ -23,8 +22,8 @@ pub record Answered : Type 0 where
 
 -- `token_queue.get(n)`
 unfoldable pub get : List Row → ℕ → Option Row
-get [] n = none
-get (t ∷ queue) zero = some t
+get [] n = None
+get (t ∷ queue) zero = Some t
 get (t ∷ queue) (suc n) = get queue n
 
 -- the calls of a `TokenLexer`: the token that call i answers, or none
@@ -38,7 +37,7 @@ next_token stream k = record { token = stream k.lexer; after = record { lexer = 
 -- `if let Some(next) = token_queue.pop_front()`, or else what `next_token` answers
 abbrev pub pop_front : List Row → ℕ → Answered → Answered
 pop_front [] lexer other = other
-pop_front (t ∷ queue) lexer other = record { token = some t; after = record { lexer = lexer; token_queue = queue } }
+pop_front (t ∷ queue) lexer other = record { token = Some t; after = record { lexer = lexer; token_queue = queue } }
 
 -- `next`
 unfoldable pub rust_next : Stream → KotoLexer → Answered
@@ -62,8 +61,8 @@ push_back k t = record { lexer = k.lexer; token_queue = k.token_queue ++ (t ∷ 
 
 -- `if let Some(next)`: it goes on the queue and the loop goes on; or else `break`
 abbrev pub pushed_by : (KotoLexer → KotoLexer) → Option Row → KotoLexer → KotoLexer
-pushed_by go none k = k
-pushed_by go (some t) k = go (push_back k t)
+pushed_by go None k = k
+pushed_by go (Some t) k = go (push_back k t)
 
 -- `for _ in 0..tokens_to_add`
 unfoldable pub add_tokens : Stream → ℕ → KotoLexer → KotoLexer

@@ -5,7 +5,7 @@
 --     firsts_row      each record is the reading's
 --     firsts_shown    and is shown, where a cursor counts as many as there are
 -- Assumes nothing.
-use Rattle.std.specs.Prelude.{ℕ, ◌+◌, ◌*◌, ◌≤◌, ◌<◌, ◌≡◌, true, false, List, length, get_or, take, drop}
+use Rattle.std.specs.Prelude.{ℕ, ◌+◌, ◌*◌, ◌≤◌, ◌<◌, ◌≡◌, true, false, List, length, get_or, take, drop, Some}
 use Rattle.std.proofs.Common.{arith, sym, ap, subst, ◌∙◌, take_all, length-take-le, get_or-take}
 use Rattle.base.specs.PickLaws.{split_lt}
 use Rattle.property.specs.Table.{properties_at}
@@ -16,7 +16,6 @@ use Rattle.rows.specs.FirstLaws.{fits_packs}
 use Rattle.rows.specs.Row.{put_rows}
 use Rattle.rows.specs.RowLaws as rows
 use Rattle.rows.specs.declared.Row.{Row}
-use Rattle.rows.specs.declared.RowAt.TheVariants.{Fit}
 use Rattle.half_rows.specs.Half.{Marked, marked, put_halves, no_edge, Starts}
 use Rattle.half_rows.specs.HalfLaws as half
 use Rattle.layout.specs.Layout.{words_in, room_in, row_in, shown_in}
@@ -102,13 +101,13 @@ module _ (s table : List ℕ) (edition : ℕ) (fit : FitTable table) (ok : Ok s 
         half.halves_at old (take n (marked_rows q)) mark i in_marked (fits_packs (get_or (take n (marked_rows q)) i mark).row marked_fits) starts ∙ marked_row
 
     pub firsts_shown : (count : ℕ) → i < count → count ≤ length q.rows → (layout : Layout)
-        → shown_in layout (firsts_in layout old n q) count i ≡ Fit (get_or q.rows i d)
+        → shown_in layout (firsts_in layout old n q) count i ≡ Some (get_or q.rows i d)
     firsts_shown count l m Whole =
-        rows.rows_shown old (take n q.rows) i d (in_take n i q.rows h k) (ap row_fits row_is ∙ fits) ∙ ap Fit row_is
+        rows.rows_shown old (take n q.rows) i d (in_take n i q.rows h k) (ap row_fits row_is ∙ fits) ∙ ap Some row_is
     firsts_shown count l m Half =
         half.halves_shown old (take n (marked_rows q)) mark count i in_marked marked_fits
         (λ e. let last = marks_last q.stop q.rows i mark k (ap (λ (x : Marked). x.still) (sym marked_is) ∙ e) in (
           ap (λ (r : Row). r.kind) marked_row ∙ stuck_error (properties_at table) edition s start_state i d last.0 last.1,
           omega (arith, last.1),
         )) starts
-        ∙ ap Fit marked_row
+        ∙ ap Some marked_row

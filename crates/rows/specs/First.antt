@@ -1,12 +1,10 @@
 -- Documents 01 and 02 (C-4), "Records": the first number of a record, kind + 128 × detail + 2^20 × depth: the kind is its bits 0 to 6, the detail
 -- 7 to 19, the depth 20 to 27. What stands above them, from bit 28 on, is a layout's own matter (`Row` has 0 there).
 -- Assumes nothing.
-use Rattle.std.specs.Prelude.{Bool, ◌&&◌, ℕ, ◌+◌, ◌*◌, ◌/◌, ◌%◌, ◌<◌, eqb, leb}
+use Rattle.std.specs.Prelude.{Bool, ◌&&◌, ℕ, ◌+◌, ◌*◌, ◌/◌, ◌%◌, ◌<◌, eqb, leb, Option, Some, None}
 use Rattle.base.specs.Pick.{pick}
 use Rattle.token.specs.Detail.{fits}
 use Rattle.rows.specs.declared.Row.{Row}
-use Rattle.rows.specs.declared.RowAt.{RowAt}
-use Rattle.rows.specs.declared.RowAt.TheVariants.{Fit, Unfit}
 
 -- how many kinds it has room for
 abbrev pub kind_room : ℕ
@@ -71,5 +69,5 @@ unfoldable pub fits_below : ℕ → Row → Bool
 fits_below above r = eqb above 0 && row_fits r
 
 -- the record, if it may be shown
-abbrev pub shown_below : ℕ → Row → RowAt
-shown_below above r = pick (fits_below above r) (Fit r) Unfit
+abbrev pub shown_below : ℕ → Row → Option Row
+shown_below above r = pick (fits_below above r) (Some r) None

@@ -6,7 +6,7 @@
 --     below_fit, below_unfit                what is shown, by the test
 --     upper_over, upper_low                 the depth and what stands above it, tested as one number
 -- Assumes nothing.
-use Rattle.std.specs.Prelude.{◌≡◌, true, false, ◌&&◌, ℕ, ◌+◌, ◌*◌, ◌/◌, ◌≤◌, ◌<◌, eqb, leb}
+use Rattle.std.specs.Prelude.{◌≡◌, true, false, ◌&&◌, ℕ, ◌+◌, ◌*◌, ◌/◌, ◌≤◌, ◌<◌, eqb, leb, Some, None}
 use Rattle.std.proofs.Math.Bool.{and-eq-true_iff}
 use Rattle.std.proofs.Common.{arith}
 use borrow.Author.Tests.{leb-true, eq-eqb, ne_eqb, le-leb, lt-leb}
@@ -17,7 +17,6 @@ use Rattle.token.specs.Detail.{detail_allowed, fits}
 use Rattle.token.specs.DetailLaws.{allowed_most}
 use Rattle.rows.specs.First.{depth_unit, above_unit, first_of, Packs, kind_in, detail_in, depth_in, above_in, depth_most, row_fits, fits_below, shown_below}
 use Rattle.rows.specs.declared.Row.{Row}
-use Rattle.rows.specs.declared.RowAt.TheVariants.{Fit, Unfit}
 
 -- a first number with something above the depth
 module _ (r : Row) (p : Packs r) (first above : ℕ) (e : first ≡ first_of r + above_unit * above) where
@@ -52,10 +51,10 @@ pub fits_first : (r : Row) (above : ℕ) → above ≡ 0 → row_fits r ≡ true
 unfolding fits_below
 fits_first r above e f = rw (e, f)
 
-pub below_fit : (above : ℕ) (r : Row) → fits_below above r ≡ true → shown_below above r ≡ Fit r
+pub below_fit : (above : ℕ) (r : Row) → fits_below above r ≡ true → shown_below above r ≡ Some r
 below_fit above r e = rw e
 
-pub below_unfit : (above : ℕ) (r : Row) → fits_below above r ≡ false → shown_below above r ≡ Unfit
+pub below_unfit : (above : ℕ) (r : Row) → fits_below above r ≡ false → shown_below above r ≡ None
 below_unfit above r e = rw e
 
 -- ---- the depth and what stands above it, as one number

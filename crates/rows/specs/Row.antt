@@ -1,11 +1,10 @@
 -- Document 01, "Records": a record is eight numbers of 32 bits, of which the first holds kind, detail and depth (`First`). Records stand one
 -- after the other from the start of a list. Nothing outside this crate knows a record's numbers: it knows `Row`, and these names.
 -- Assumes nothing.
-use Rattle.std.specs.Prelude.{Bool, List, [], ◌∷◌, ◌++◌, ℕ, zero, suc, ◌+◌, ◌*◌, get_or, take, drop}
+use Rattle.std.specs.Prelude.{Bool, List, [], ◌∷◌, ◌++◌, ℕ, zero, suc, ◌+◌, ◌*◌, get_or, take, drop, Option}
 use Rattle.rows.specs.First.{first_of, kind_in, detail_in, depth_in, above_in, fits_below, shown_below}
 use Rattle.rows.specs.Store.{room_for, put_at, words_all, put_all, put_from}
 use Rattle.rows.specs.declared.Row.{Row}
-use Rattle.rows.specs.declared.RowAt.{RowAt}
 
 -- how many numbers a record has
 abbrev pub row_words : ℕ
@@ -94,5 +93,5 @@ unfoldable pub fits_at : List ℕ → ℕ → Bool
 fits_at list i = fits_below (above_at list i) (row_at list i)
 
 -- record i of a list, if it may be shown
-unfoldable pub shown_at : List ℕ → ℕ → RowAt
+unfoldable pub shown_at : List ℕ → ℕ → Option Row
 shown_at list i = shown_below (above_at list i) (row_at list i)

@@ -15,7 +15,7 @@
 --     shown_fit, shown_unfit            what is shown at an index, by the test
 --     rows_shown                        a record that was put and may be shown is shown
 -- Assumes nothing.
-use Rattle.std.specs.Prelude.{◌≡◌, true, false, List, [], ◌∷◌, ◌++◌, ℕ, zero, suc, ◌+◌, ◌*◌, ◌/◌, ◌≤◌, ◌<◌, length, get_or, take, drop}
+use Rattle.std.specs.Prelude.{◌≡◌, true, false, List, [], ◌∷◌, ◌++◌, ℕ, zero, suc, ◌+◌, ◌*◌, ◌/◌, ◌≤◌, ◌<◌, length, get_or, take, drop, Some, None}
 use Rattle.std.proofs.Math.Path.{refl, ap}
 use Rattle.std.proofs.Common.{sym, ◌∙◌, add-zero, arith, lit<, length-append, length-drop, get_or-drop, ext_get_or}
 use Rattle.std.proofs.Math.Seq.{length-take-le}
@@ -26,7 +26,6 @@ use Rattle.rows.specs.Store.{words_all}
 use Rattle.rows.specs.StoreLaws as store
 use Rattle.rows.specs.Row.{row_words, room, words_of, row_from, first_row, row_at, put_row, put_rows, put_rows_at, copy_rows, rows_of, above_at, fits_at, shown_at}
 use Rattle.rows.specs.declared.Row.{Row}
-use Rattle.rows.specs.declared.RowAt.TheVariants.{Fit, Unfit}
 
 -- records read from equal numbers are equal
 from_agree : (a b : List ℕ) (m n : ℕ) → ((k : ℕ) → k < 8 → get_or a (m + k) 0 ≡ get_or b (n + k) 0) → row_from a m ≡ row_from b n
@@ -174,11 +173,11 @@ copy_put n l rows to h =
 
 -- ---- what may be shown
 
-pub shown_fit : (l : List ℕ) (i : ℕ) → fits_at l i ≡ true → shown_at l i ≡ Fit (row_at l i)
+pub shown_fit : (l : List ℕ) (i : ℕ) → fits_at l i ≡ true → shown_at l i ≡ Some (row_at l i)
 unfolding shown_at fits_at
 shown_fit l i e = below_fit (above_at l i) (row_at l i) e
 
-pub shown_unfit : (l : List ℕ) (i : ℕ) → fits_at l i ≡ false → shown_at l i ≡ Unfit
+pub shown_unfit : (l : List ℕ) (i : ℕ) → fits_at l i ≡ false → shown_at l i ≡ None
 unfolding shown_at fits_at
 shown_unfit l i e = below_unfit (above_at l i) (row_at l i) e
 
@@ -198,6 +197,6 @@ rows_fit l rows i d h e =
     ap (fits_below (above_at (put_rows l rows) i)) (rows_at l rows i d h p)
     ∙ fits_first (get_or rows i d) (above_at (put_rows l rows) i) (above_none l rows i d h p) e
 
-pub rows_shown : (l : List ℕ) (rows : List Row) (i : ℕ) (d : Row) → i < length rows → row_fits (get_or rows i d) ≡ true → shown_at (put_rows l rows) i ≡ Fit (get_or rows i d)
+pub rows_shown : (l : List ℕ) (rows : List Row) (i : ℕ) (d : Row) → i < length rows → row_fits (get_or rows i d) ≡ true → shown_at (put_rows l rows) i ≡ Some (get_or rows i d)
 rows_shown l rows i d h e =
-    shown_fit (put_rows l rows) i (rows_fit l rows i d h e) ∙ ap Fit (rows_at l rows i d h (fits_packs (get_or rows i d) e))
+    shown_fit (put_rows l rows) i (rows_fit l rows i d h e) ∙ ap Some (rows_at l rows i d h (fits_packs (get_or rows i d) e))

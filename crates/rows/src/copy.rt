@@ -5,14 +5,11 @@ ghost use Rattle.rows.specs.Row.{room, copy_rows};
 use crate::ROW_WORDS;
 
 // Copies the first n records of a list to the start of another. Every number after them stays.
+#[tactic(auto, unfolding(crate::specs::Row::copy_rows))]
 pub fn copy_rows(from: &[u32], to: &mut [u32], n: usize)
     requires { (n ≤ room from.now) × (n ≤ room to.old) }
     ensures { to.new ≡ copy_rows n from.now to.old }
 {
     let end = ROW_WORDS * n;
-    let mut i = 0;
-    while i < end {
-        to[i] = from[i];
-        i += 1;
-    }
+    to[..end].copy_from_slice(&from[..end]);
 }

@@ -3,7 +3,7 @@
 ghost use Rattle.std.specs.Prelude.{◌≡◌};
 ghost use Rattle.rows.specs.First.{first_of, Packs, depth_in, above_in, shown_below};
 
-use crate::{Row, RowAt};
+use crate::Row;
 use token::detail_allowed;
 use token::kinds::KIND_MOST;
 
@@ -30,20 +30,20 @@ pub fn first_of(row: Row) -> u32
     row.kind + KIND_ROOM * row.detail + DEPTH_UNIT * row.depth
 }
 
-// The record, or that it is none that may be shown (refusal 9), where this is its first number without what its layout allows above the depth. The
+// The record, where this is its first number without what its layout allows above the depth; `None` where it may not be shown (refusal 9). The
 // depth and what stands above it are one number, so one test is enough for both.
-pub fn shown_by(first: u32, row: Row) -> RowAt
+pub fn shown_by(first: u32, row: Row) -> Option<Row>
     requires { row.depth ≡ depth_in first }
     ensures { result ≡ shown_below (above_in first) row }
 {
     if DEPTH_MOST < first / DEPTH_UNIT {
-        return RowAt::Unfit;
+        return None;
     }
     if KIND_MOST < row.kind {
-        return RowAt::Unfit;
+        return None;
     }
     if detail_allowed(row.kind, row.detail) {
-        return RowAt::Fit(row);
+        return Some(row);
     }
-    RowAt::Unfit
+    None
 }

@@ -35,15 +35,6 @@ pub struct Row {
     pub depth: u32,
 }
 
-// What stands at an index of a list.
-#[derive(Clone, Copy)]
-pub enum RowAt {
-    Fit(Row),
-    // The kind is over 80, the detail is none that this kind may have, the depth is over 64, or a bit above the depth is set. Nothing else of
-    // the record is tested.
-    Unfit,
-}
-
 // How many records the list has room for.
 pub fn room(list: &[u32]) -> usize
     ensures { result ≡ room list.now }
@@ -96,8 +87,9 @@ pub fn read_row(list: &[u32], i: usize) -> Row
     }
 }
 
-// Record i, or that it is none that may be shown (refusal 9).
-pub fn row_at(list: &[u32], i: usize) -> RowAt
+// Record i; `None` where it may not be shown (refusal 9): its kind is over 80, its detail is none that this kind may have, its depth is over 64, or
+// a bit above the depth is set. Nothing else of the record is tested.
+pub fn row_at(list: &[u32], i: usize) -> Option<Row>
     requires { i < room list.now }
     ensures { result ≡ shown_at list.now i }
 {

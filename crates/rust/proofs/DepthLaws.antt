@@ -7,9 +7,8 @@
 -- Assumes nothing.
 use Prim.Native.Nat.{ℕ, zero, suc, ◌≤◌, ◌<◌}
 use Rattle.std.proofs.Common.{arith, sym, ap, ◌∙◌}
-use Rattle.std.specs.Prelude.{◌≡◌, List, [], ◌∷◌, length}
+use Rattle.std.specs.Prelude.{◌≡◌, List, [], ◌∷◌, length, Option, Some, None}
 use Rattle.std.proofs.Math.Path.{refl}
-use Rattle.std.proofs.Math.Option.{Option, none, some}
 use Rattle.base.specs.PickLaws.{split_lt}
 use Rattle.rows.specs.declared.Row.{Row}
 use Rattle.state.specs.Lexer.{settled}
@@ -63,15 +62,15 @@ module _ (look : ℕ → ℕ) (edition : ℕ) (s : List ℕ) where
   pub call_near : (x : TokenLexer) → Near (height x) (height (next x))
   call_near x = given_near (remaining_at s x.current_byte.0) x
 
-  depth_of : (x : TokenLexer) (o : Option Token) (after : TokenLexer) (row : Row) → lexed_of x o after ≡ some row → row.depth ≡ height x
-  depth_of x none after row e = absurd (let z : ◌≡◌ {A = ℕ} 0 1 = cc in omega arith)
-  depth_of x (some t) after row e = omega (arith, ap (λ (o : Option Row). depth_in o) (sym e))
+  depth_of : (x : TokenLexer) (o : Option Token) (after : TokenLexer) (row : Row) → lexed_of x o after ≡ Some row → row.depth ≡ height x
+  depth_of x None after row e = absurd (let z : ◌≡◌ {A = ℕ} 0 1 = cc in omega arith)
+  depth_of x (Some t) after row e = omega (arith, ap (λ (o : Option Row). depth_in o) (sym e))
     where
       depth_in : Option Row → ℕ
-      depth_in none = 0
-      depth_in (some r) = r.depth
+      depth_in None = 0
+      depth_in (Some r) = r.depth
 
-  pub lexed_depth : (x : TokenLexer) (row : Row) → lexed look edition s x ≡ some row → row.depth ≡ height x
+  pub lexed_depth : (x : TokenLexer) (row : Row) → lexed look edition s x ≡ Some row → row.depth ≡ height x
   lexed_depth x = depth_of x (get_next_token look edition s x).token (next x)
 
   -- ---- call after call
@@ -83,16 +82,16 @@ module _ (look : ℕ → ℕ) (edition : ℕ) (s : List ℕ) where
   state_next (suc i) x = state_next i (next x)
 
   module _ (r : Reading) (x : TokenLexer) (h : Hands look edition s r x) where
-    within : (i : ℕ) (row : Row) → get r.rows i ≡ some row → i < length r.rows
+    within : (i : ℕ) (row : Row) → get r.rows i ≡ Some row → i < length r.rows
     within i row e =
         split_lt i (length r.rows) (λ k. k)
         (λ k. absurd (let n = get_past r.rows i k in let z : ◌≡◌ {A = ℕ} 0 1 = cc in omega arith))
 
-    pub hands_depth : (i : ℕ) (row : Row) → get r.rows i ≡ some row → row.depth ≡ height (state_at look edition s i x)
+    pub hands_depth : (i : ℕ) (row : Row) → get r.rows i ≡ Some row → row.depth ≡ height (state_at look edition s i x)
     unfolding handed
     hands_depth i row e = lexed_depth (state_at look edition s i x) row (h.each i (within i row e) ∙ e)
 
-    pub hands_near : (i : ℕ) (row other : Row) → get r.rows i ≡ some row → get r.rows (suc i) ≡ some other → Near row.depth other.depth
+    pub hands_near : (i : ℕ) (row other : Row) → get r.rows i ≡ Some row → get r.rows (suc i) ≡ Some other → Near row.depth other.depth
     hands_near i row other e f =
         let n = call_near (state_at look edition s i x) in
         let m = ap height (state_next i x) in

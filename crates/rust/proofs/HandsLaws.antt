@@ -8,9 +8,8 @@ use Prim.Native.Nat.{ℕ, zero, suc, ◌≤◌, ◌<◌}
 use native.Mathlib.Omega.{arith}
 use Rattle.std.proofs.Math.Path.{◌≡◌, refl, sym, ap}
 use Rattle.std.proofs.Common.{subst, ◌∙◌}
-use Rattle.std.specs.Prelude.{Bool, true, false, List, [], ◌∷◌, eqb, length}
+use Rattle.std.specs.Prelude.{Bool, true, false, List, [], ◌∷◌, eqb, length, Some, None}
 use Rattle.std.proofs.Math.Bool.{and-eq-true_iff}
-use Rattle.std.proofs.Math.Option.{none, some}
 use borrow.Author.Tests.{eqb-true, eq-eqb}
 use Rattle.base.specs.PickLaws.{split_lt}
 use Rattle.base.specs.Refusal.{source_most}
@@ -79,11 +78,11 @@ lexer_is l m p n k d c = λ i. record { place = p i; indent = n i; previous_toke
 
 -- a state whose copies agree, after this token, is what the machine shows
 pub beside_is : (st : State) → Agrees st → (t : Taken) (modes : List ℕ) → Same st.lexer (remembered t.token.kind t.lexer)
-    → stack_of st.modes ≡ modes → Beside (with_fields t.lexer (some t.token) modes) st
+    → stack_of st.modes ≡ modes → Beside (with_fields t.lexer (Some t.token) modes) st
 beside_is st a t modes q e =
     record {
       view = sym
-          (lexer_is st.lexer (view_of (with_fields t.lexer (some t.token) modes)) q.place q.indent q.previous
+          (lexer_is st.lexer (view_of (with_fields t.lexer (Some t.token) modes)) q.place q.indent q.previous
           (a.depth ∙ sym (length_codes st.modes.codes st.modes.depth) ∙ ap length e) (search (a.mode ∙ ap top e)));
       stack = sym e;
     }
@@ -109,7 +108,7 @@ module _ (look : ℕ → ℕ) (edition : ℕ) (s : List ℕ) where
     room_none zero k = h
     room_none (suc i) k = absurd (omega arith)
 
-    ended_hands : (next x).token ≡ none → Hands look edition s (stopped stop.ended) x
+    ended_hands : (next x).token ≡ None → Hands look edition s (stopped stop.ended) x
     ended_hands e =
         record {
           each = λ i k. absurd (omega arith);
@@ -120,7 +119,7 @@ module _ (look : ℕ → ℕ) (edition : ℕ) (s : List ℕ) where
           deep = λ q. absurd (omega (arith, ap why_of q));
         }
 
-    module _ (row : Row) (e : lexed look edition s x ≡ some row) (full : height x ≡ modes_most) (over : height (next x).after ≡ suc modes_most) where
+    module _ (row : Row) (e : lexed look edition s x ≡ Some row) (full : height x ≡ modes_most) (over : height (next x).after ≡ suc modes_most) where
       overflows : Overflows look edition s 0 x
       unfolding state_at handed
       overflows = record { row = row; some_token = e; full = full; over = over }
@@ -137,8 +136,8 @@ module _ (look : ℕ → ℕ) (edition : ℕ) (s : List ℕ) where
           }
 
     module _ (t : StandsStill look edition s x) (k : height (next x).after ≤ modes_most) (b l : Lexer)
-        (e : lexed look edition s x ≡ some (row_of (token_of error) b l)) where
-      same_row : (i : ℕ) → handed look edition s i x ≡ some (row_of (token_of error) b l)
+        (e : lexed look edition s x ≡ Some (row_of (token_of error) b l)) where
+      same_row : (i : ℕ) → handed look edition s i x ≡ Some (row_of (token_of error) b l)
       same_row i = for_ever look edition s x (still_again look edition s x t) i ∙ e
 
       each_one : (i : ℕ) → i < 1 → handed look edition s i x ≡ get (stuck_reading b l).rows i
@@ -168,7 +167,7 @@ module _ (look : ℕ → ℕ) (edition : ℕ) (s : List ℕ) where
           }
 
     -- a token, and what is handed out after it
-    module _ (row : Row) (r : Reading) (e : lexed look edition s x ≡ some row) (moves : StandsStill look edition s x → ⊥)
+    module _ (row : Row) (r : Reading) (e : lexed look edition s x ≡ Some row) (moves : StandsStill look edition s x → ⊥)
         (on : Hands look edition s r (next x).after) where
       onto_each : (i : ℕ) → i < suc (length r.rows) → handed look edition s i x ≡ get (row ∷ r.rows) i
       unfolding handed state_at get
@@ -186,7 +185,7 @@ module _ (look : ℕ → ℕ) (edition : ℕ) (s : List ℕ) where
       onto_room zero j = h
       onto_room (suc i) j = on.room i (omega arith)
 
-      onto_ended : r.stop ≡ stop.ended → (i : ℕ) → suc (length r.rows) ≤ i → handed look edition s i x ≡ none
+      onto_ended : r.stop ≡ stop.ended → (i : ℕ) → suc (length r.rows) ≤ i → handed look edition s i x ≡ None
       unfolding handed state_at
       onto_ended q zero j = absurd (omega arith)
       onto_ended q (suc i) j = on.ended q i (omega arith)
@@ -239,11 +238,11 @@ module _ (s table : List ℕ) (edition : ℕ) (fit : FitTable table) where
 
     -- this token is taken
     module _ (t : Taken) (e : get_next_token look edition s x ≡ given t (stack_of st.modes)) (f : Follows st t (step look edition s st)) where
-      row_of_lem : (before : Lexer) → view_of x ≡ before → lexed look edition s x ≡ some (row_of t.token before t.lexer)
+      row_of_lem : (before : Lexer) → view_of x ≡ before → lexed look edition s x ≡ Some (row_of t.token before t.lexer)
       row_of_lem before q =
-          ap (λ (g : Given). lexed_of x g.token g.after) e ∙ ap (λ (l : Lexer). some (row_of t.token l t.lexer)) q
+          ap (λ (g : Given). lexed_of x g.token g.after) e ∙ ap (λ (l : Lexer). Some (row_of t.token l t.lexer)) q
 
-      answered : lexed look edition s x ≡ some (row_of t.token st.lexer t.lexer)
+      answered : lexed look edition s x ≡ Some (row_of t.token st.lexer t.lexer)
       answered = row_of_lem st.lexer b.view
 
       taller : length (get_next_token look edition s x).after.string_mode_stack ≡ length (modes_after st t)
@@ -282,11 +281,11 @@ module _ (s table : List ℕ) (edition : ℕ) (fit : FitTable table) where
             let z = (and-eq-true_iff (eqb t.token.kind error) (eqb t.lexer.place.current_byte.0 st.lexer.place.current_byte.0)).1 (k, o) in
             let y : ◌≡◌ {A = ℕ} 0 1 = cc in omega arith
 
-        stuck_row : StandsStill look edition s x → lexed look edition s x ≡ some (row_of (token_of error) st.lexer (stepped st).lexer)
+        stuck_row : StandsStill look edition s x → lexed look edition s x ≡ Some (row_of (token_of error) st.lexer (stepped st).lexer)
         stuck_row h =
             let v : t.token ≡ token_of error =
             some_is t.token (token_of error) (sym (ap (λ (g : Given). g.token) e) ∙ still_token look edition s x h) in
-            answered ∙ ap (λ (u : Token). some (row_of u st.lexer t.lexer)) v ∙ ap some (sym (row_is (token_of error)))
+            answered ∙ ap (λ (u : Token). Some (row_of u st.lexer t.lexer)) v ∙ ap Some (sym (row_is (token_of error)))
 
         found : (q : Bool) → stood_still st.lexer t ≡ q → Goal (what_of st.lexer t)
         found true q =
@@ -296,7 +295,7 @@ module _ (s table : List ℕ) (edition : ℕ) (fit : FitTable table) where
             let w : (step look edition s st).what ≡ what.Token t.token = f.found few ∙ rw q refl in
             rw q
             (onto_hands look edition s x low (row_of t.token st.lexer (stepped st).lexer) (read (stepped st))
-            (answered ∙ ap some (sym (row_is t.token))) (moves q)
+            (answered ∙ ap Some (sym (row_is t.token))) (moves q)
             (on (step_falls s table edition fit st ok t.token w) (get_next_token look edition s x).after after_beside))
 
       taken_hands : Goal (step look edition s st).what

@@ -1,8 +1,7 @@
 -- At most one reading is what a machine hands out from a state: `hands_one`. So `Hands` leaves nothing open.
 -- Assumes nothing.
-use Rattle.std.specs.Prelude.{ℕ, zero, suc, ◌≤◌, ◌<◌, ◌≡◌, refl, List, [], ◌∷◌, length}
+use Rattle.std.specs.Prelude.{ℕ, zero, suc, ◌≤◌, ◌<◌, ◌≡◌, refl, List, [], ◌∷◌, length, Option, Some, None}
 use Rattle.std.proofs.Common.{arith, sym, ap, ◌∙◌}
-use Rattle.std.proofs.Math.Option.{Option, none, some}
 use Rattle.base.specs.PickLaws.{split_lt}
 use Rattle.rows.specs.declared.Row.{Row}
 use Rattle.reading.specs.Reading.{Stop, Reading}
@@ -12,13 +11,13 @@ use Rattle.rust.specs.TokenLexer.{TokenLexer}
 use Rattle.rust.specs.Hands.{Hands}
 
 -- a record of a list is one
-none_past : (rows : List Row) (i : ℕ) → get rows i ≡ none → length rows ≤ i
+none_past : (rows : List Row) (i : ℕ) → get rows i ≡ None → length rows ≤ i
 unfolding get
 none_past [] i e = omega arith
 none_past (t ∷ rows) zero e = absurd (let z : ◌≡◌ {A = ℕ} 0 1 = cc in omega arith)
 none_past (t ∷ rows) (suc i) e = omega (arith, none_past rows i e)
 
-some_row : (t u : Row) → ◌≡◌ {A = Option Row} (some t) (some u) → t ≡ u
+some_row : (t u : Row) → ◌≡◌ {A = Option Row} (Some t) (Some u) → t ≡ u
 some_row t u e = cc
 
 rows_same : (a b : List Row) → length a ≡ length b → ((i : ℕ) → i < length a → get a i ≡ get b i) → a ≡ b
@@ -68,7 +67,7 @@ module _ (look : ℕ → ℕ) (edition : ℕ) (s : List ℕ) (x : TokenLexer) wh
       let n = a.ended e (length q.rows) (omega (arith, same_length r q a b)) in
       let z : ◌≡◌ {A = ℕ} 0 1 = absurd_of (sym n ∙ o.some_token) in omega arith
     where
-      absurd_of : {row : Row} → ◌≡◌ {A = Option Row} none (some row) → ◌≡◌ {A = ℕ} 0 1
+      absurd_of : {row : Row} → ◌≡◌ {A = Option Row} None (Some row) → ◌≡◌ {A = ℕ} 0 1
       absurd_of p = cc
 
   stops_same : (r q : Reading) → Hands look edition s r x → Hands look edition s q x → (v w : Stop) → r.stop ≡ v → q.stop ≡ w → v ≡ w

@@ -9,7 +9,6 @@ use Prim.Native.Nat.{ℕ, zero, suc, ◌+◌, ◌≤◌, ◌<◌}
 use Rattle.std.proofs.Common.{arith, sym, ◌∙◌, inl, inr}
 use Rattle.std.specs.Prelude.{◌≡◌, Bool, true, false, ◌⊎◌, List, [], ◌∷◌, eqb, drop, Option, Some, None}
 use Rattle.std.proofs.Math.Path.{refl, ap}
-use Rattle.std.proofs.Math.Option.{Option, none, some}
 use Rattle.std.proofs.Math.ListN.{take}
 use Rattle.base.specs.Pick.{pick}
 use Rattle.base.specs.PickLaws.{by_test}
@@ -181,7 +180,7 @@ module _ (l : Lexer) where
 
 -- ---- the machine
 
-pub some_is : (u v : Token) → ◌≡◌ {A = Option Token} (some u) (some v) → u ≡ v
+pub some_is : (u v : Token) → ◌≡◌ {A = Option Token} (Some u) (Some v) → u ≡ v
 some_is u v e = cc
 
 module _ (look : ℕ → ℕ) (edition : ℕ) (s : List ℕ) where
@@ -208,7 +207,7 @@ module _ (look : ℕ → ℕ) (edition : ℕ) (s : List ℕ) where
     taken_again (On h) k b = absurd (omega arith)
     taken_again (Still q r) k b = (
       ap (λ (v : Taken). next (given v x.string_mode_stack).after) q
-          ∙ search (ap (λ (a : List ℕ). given_at look edition a (with_fields l (some (token_of error)) x.string_mode_stack)) e)
+          ∙ search (ap (λ (a : List ℕ). given_at look edition a (with_fields l (Some (token_of error)) x.string_mode_stack)) e)
           ∙ ap (λ (v : Taken). given v x.string_mode_stack) r
           ∙ ap (λ (v : Taken). given v x.string_mode_stack) (sym q),
       q,
@@ -217,10 +216,10 @@ module _ (look : ℕ → ℕ) (edition : ℕ) (s : List ℕ) where
   -- what the next call gave is given again, it is the Error, and the modes stay
   record Stood (x : TokenLexer) (g : Given) : Type 0 where
     again : next g.after ≡ g
-    token : g.token ≡ some (token_of error)
+    token : g.token ≡ Some (token_of error)
     modes : g.after.string_mode_stack ≡ x.string_mode_stack
 
-  at_again : (x : TokenLexer) (cs : List ℕ) → remaining_at s x.current_byte.0 ≡ cs → (u : Token) → (given_at look edition cs x).token ≡ some u
+  at_again : (x : TokenLexer) (cs : List ℕ) → remaining_at s x.current_byte.0 ≡ cs → (u : Token) → (given_at look edition cs x).token ≡ Some u
       → u.kind ≡ error → (given_at look edition cs x).after.current_byte.0 ≡ x.current_byte.0 → Stood x (given_at look edition cs x)
   at_again x [] e u a k b = absurd (let z : ◌≡◌ {A = ℕ} 0 1 = cc in omega arith)
   at_again x (c ∷ cs) e u a k b =
@@ -228,7 +227,7 @@ module _ (look : ℕ → ℕ) (edition : ℕ) (s : List ℕ) where
       let p = taken_again x c cs e (take_again (l x c cs e) look edition (c ∷ cs)) (ap (λ (v : Token). v.kind) q ∙ k) b in
       record {
         again = p.0;
-        token = ap (λ (v : Taken). some v.token) p.1;
+        token = ap (λ (v : Taken). Some v.token) p.1;
         modes = search (ap (λ (v : Taken). changed v.change x.string_mode_stack) p.1);
       }
 
@@ -239,16 +238,16 @@ module _ (look : ℕ → ℕ) (edition : ℕ) (s : List ℕ) where
     pub still_again : Repeats x
     still_again = record { again = stood.again; modes = stood.modes }
 
-    pub still_token : (next x).token ≡ some (token_of error)
+    pub still_token : (next x).token ≡ Some (token_of error)
     still_token = stood.token
 
-  at_none : (x : TokenLexer) (cs : List ℕ) → remaining_at s x.current_byte.0 ≡ cs → (given_at look edition cs x).token ≡ none
+  at_none : (x : TokenLexer) (cs : List ℕ) → remaining_at s x.current_byte.0 ≡ cs → (given_at look edition cs x).token ≡ None
       → (next (given_at look edition cs x).after ≡ given_at look edition cs x)
       × ((given_at look edition cs x).after.string_mode_stack ≡ x.string_mode_stack)
   at_none x [] e a = (ap (λ (cs : List ℕ). given_at look edition cs (given_at look edition [] x).after) e, refl)
   at_none x (c ∷ cs) e a = absurd (let z : ◌≡◌ {A = ℕ} 0 1 = cc in omega arith)
 
-  pub none_again : (x : TokenLexer) → (next x).token ≡ none → Repeats x
+  pub none_again : (x : TokenLexer) → (next x).token ≡ None → Repeats x
   none_again x a = let p = at_none x (remaining_at s x.current_byte.0) refl a in record { again = p.0; modes = p.1 }
 
   -- a state that a call leaves as it is stays
@@ -260,8 +259,8 @@ module _ (look : ℕ → ℕ) (edition : ℕ) (s : List ℕ) where
   -- of the state before it, a `LexedToken` tells the depth alone
   by_modes : (x y : TokenLexer) (o : Option Token) (after : TokenLexer) → x.string_mode_stack ≡ y.string_mode_stack
       → lexed_of x o after ≡ lexed_of y o after
-  by_modes x y none after e = refl
-  by_modes x y (some t) after e = ap (λ (ms : List ℕ). some (row_of t (view_of (with_fields (view_of x) none ms)) (view_of after))) e
+  by_modes x y None after e = refl
+  by_modes x y (Some t) after e = ap (λ (ms : List ℕ). Some (row_of t (view_of (with_fields (view_of x) None ms)) (view_of after))) e
 
   pub for_ever : (x : TokenLexer) → Repeats x → (n : ℕ) → handed look edition s n x ≡ lexed look edition s x
   unfolding handed state_at
@@ -274,5 +273,5 @@ module _ (look : ℕ → ℕ) (edition : ℕ) (s : List ℕ) where
   pub still_for_ever : (x : TokenLexer) → StandsStill look edition s x → (n : ℕ) → handed look edition s n x ≡ handed look edition s 0 x
   still_for_ever x h n = for_ever x (still_again x h) n ∙ sym (for_ever x (still_again x h) 0)
 
-  pub none_for_ever : (x : TokenLexer) → (next x).token ≡ none → (n : ℕ) → handed look edition s n x ≡ none
+  pub none_for_ever : (x : TokenLexer) → (next x).token ≡ None → (n : ℕ) → handed look edition s n x ≡ None
   none_for_ever x a n = for_ever x (none_again x a) n ∙ ap (λ (o : Option Token). lexed_of x o (next x).after) a

@@ -1,8 +1,7 @@
 -- What it means that a reading is what the Rust's `TokenLexer` hands out: its records are the tokens one by one, and why it stops is what
 -- the Rust does from there on.
 -- Assumes nothing.
-use Rattle.std.specs.Prelude.{ℕ, suc, ◌≤◌, ◌<◌, ◌≡◌, List, length}
-use Rattle.std.proofs.Math.Option.{none, some}
+use Rattle.std.specs.Prelude.{ℕ, suc, ◌≤◌, ◌<◌, ◌≡◌, List, length, Some, None}
 use Rattle.rows.specs.declared.Row.{Row}
 use Rattle.lexer.specs.Step.{modes_most}
 use Rattle.reading.specs.Reading.{Reading}
@@ -21,7 +20,7 @@ module _ (look : ℕ → ℕ) (edition : ℕ) (s : List ℕ) where
   -- the token after the last record is one, and its call leaves a 65th mode
   pub record Overflows (n : ℕ) (x : TokenLexer) : Type 0 where
     pub row : Row
-    pub some_token : handed look edition s n x ≡ some row
+    pub some_token : handed look edition s n x ≡ Some row
     pub full : length (state_at look edition s n x).string_mode_stack ≡ modes_most
     pub over : length (state_at look edition s (suc n) x).string_mode_stack ≡ suc modes_most
 
@@ -35,6 +34,6 @@ module _ (look : ℕ → ℕ) (edition : ℕ) (s : List ℕ) where
     -- up to the last record there are at most 64 modes
     pub room : (i : ℕ) → i ≤ length r.rows → length (state_at look edition s i x).string_mode_stack ≤ modes_most
     -- from there on: None for ever, or the last record for ever, or a token that pushes a 65th mode
-    pub ended : r.stop ≡ stop.ended → (i : ℕ) → length r.rows ≤ i → handed look edition s i x ≡ none
+    pub ended : r.stop ≡ stop.ended → (i : ℕ) → length r.rows ≤ i → handed look edition s i x ≡ None
     pub stuck : r.stop ≡ stop.stuck → Sticks r.rows x
     pub deep : r.stop ≡ stop.deep → Overflows (length r.rows) x

@@ -2,8 +2,7 @@
 -- by the top of that stack and leaves the whole next state. Its arms are those of `take_token`. And its tokens one after the other, as
 -- `next_token` hands them out. No room is here, no list, and no copy beside the stack.
 -- Assumes nothing.
-use Rattle.std.specs.Prelude.{ℕ, zero, suc, ◌≡◌, List, [], ◌∷◌, length}
-use Rattle.std.proofs.Math.Option.{Option, none, some}
+use Rattle.std.specs.Prelude.{ℕ, zero, suc, ◌≡◌, List, [], ◌∷◌, length, Option, Some, None}
 use Rattle.position.specs.Position.{line_start}
 use Rattle.position.specs.declared.ByteOffset.{ByteOffset}
 use Rattle.position.specs.declared.Span.{Span}
@@ -33,7 +32,7 @@ new_token_lexer =
     record {
       current_byte = record { 0 = 0 };
       previous_byte = record { 0 = 0 };
-      previous_token = none;
+      previous_token = None;
       span = line_start 0;
       indent = 0;
       string_mode_stack = [];
@@ -41,8 +40,8 @@ new_token_lexer =
 
 -- the kind of the previous token, by which the Rust's tests of it go; `no_token` is the kind of none
 abbrev pub kind_of : Option Token → ℕ
-kind_of none = no_token
-kind_of (some t) = t.kind
+kind_of None = no_token
+kind_of (Some t) = t.kind
 
 -- what a `consume_*` is given: the fields, and of the stack its `last()` and its length
 abbrev pub view_of : TokenLexer → Lexer
@@ -74,12 +73,12 @@ pub record Given : Type 0 where
 
 -- `Some(result)`, and `self.previous_token = result`
 abbrev pub given : Taken → List ℕ → Given
-given t stack = record { token = some t.token; after = with_fields t.lexer (some t.token) (changed t.change stack) }
+given t stack = record { token = Some t.token; after = with_fields t.lexer (Some t.token) (changed t.change stack) }
 
 -- `match self.source.get(self.current_byte..)`: the characters that are left
 abbrev pub given_at : (ℕ → ℕ) → ℕ → List ℕ → TokenLexer → Given
 -- `_ => None`, and `self.previous_token = result`
-given_at look edition [] x = record { token = none; after = with_fields (view_of x) none x.string_mode_stack }
+given_at look edition [] x = record { token = None; after = with_fields (view_of x) None x.string_mode_stack }
 given_at look edition (c ∷ cs) x = given (take_token look edition (c ∷ cs) (settled (view_of x))) x.string_mode_stack
 
 -- `get_next_token`
@@ -91,8 +90,8 @@ get_next_token look edition s x = given_at look edition (remaining_at s x.curren
 -- `LexedToken`: the token, if there is one, with the bytes, the span and the indent of the state after it, and with the length of
 -- `string_mode_stack` before it (`view_of`), which the Rust does not hand out (document 02, C-4)
 abbrev pub lexed_of : TokenLexer → Option Token → TokenLexer → Option Row
-lexed_of before none after = none
-lexed_of before (some t) after = some (row_of t (view_of before) (view_of after))
+lexed_of before None after = None
+lexed_of before (Some t) after = Some (row_of t (view_of before) (view_of after))
 
 -- `next_token`
 abbrev pub lexed : (ℕ → ℕ) → ℕ → List ℕ → TokenLexer → Option Row
@@ -114,6 +113,6 @@ stream_of look edition s n = handed look edition s n new_token_lexer
 -- the next token is an Error, and no byte is passed
 pub record StandsStill (look : ℕ → ℕ) (edition : ℕ) (s : List ℕ) (x : TokenLexer) : Type 0 where
   pub token : Token
-  pub answered : (get_next_token look edition s x).token ≡ some token
+  pub answered : (get_next_token look edition s x).token ≡ Some token
   pub kind : token.kind ≡ error
   pub byte : (get_next_token look edition s x).after.current_byte.0 ≡ x.current_byte.0

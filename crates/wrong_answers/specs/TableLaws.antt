@@ -30,7 +30,7 @@ use Rattle.lookahead.specs.Seen.{seen_at}
 use Rattle.lookahead.specs.Next as next
 use Rattle.lookahead.specs.Peek as peek
 use Rattle.lookahead.specs.LookAhead.{look_ahead_of}
-use Rattle.lookahead.specs.declared.Peeked.{Peeked}
+use Rattle.lookahead.specs.Peek.{Peeked}
 use Rattle.held.specs.Held as held
 use Rattle.foreign.specs.Check as check
 use Rattle.edit.specs.Edit.{edit_fits}

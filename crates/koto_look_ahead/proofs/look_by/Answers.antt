@@ -7,7 +7,7 @@ use Rattle.layout.specs.declared.Layout.{Layout}
 use Rattle.cursor.specs.declared.Status.{Status}
 use Rattle.cursor.specs.declared.Cursor.{Cursor}
 use Rattle.lookahead.specs.LookAhead.{look_ahead_of}
-use Rattle.lookahead.specs.declared.Peeked.{Peeked}
+use Rattle.lookahead.specs.Peek.{Peeked}
 use Rattle.cursor_numbers.specs.Cursors.{names, cursor_of, look_by}
 use Rattle.cursor_numbers.specs.declared.Named.TheVariants.{As}
 use Rattle.koto_look_ahead.proofs.look_by.Goals as goal

@@ -27,13 +27,13 @@ returns-then-cursor-i c = let f = fit (goal.at.returns-then-cursor-i c).Else-not
 pub shown-requires : goal.shown-requires
 shown-requires c = omega (arith, c.if-cursor-i.false, (fits_of _ _ (fit (goal.at.shown-requires c).Else-not-is_fit)).count)
 
-pub returns-in-Fit : goal.returns-in-Fit
-returns-in-Fit c =
-    let f = fit (goal.at.returns-in-Fit c).Else-not-is_fit in
-    rw c.moved_on.ensures
-    (next_row _ _ _ f (ahead_none _ _ f) c.if-cursor-i.false (sym c.shown.ensures ∙ c.in-Fit.is))
+pub returns-in_default : goal.returns-in_default
+returns-in_default c =
+    let f = fit (goal.at.returns-in_default c).Else-not-is_fit in
+    next_bad _ _ _ f (ahead_none _ _ f) c.if-cursor-i.false (sym c.shown.ensures ∙ c.in_default.is)
 
-pub returns-in-Unfit : goal.returns-in-Unfit
-returns-in-Unfit c =
-    let f = fit (goal.at.returns-in-Unfit c).Else-not-is_fit in
-    next_bad _ _ _ f (ahead_none _ _ f) c.if-cursor-i.false (sym c.shown.ensures ∙ c.in-Unfit.is)
+pub returns : goal.returns
+returns c =
+    let f = fit (goal.at.returns c).Else-not-is_fit in
+    rw c.moved_on.ensures
+    (next_row _ _ _ f (ahead_none _ _ f) c.if-cursor-i.false (sym c.shown.ensures ∙ c.in-Some.is))

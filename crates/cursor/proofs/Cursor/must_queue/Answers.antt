@@ -11,7 +11,7 @@ returns-then-self-n c = sym (search cases)
 
 pub returns-in-End : goal.returns-in-End
 returns-in-End c =
-    must_more _ _ c.if-self-n.false (rw c.left.ensures (more_end _ c.in-End.is))
+    must_more _ _ c.if-self-n.false (rw c.saturating_sub.ensures (more_end _ c.in-End.is))
 
 pub returns-in-Stuck : goal.returns-in-Stuck
 returns-in-Stuck c =
