@@ -5,7 +5,7 @@
 --     settled, settled_kept               a return of `compact`
 --     one_answer                          no second answer and no second rows fit `Compacts`
 -- Assumes nothing.
-use Rattle.std.specs.Prelude.{ℕ, ◌*◌, ◌/◌, ◌≤◌, ◌≡◌, refl, Bool, true, false, List, length, get_or, drop, replicate}
+use Rattle.std.specs.Prelude.{ℕ, ◌*◌, ◌/◌, ◌≤◌, ◌≡◌, refl, Bool, true, false, List, length, get_or, drop, replicate, Result, Err}
 use Rattle.std.proofs.Common.{arith, sym, ap, ◌∙◌}
 use Rattle.base.specs.PickLaws.{by_test}
 use Rattle.pool_rows.specs.Rows.{string_at, byte_room, entry_room}
@@ -21,24 +21,25 @@ use Rattle.slide.specs.SlideLaws.{kept_long, new_most, laid_long, kept_bytes, co
 use Rattle.slide.specs.HeadLaws.{head_long}
 use Rattle.marks.specs.Marks.{is_marked, all_given, good_marks, marked}
 use Rattle.marks.specs.MarksLaws.{marks_say, marks_rest}
-use Rattle.compact.specs.Compact.{counts_after, desks_after, recharged, compacted, Comes, comes, call, Compacts}
+use Rattle.compact.specs.Compact.{counts_after, desks_after, recharged, compacted, keeping, Comes, comes, call, Compacts}
 use Rattle.compact.specs.LaidLaws.{runs_there}
-use Rattle.compact.specs.declared.Compaction.{Compaction}
-use Rattle.compact.specs.declared.Compaction.TheVariants.{Kept, BadMark, BadState}
+use Rattle.compact.specs.declared.Kept.{Kept}
+use Rattle.compact.specs.declared.CompactError.{CompactError}
+use Rattle.compact.specs.declared.CompactError.TheVariants.{BadMark, BadState}
 
 module _ (first second : List ℕ) (s : Shared) (moved : List ℕ) where
-  pub unfit : fit_desks s ≡ false → call first second s moved ≡ comes BadState s moved
+  pub unfit : fit_desks s ≡ false → call first second s moved ≡ comes (Err BadState) s moved
   unfolding call
   unfit e = rw e
 
   module _ (fits : fit_desks s ≡ true) where
-    pub bad_mark_lem : good_marks first second moved s.counts.entries ≡ false → call first second s moved ≡ comes BadMark s moved
+    pub bad_mark_lem : good_marks first second moved s.counts.entries ≡ false → call first second s moved ≡ comes (Err BadMark) s moved
     unfolding call
     bad_mark_lem e = rw (fits, e)
 
     pub fine : good_marks first second moved s.counts.entries ≡ true
         → call first second s moved
-        ≡ comes (Kept (compacted (is_marked first second) s).counts (compacted (is_marked first second) s).desks) (compacted (is_marked first second) s)
+        ≡ comes (keeping (compacted (is_marked first second) s).counts (compacted (is_marked first second) s).desks) (compacted (is_marked first second) s)
         (headed (translated (is_marked first second) s.counts.entries) moved)
     unfolding call
     fine e = rw (fits, e)
@@ -61,7 +62,7 @@ module _ (first second : List ℕ) (s : Shared) (moved : List ℕ) where
       (λ _. refl) (λ _. refl))
       (λ _. refl)
 
-  pub settled : (r : Compaction) → call first second s moved ≡ comes r s moved
+  pub settled : (r : Result Kept CompactError) → call first second s moved ≡ comes r s moved
       → Compacts first second s moved s.bytes s.entries s.owners moved r
   settled r e =
       record {
@@ -77,7 +78,7 @@ module _ (first second : List ℕ) (s : Shared) (moved : List ℕ) where
       → Compacted (is_marked first second) s.counts.entries s.bytes s.entries s.owners moved new_bytes new_entries newOwners newMoved after
       → one ≡ held_by new_entries newOwners (owner_of First) after.entries → two ≡ held_by new_entries newOwners (owner_of Second) after.entries
       → desks ≡ recharged s.desks one two
-      → Compacts first second s moved new_bytes new_entries newOwners newMoved (Kept after desks)
+      → Compacts first second s moved new_bytes new_entries newOwners newMoved (keeping after desks)
   settled_kept new_bytes new_entries newOwners newMoved after one two desks fits good d a b q =
       let e = fine fits good in
       let k = compacted (is_marked first second) s in
@@ -88,7 +89,7 @@ module _ (first second : List ℕ) (s : Shared) (moved : List ℕ) where
       ∙ ap (λ (c : Counts). recharged s.desks (held_by k.entries k.owners 0 k.counts.entries) c) (b ∙ held 1) in
       record {
         answer_is =
-            ap (λ (c : Counts). Kept c desks) d.counts_are ∙ ap (λ (x : Desks). Kept k.counts x) told
+            ap (λ (c : Counts). keeping c desks) d.counts_are ∙ ap (λ (x : Desks). keeping k.counts x) told
             ∙ sym (ap (λ (c : Comes). c.answer) e);
         bytes_left = d.bytes_left ∙ sym (ap (λ (c : Comes). c.state.bytes) e);
         entries_left = d.entries_left ∙ sym (ap (λ (c : Comes). c.state.entries) e);
@@ -160,7 +161,7 @@ left_of_lem keep bytes entries owners moved new_bytes new_entries newOwners newM
     }
 
 pub one_answer : {first second moved new_bytes new_entries newOwners newMoved newBytes' newEntries' newOwners' newMoved' : List ℕ} {s : Shared}
-    {r q : Compaction} → Compacts first second s moved new_bytes new_entries newOwners newMoved r
+    {r q : Result Kept CompactError} → Compacts first second s moved new_bytes new_entries newOwners newMoved r
     → Compacts first second s moved newBytes' newEntries' newOwners' newMoved' q
     → (r ≡ q) × (new_bytes ≡ newBytes') × (new_entries ≡ newEntries') × (newOwners ≡ newOwners') × (newMoved ≡ newMoved')
 one_answer v w = (

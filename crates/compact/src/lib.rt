@@ -15,11 +15,16 @@ ghost use Rattle.compact.specs.Compact.{Compacts, recharged};
 use desks::{Desk, Desks};
 use pool_rows::Counts;
 
-// What a compaction answers.
-#[derive(Clone, Copy)]
-pub enum Compaction {
-    // The counts and both desks after it.
-    Kept { counts: Counts, desks: Desks },
+// What a compaction leaves where nothing is refused: the counts and both desks after it.
+#[derive(Clone, Copy, Debug, PartialEq, Eq)]
+pub struct Kept {
+    pub counts: Counts,
+    pub desks: Desks,
+}
+
+// What a compaction is refused for.
+#[derive(Clone, Copy, Debug, PartialEq, Eq)]
+pub enum CompactError {
     // Refusal 20: a mark is no index that was given, or the translation row is shorter than the count of entries. Its place is 0.
     BadMark,
     // Refusal 8: the pool or its desks are unfit. Its place is 0.
@@ -82,16 +87,16 @@ pub fn compact(
     moved: &mut [u32],
     counts: Counts,
     desks: Desks,
-) -> Compaction
+) -> Result<Kept, CompactError>
     ensures { Compacts first.now second.now
         (shared bytes.old entries.old owners.old counts desks)
         moved.old bytes.new entries.new owners.new moved.new result }
 {
     if !desks::is_fit(bytes, entries, owners, counts, desks) {
-        return Compaction::BadState;
+        return Err(CompactError::BadState);
     }
     if !marks::are_good(first, second, moved, counts.entries as usize) {
-        return Compaction::BadMark;
+        return Err(CompactError::BadMark);
     }
     let after = compact_rows(
         first,
@@ -105,8 +110,8 @@ pub fn compact(
     let n = after.entries as usize;
     let one = desks::held_by(entries, owners, 0, n);
     let two = desks::held_by(entries, owners, 1, n);
-    Compaction::Kept {
+    Ok(Kept {
         counts: after,
         desks: recharge(desks, one, two),
-    }
+    })
 }

@@ -1,14 +1,15 @@
 -- Document 02, C-12: an addition for a desk. A string that is there costs nobody; a new one is charged to the desk that adds it. Refusals 3 or 15,
 -- 8, 13 in this order.
 -- Assumes nothing.
-use Rattle.std.specs.Prelude.{ℕ, ◌+◌, ◌≡◌, List, ltb, length, set}
+use Rattle.std.specs.Prelude.{ℕ, ◌+◌, ◌≡◌, List, ltb, length, set, Result, Err}
 use Rattle.base.specs.Pick.{pick}
 use Rattle.utf8.specs.Chars.{check_from}
 use Rattle.pool_rows.specs.Rows.{strings_of, index_of, byte_room, entry_room}
-use Rattle.pool.specs.Pool.{one_more, placed, on_utf8, is_new, bytes_after, entries_after, counts_after}
+use Rattle.pool.specs.Pool.{one_more, indexed, placed, on_utf8, is_new, bytes_after, entries_after, counts_after}
 use Rattle.pool_rows.specs.declared.Counts.{Counts}
 use Rattle.pool.specs.declared.Added.{Added}
-use Rattle.pool.specs.declared.Added.TheVariants.{Index, BadState, PoolFull}
+use Rattle.pool.specs.declared.AddError.{AddError}
+use Rattle.pool.specs.declared.AddError.TheVariants.{BadState, PoolFull}
 use Rattle.desks.specs.Desks.{Shared, desk_of, other, owner_of, left, common_left, fit_desks, entries_for, bytes_for}
 use Rattle.desks.specs.declared.Desk.{Desk}
 use Rattle.desks.specs.declared.Desks.{Desks}
@@ -17,13 +18,13 @@ use Rattle.desks.specs.declared.Which.TheVariants.{First, Second}
 use Rattle.desk_add.specs.declared.AddedFor.{AddedFor}
 
 -- the answer: that of a pool with so much room as the desk may fill (`PromiseLaws.answer_in_words` has 13 in the document's words)
-unfoldable pub added_for : Which → Shared → List ℕ → Added
+unfoldable pub added_for : Which → Shared → List ℕ → Result Added AddError
 added_for which s string =
     on_utf8 (check_from 0 string)
     (pick (fit_desks s)
     (placed (length string) (index_of string (strings_of s.bytes s.entries s.counts.entries)) s.counts
     (entries_for (entry_room s.entries) which s.desks) (bytes_for (byte_room s.bytes) which s.desks))
-    BadState)
+    (Err BadState))
 
 -- a desk charged with one entry more, of so many bytes
 abbrev pub charged_more : Desk → ℕ → Desk
@@ -34,15 +35,15 @@ with_more First desks long = record { first = charged_more desks.first long; sec
 with_more Second desks long = record { first = desks.first; second = charged_more desks.second long }
 
 -- the desks after an answer: only a new string is charged, and to the desk that added it
-abbrev pub desks_after : List ℕ → Counts → Which → Added → Desks → Desks
+abbrev pub desks_after : List ℕ → Counts → Which → Result Added AddError → Desks → Desks
 desks_after string counts which r desks = pick (is_new counts r) (with_more which desks (length string)) desks
 
 -- the row of owners after an answer: only a new string has a new owner
-abbrev pub owners_after : Counts → Which → Added → List ℕ → List ℕ
+abbrev pub owners_after : Counts → Which → Result Added AddError → List ℕ → List ℕ
 owners_after counts which r owners = pick (is_new counts r) (set owners counts.entries (owner_of which)) owners
 
 -- the shared pool after an answer
-abbrev pub shared_after : Which → Shared → List ℕ → Added → Shared
+abbrev pub shared_after : Which → Shared → List ℕ → Result Added AddError → Shared
 shared_after which s string r =
     record {
       bytes = bytes_after string s.counts r s.bytes;
@@ -84,9 +85,9 @@ free_bytes which s =
     + left mine.guaranteed.bytes mine.charged.bytes
 
 -- the answer for a string of so many bytes that was found at an index, where so many entries and bytes are free
-abbrev pub in_words : ℕ → ℕ → Counts → ℕ → ℕ → Added
+abbrev pub in_words : ℕ → ℕ → Counts → ℕ → ℕ → Result Added AddError
 in_words long found counts entries bytes =
-    pick (ltb found counts.entries) (Index found counts)
-    (pick (ltb entries 1) PoolFull
-    (pick (ltb bytes long) PoolFull
-    (Index counts.entries (one_more counts long))))
+    pick (ltb found counts.entries) (indexed found counts)
+    (pick (ltb entries 1) (Err PoolFull)
+    (pick (ltb bytes long) (Err PoolFull)
+    (indexed counts.entries (one_more counts long))))

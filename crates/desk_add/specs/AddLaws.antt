@@ -1,6 +1,5 @@
 -- Laws of an addition for a desk.
 --     wrong, cut, unfit, fitting      the answer where the string is wrong or cut, or else where the desks are unfit, and where they are fit
---     unwritten, uncounted    a refusal of the state or of the string hands out no new index, and leaves the counts
 --     Counted                 what an answer does to the counts
 --     fills_pool              what is in use does not pass the desk's room
 --     has_room                a new string has room there
@@ -9,18 +8,19 @@
 --     settled                 a return of `add_string`, from its answer
 --     one_answer              no second answer, and no second rows and desks, fit `AddsFor`
 -- Assumes nothing.
-use Rattle.std.specs.Prelude.{ℕ, ◌+◌, ◌*◌, ◌/◌, ◌<◌, ◌≤◌, ◌≡◌, refl, true, false, List, ◌++◌, length, take, drop}
+use Rattle.std.specs.Prelude.{ℕ, ◌+◌, ◌*◌, ◌/◌, ◌<◌, ◌≤◌, ◌≡◌, refl, true, false, List, ◌++◌, length, take, drop, Result, Err}
 use Rattle.std.proofs.Common.{arith, sym, ap, subst, ◌∙◌, eqb-true, eq-eqb}
 use Rattle.base.specs.PickLaws.{by_lt}
 use Rattle.utf8.specs.Chars.{check_from}
 use Rattle.utf8.specs.declared.Utf8Check.{Utf8Check}
 use Rattle.utf8.specs.declared.Utf8Check.TheVariants as utf8
 use Rattle.pool_rows.specs.Rows.{strings_of, index_of, room_most, byte_room, entry_room}
-use Rattle.pool.specs.Pool.{one_more, placed, on_utf8, refusal_at, is_new, bytes_after, entries_after, counts_after, AddsString}
+use Rattle.pool.specs.Pool.{one_more, placed, on_utf8, refused_as, refusal_at, is_new, bytes_after, entries_after, counts_after, AddsString}
 use Rattle.pool_rows.specs.FitLaws as pool
 use Rattle.pool_rows.specs.declared.Counts.{Counts}
 use Rattle.pool.specs.declared.Added.{Added}
-use Rattle.pool.specs.declared.Added.TheVariants.{BadUtf8, CutUtf8, BadState}
+use Rattle.pool.specs.declared.AddError.{AddError}
+use Rattle.pool.specs.declared.AddError.TheVariants.{BadUtf8, CutUtf8, BadState}
 use Rattle.desks.specs.Desks.{Shared, desk_of, entries_for, bytes_for, fit_desks}
 use Rattle.desks.specs.RoomLaws.{Out, out_of, fills, swap}
 use Rattle.desks.specs.FitLaws.{Fit, fit_of}
@@ -30,18 +30,14 @@ use Rattle.desks.specs.declared.Which.{Which}
 use Rattle.desks.specs.declared.Which.TheVariants.{First, Second}
 use Rattle.desk_add.specs.declared.AddedFor.{AddedFor}
 
-pub unwritten : (counts : Counts) (u : Utf8Check) → is_new counts (on_utf8 u BadState) ≡ false
-unwritten counts utf8.Fine = refl
-unwritten counts (utf8.BadAt i) = refl
-unwritten counts (utf8.CutAt i) = refl
-
-pub uncounted : (counts : Counts) (u : Utf8Check) → counts_after counts (on_utf8 u BadState) ≡ counts
-uncounted counts utf8.Fine = refl
-uncounted counts (utf8.BadAt i) = refl
-uncounted counts (utf8.CutAt i) = refl
+-- a refusal of the string, or of the state
+refused_is : (u : Utf8Check) → on_utf8 u (Err BadState) ≡ Err (refused_as u)
+refused_is utf8.Fine = refl
+refused_is (utf8.BadAt i) = refl
+refused_is (utf8.CutAt i) = refl
 
 -- the counts after an answer are those before, or have one string more where its index is new
-abbrev pub Counted : Counts → ℕ → Added → Type 0
+abbrev pub Counted : Counts → ℕ → Result Added AddError → Type 0
 Counted counts long r = (is_new counts r ≡ false → counts_after counts r ≡ counts) × (is_new counts r ≡ true → counts_after counts r ≡ one_more counts long)
 
 counted : (counts : Counts) (u : Utf8Check) (long found re rb : ℕ) → Counted counts long (on_utf8 u (placed long found counts re rb))
@@ -69,7 +65,7 @@ unfolding placed
 has_room counts (utf8.BadAt i) long found re rb e = let z : ◌≡◌ {A = ℕ} 0 1 = cc in absurd (omega arith)
 has_room counts (utf8.CutAt i) long found re rb e = let z : ◌≡◌ {A = ℕ} 0 1 = cc in absurd (omega arith)
 has_room counts utf8.Fine long found re rb e =
-    let Claim : Added → Type 0 = λ r. is_new counts r ≡ true → (counts.bytes + long ≤ rb) × (counts.entries + 1 ≤ re) in
+    let Claim : Result Added AddError → Type 0 = λ r. is_new counts r ≡ true → (counts.bytes + long ≤ rb) × (counts.entries + 1 ≤ re) in
     by_lt Claim found counts.entries
     (λ h f. absurd (omega (arith, eqb-true found counts.entries f)))
     (λ h. by_lt Claim re (counts.entries + 1)
@@ -86,18 +82,18 @@ module _ (s : Shared) (which : Which) where
   rb = bytes_for (byte_room s.bytes) which s.desks
 
   module _ (string : List ℕ) where
-    pub wrong : (i : ℕ) → check_from 0 string ≡ utf8.BadAt i → added_for which s string ≡ BadUtf8 i
+    pub wrong : (i : ℕ) → check_from 0 string ≡ utf8.BadAt i → added_for which s string ≡ Err (BadUtf8 i)
     unfolding added_for
     wrong i e = rw e
 
-    pub cut : (i : ℕ) → check_from 0 string ≡ utf8.CutAt i → added_for which s string ≡ CutUtf8 i
+    pub cut : (i : ℕ) → check_from 0 string ≡ utf8.CutAt i → added_for which s string ≡ Err (CutUtf8 i)
     unfolding added_for
     cut i e = rw e
 
     pub unfit : fit_desks s ≡ false
-        → added_for which s string ≡ refusal_at string
+        → added_for which s string ≡ Err (refusal_at string)
     unfolding added_for
-    unfit e = rw e
+    unfit e = rw e (refused_is (check_from 0 string))
 
     pub fitting : fit_desks s ≡ true
         → added_for which s string
@@ -146,7 +142,7 @@ module _ (s : Shared) (which : Which) where
         )
 
 -- what an addition to the part of the rows says of the rows: n bytes and m entries are lent
-pub record OnParts (string : List ℕ) (which : Which) (s : Shared) (n m : ℕ) (new_bytes new_entries : List ℕ) (r : Added) : Type 0 where
+pub record OnParts (string : List ℕ) (which : Which) (s : Shared) (n m : ℕ) (new_bytes new_entries : List ℕ) (r : Result Added AddError) : Type 0 where
   pub answer : r ≡ added_for which s string
   pub bytes_left : new_bytes ++ drop n s.bytes ≡ bytes_after string s.counts r s.bytes
   pub entries_left : new_entries ++ drop (2 * m) s.entries ≡ entries_after string s.counts r s.entries
@@ -158,7 +154,7 @@ pub record OnParts (string : List ℕ) (which : Which) (s : Shared) (n m : ℕ) 
   pub chargeable : is_new s.counts r ≡ true
       → ((desk_of which s.desks).charged.entries < 4294967295) × ((desk_of which s.desks).charged.bytes + length string ≤ 4294967295)
 
-pub on_parts : (string : List ℕ) (which : Which) (s : Shared) (n m : ℕ) (new_bytes new_entries : List ℕ) (r : Added) → fit_desks s ≡ true
+pub on_parts : (string : List ℕ) (which : Which) (s : Shared) (n m : ℕ) (new_bytes new_entries : List ℕ) (r : Result Added AddError) → fit_desks s ≡ true
     → m ≡ entries_for (entry_room s.entries) which s.desks → n ≡ bytes_for (byte_room s.bytes) which s.desks
     → AddsString string s.counts (take n s.bytes) (take (2 * m) s.entries) new_bytes new_entries r
     → OnParts string which s n m new_bytes new_entries r
@@ -180,11 +176,11 @@ on_parts string which s n m new_bytes new_entries r fits em en a =
     record {
       answer = on ∙ sym (fitting s which string fits ∙ rw (← em, ← en));
       bytes_left =
-          ap (λ (l : List ℕ). l ++ drop n bytes) (a.bytes_left ∙ ap (λ (q : Added). bytes_after string counts q (take n bytes)) (sym a.answer))
+          ap (λ (l : List ℕ). l ++ drop n bytes) (a.bytes_left ∙ ap (λ (q : Result Added AddError). bytes_after string counts q (take n bytes)) (sym a.answer))
           ∙ part_bytes bytes entries counts m n he hb fill string r free;
       entries_left =
           ap (λ (l : List ℕ). l ++ drop (2 * m) entries)
-          (a.entries_left ∙ ap (λ (q : Added). entries_after string counts q (take (2 * m) entries)) (sym a.answer))
+          (a.entries_left ∙ ap (λ (q : Result Added AddError). entries_after string counts q (take (2 * m) entries)) (sym a.answer))
           ∙ part_entries bytes entries counts m n he hb fill string r free;
       counted = subst (Counted counts (length string)) (sym on) (counted counts (check_from 0 string) (length string) found m n);
       free = free;
@@ -204,14 +200,14 @@ pub settled : (string : List ℕ) (which : Which) (s : Shared) (new_bytes new_en
     → new_bytes ≡ (shared_after which s string r.added).bytes → new_entries ≡ (shared_after which s string r.added).entries
     → newOwners ≡ (shared_after which s string r.added).owners → AddsFor string which s new_bytes new_entries newOwners r
 settled string which s new_bytes new_entries newOwners r e c d b n o =
-    let then : (x : Added) → Shared = shared_after which s string in
+    let then : (x : Result Added AddError) → Shared = shared_after which s string in
     record {
       answer = e;
-      counts_left = c ∙ ap (λ (x : Added). (then x).counts) e;
-      desks_left = d ∙ ap (λ (x : Added). (then x).desks) e;
-      bytes_left = b ∙ ap (λ (x : Added). (then x).bytes) e;
-      entries_left = n ∙ ap (λ (x : Added). (then x).entries) e;
-      owners_left = o ∙ ap (λ (x : Added). (then x).owners) e;
+      counts_left = c ∙ ap (λ (x : Result Added AddError). (then x).counts) e;
+      desks_left = d ∙ ap (λ (x : Result Added AddError). (then x).desks) e;
+      bytes_left = b ∙ ap (λ (x : Result Added AddError). (then x).bytes) e;
+      entries_left = n ∙ ap (λ (x : Result Added AddError). (then x).entries) e;
+      owners_left = o ∙ ap (λ (x : Result Added AddError). (then x).owners) e;
     }
 
 pub one_answer : {string new_bytes new_entries newOwners newBytes' newEntries' newOwners' : List ℕ} {which : Which} {s : Shared} {r q : AddedFor}

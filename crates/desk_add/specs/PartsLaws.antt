@@ -3,7 +3,7 @@
 --     part_added                          the answer
 --     part_bytes, part_entries            the rows
 -- Assumes nothing.
-use Rattle.std.specs.Prelude.{ℕ, zero, suc, ◌+◌, ◌*◌, ◌-◌, ◌/◌, ◌<◌, ◌≤◌, ◌≡◌, refl, Bool, true, false, List, [], ◌∷◌, ◌++◌, length, get_or, set, take, drop}
+use Rattle.std.specs.Prelude.{ℕ, zero, suc, ◌+◌, ◌*◌, ◌-◌, ◌/◌, ◌<◌, ◌≤◌, ◌≡◌, refl, Bool, true, false, List, [], ◌∷◌, ◌++◌, length, get_or, set, take, drop, Result}
 use Rattle.std.proofs.Common.{arith, sym, ◌∙◌, append_assoc, length-set, take-append-drop, length-take-le, get_or-take, take-take, le-ltb}
 use Rattle.std.proofs.Math.Path.{ap}
 use Rattle.std.proofs.Math.Seq.{take-nil}
@@ -17,6 +17,7 @@ use Rattle.pool_rows.specs.FitLaws.{room_within, entry_room_lem, Fit, fit_by_lem
 use Rattle.pool.specs.PoolLaws.{placed_same, old_bytes, old_entries, new_bytes_lem, new_entries_lem}
 use Rattle.pool_rows.specs.declared.Counts.{Counts}
 use Rattle.pool.specs.declared.Added.{Added}
+use Rattle.pool.specs.declared.AddError.{AddError}
 
 room_small : (n : ℕ) → n ≤ room_most → room_of n ≡ n
 unfolding room_of
@@ -110,18 +111,18 @@ module _ (bytes entries : List ℕ) (counts : Counts) (re rb : ℕ) where
           }
 
       module _ (string : List ℕ) where
-        abbrev fits : Added
+        abbrev fits : Result Added AddError
         fits = placed (length string) (index_of string (strings_of bytes entries counts.entries)) counts re rb
 
         pub part_added : added string some_bytes some_entries counts ≡ on_utf8 (check_from 0 string) fits
         unfolding added
         part_added =
-            ap (λ (r : Added). on_utf8 (check_from 0 string) r)
+            ap (λ (r : Result Added AddError). on_utf8 (check_from 0 string) r)
             (rw part_fit
             (placed_same (length string) _ _ counts _ _ _ _ (ap (index_of string) part_strings) part_entry_room part_byte_room))
 
         -- where the answer is new, it has room in the part
-        module _ (r : Added) (room : is_new counts r ≡ true → (counts.bytes + length string ≤ rb) × (counts.entries + 1 ≤ re)) where
+        module _ (r : Result Added AddError) (room : is_new counts r ≡ true → (counts.bytes + length string ≤ rb) × (counts.entries + 1 ≤ re)) where
           pub part_bytes : bytes_after string counts r some_bytes ++ drop rb bytes ≡ bytes_after string counts r bytes
           part_bytes =
               go (is_new counts r) refl

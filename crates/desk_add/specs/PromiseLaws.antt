@@ -9,7 +9,7 @@
 --     within_guarantee    a desk that stays within its guarantee is not refused with 13
 --     alone               where the other desk is guaranteed nothing, the pool alone answers so
 -- Assumes nothing.
-use Rattle.std.specs.Prelude.{ℕ, ◌+◌, ◌*◌, ◌<◌, ◌≤◌, refl, true, false, List, [], eqb, length, get_or, set}
+use Rattle.std.specs.Prelude.{ℕ, ◌+◌, ◌*◌, ◌<◌, ◌≤◌, refl, true, false, List, [], eqb, length, get_or, set, Result, Err}
 use Rattle.std.proofs.Common.{arith, add-one, sym, ap, subst, ◌∙◌, length-set, length-append, length-drop, get_or-set_same, get_or-set_other, length-take-le, eq-eqb, ne_eqb}
 use Rattle.std.proofs.Math.Path.{◌≡◌}
 use Rattle.base.specs.Pick.{pick}
@@ -19,14 +19,15 @@ use Rattle.utf8.specs.declared.Utf8Check.{Utf8Check}
 use Rattle.utf8.specs.declared.Utf8Check.TheVariants as utf8
 use Rattle.pool_rows.specs.StringsLaws.{strings_at}
 use Rattle.pool_rows.specs.Rows.{string_at, length_of, strings_of, index_of, byte_room, entry_room, fit_pool}
-use Rattle.pool.specs.Pool.{one_more, placed, on_utf8, added, is_new, written, entered}
+use Rattle.pool.specs.Pool.{one_more, indexed, placed, on_utf8, added, is_new, written, entered}
 use Rattle.pool.specs.Pool.{bytes_after, entries_after, counts_after, Grown}
 use Rattle.pool_rows.specs.FitLaws as pool
 use Rattle.pool.specs.PoolLaws.{placed_there, placed_new, grows, old_bytes, old_entries, new_bytes_lem, new_entries_lem}
 use Rattle.pool.specs.PoolLaws as pools
 use Rattle.pool_rows.specs.declared.Counts.{Counts}
 use Rattle.pool.specs.declared.Added.{Added}
-use Rattle.pool.specs.declared.Added.TheVariants.{Index, BadUtf8, CutUtf8, BadState, PoolFull}
+use Rattle.pool.specs.declared.AddError.{AddError}
+use Rattle.pool.specs.declared.AddError.TheVariants.{BadUtf8, CutUtf8, BadState, PoolFull}
 use Rattle.desks.specs.Desks.{Shared, shared, Fits, owner_of, held_by, desk_of, other, entries_for, bytes_for, entries_shared, bytes_shared}
 use Rattle.desk_add.specs.Add.{free_entries, free_bytes, in_words, added_for, with_more, shared_after, add_for}
 use Rattle.desks.specs.RoomLaws.{Out, out_of, out_by, in_words_lem, owed, takes, swap}
@@ -41,7 +42,7 @@ use Rattle.desks.specs.declared.Which.TheVariants.{First, Second}
 
 -- more room changes no answer that has an index
 wider : (long found : ℕ) (counts : Counts) (e b e' b' : ℕ) (i : ℕ) (after : Counts) → e ≤ e' → b ≤ b'
-    → placed long found counts e b ≡ Index i after → placed long found counts e' b' ≡ Index i after
+    → placed long found counts e b ≡ indexed i after → placed long found counts e' b' ≡ indexed i after
 unfolding placed
 wider long found counts e b e' b' i after he hb =
     by_lt Claim found counts.entries
@@ -52,25 +53,25 @@ wider long found counts e b e' b' i after he hb =
     (λ m q. let z : ◌≡◌ {A = ℕ} 0 1 = cc in absurd (omega arith))
     (λ m q. placed_new long found counts e' b' h (omega arith) (omega arith) ∙ q)))
   where
-    Claim : Added → Type 0
-    Claim r = r ≡ Index i after → placed long found counts e' b' ≡ Index i after
+    Claim : Result Added AddError → Type 0
+    Claim r = r ≡ indexed i after → placed long found counts e' b' ≡ indexed i after
 
 module _ (which : Which) (s : Shared) (string : List ℕ) (f : Fit s) where
   fits : Fits s
   fits = fit_by_lem s f
 
   -- what a desk is given, the pool alone would give
-  pub base_agrees : (i : ℕ) (after : Counts) → added_for which s string ≡ Index i after → added string s.bytes s.entries s.counts ≡ Index i after
+  pub base_agrees : (i : ℕ) (after : Counts) → added_for which s string ≡ indexed i after → added string s.bytes s.entries s.counts ≡ indexed i after
   unfolding added
   base_agrees i after e =
       go (check_from 0 string) (sym (fitting s which string fits) ∙ e)
     where
       go : (u : Utf8Check)
           → on_utf8 u (placed (length string) (index_of string (strings_of s.bytes s.entries s.counts.entries)) s.counts
-          (entries_for (entry_room s.entries) which s.desks) (bytes_for (byte_room s.bytes) which s.desks)) ≡ Index i after
+          (entries_for (entry_room s.entries) which s.desks) (bytes_for (byte_room s.bytes) which s.desks)) ≡ indexed i after
           → on_utf8 u (pick (fit_pool s.bytes s.entries s.counts)
           (placed (length string) (index_of string (strings_of s.bytes s.entries s.counts.entries)) s.counts (entry_room s.entries) (byte_room s.bytes))
-          BadState) ≡ Index i after
+          (Err BadState)) ≡ indexed i after
       go utf8.Fine q =
           rw f.pool_fit
           (wider (length string) _ s.counts _ _ _ _ i after
@@ -80,37 +81,37 @@ module _ (which : Which) (s : Shared) (string : List ℕ) (f : Fit s) where
       go (utf8.CutAt n) q = let z : ◌≡◌ {A = ℕ} 0 1 = cc in absurd (omega arith)
 
   -- so the pool has grown as it does without desks
-  pub strings_after : (i : ℕ) (after : Counts) → added_for which s string ≡ Index i after
+  pub strings_after : (i : ℕ) (after : Counts) → added_for which s string ≡ indexed i after
       → Grown string s.bytes s.entries s.counts (add_for which s string).bytes (add_for which s string).entries i after
   strings_after i after e =
       let a = base_agrees i after e in
-      grows string s.bytes s.entries s.counts (add_for which s string).bytes (add_for which s string).entries (Index i after)
+      grows string s.bytes s.entries s.counts (add_for which s string).bytes (add_for which s string).entries (indexed i after)
       (record {
         answer = sym a;
-        bytes_left = ap (λ (r : Added). bytes_after string s.counts r s.bytes) (e ∙ sym a);
-        entries_left = ap (λ (r : Added). entries_after string s.counts r s.entries) (e ∙ sym a);
+        bytes_left = ap (λ (r : Result Added AddError). bytes_after string s.counts r s.bytes) (e ∙ sym a);
+        entries_left = ap (λ (r : Result Added AddError). entries_after string s.counts r s.entries) (e ∙ sym a);
       }) i after refl
 
   -- an index that had a meaning keeps it
-  pub index_kept : (i : ℕ) (after : Counts) → added_for which s string ≡ Index i after → (k : ℕ) → k < s.counts.entries
+  pub index_kept : (i : ℕ) (after : Counts) → added_for which s string ≡ indexed i after → (k : ℕ) → k < s.counts.entries
       → get_or (strings_of (add_for which s string).bytes (add_for which s string).entries after.entries) k []
       ≡ get_or (strings_of s.bytes s.entries s.counts.entries) k []
   index_kept i after e = pools.index_kept string s.bytes s.entries s.counts _ _ i after (strings_after i after e)
 
-  pub index_shows : (i : ℕ) (after : Counts) → added_for which s string ≡ Index i after
+  pub index_shows : (i : ℕ) (after : Counts) → added_for which s string ≡ indexed i after
       → get_or (strings_of (add_for which s string).bytes (add_for which s string).entries after.entries) i [] ≡ string
   index_shows i after e = pools.index_shows string s.bytes s.entries s.counts _ _ i after (strings_after i after e)
 
 -- ---- within its guarantee a desk has room
 
-placed_full : (long found : ℕ) (counts : Counts) (e b : ℕ) → counts.entries + 1 ≤ e → counts.bytes + long ≤ b → placed long found counts e b ≡ PoolFull → ⊥
+placed_full : (long found : ℕ) (counts : Counts) (e b : ℕ) → counts.entries + 1 ≤ e → counts.bytes + long ≤ b → placed long found counts e b ≡ Err PoolFull → ⊥
 unfolding placed
 placed_full long found counts e b he hb =
-    by_lt (λ (r : Added). r ≡ PoolFull → ⊥) found counts.entries
+    by_lt (λ (r : Result Added AddError). r ≡ Err PoolFull → ⊥) found counts.entries
     (λ h q. let z : ◌≡◌ {A = ℕ} 0 1 = cc in omega arith)
-    (λ h. by_lt (λ (r : Added). r ≡ PoolFull → ⊥) e (counts.entries + 1)
+    (λ h. by_lt (λ (r : Result Added AddError). r ≡ Err PoolFull → ⊥) e (counts.entries + 1)
     (λ l q. omega arith)
-    (λ l. by_lt (λ (r : Added). r ≡ PoolFull → ⊥) b (counts.bytes + long)
+    (λ l. by_lt (λ (r : Result Added AddError). r ≡ Err PoolFull → ⊥) b (counts.bytes + long)
     (λ m q. omega arith)
     (λ m q. let z : ◌≡◌ {A = ℕ} 0 1 = cc in omega arith)))
 
@@ -125,7 +126,7 @@ words_placed long found counts e b entries bytes he hb =
     (λ m. pools.placed_few_bytes long found counts e b h (omega arith) (omega arith))
     (λ m. placed_new long found counts e b h (omega arith) (omega arith))))
   where
-    Claim : Added → Type 0
+    Claim : Result Added AddError → Type 0
     Claim r = placed long found counts e b ≡ r
 
 module _ (s : Shared) (f : Fit s) where
@@ -163,7 +164,7 @@ module _ (s : Shared) (f : Fit s) where
   pub within_guarantee : (which : Which) (string : List ℕ)
       → (desk_of which s.desks).charged.entries + 1 ≤ (desk_of which s.desks).guaranteed.entries
       → (desk_of which s.desks).charged.bytes + length string ≤ (desk_of which s.desks).guaranteed.bytes
-      → added_for which s string ≡ PoolFull → ⊥
+      → added_for which s string ≡ Err PoolFull → ⊥
   within_guarantee which string h k e =
       let r = room_owed which (length string) h k in
       go (check_from 0 string)
@@ -171,7 +172,7 @@ module _ (s : Shared) (f : Fit s) where
       (fit_by_lem s f)) ∙ e)
       (placed_full (length string) _ s.counts _ _ r.0 r.1)
     where
-      go : (u : Utf8Check) {q : Added} → on_utf8 u q ≡ PoolFull → (q ≡ PoolFull → ⊥) → ⊥
+      go : (u : Utf8Check) {q : Result Added AddError} → on_utf8 u q ≡ Err PoolFull → (q ≡ Err PoolFull → ⊥) → ⊥
       go utf8.Fine p n = n p
       go (utf8.BadAt i) p n = let z : ◌≡◌ {A = ℕ} 0 1 = cc in omega arith
       go (utf8.CutAt i) p n = let z : ◌≡◌ {A = ℕ} 0 1 = cc in omega arith
@@ -179,18 +180,18 @@ module _ (s : Shared) (f : Fit s) where
 -- ---- an addition leaves a fit state
 
 -- the answer in a fit state is one that changes nothing, or a new index that has room
-by_placed : (P : Added → Type 0) (long found : ℕ) (counts : Counts) (e b : ℕ)
-    → ((r : Added) → is_new counts r ≡ false → counts_after counts r ≡ counts → P r)
-    → (counts.entries + 1 ≤ e → counts.bytes + long ≤ b → P (Index counts.entries (one_more counts long)))
+by_placed : (P : Result Added AddError → Type 0) (long found : ℕ) (counts : Counts) (e b : ℕ)
+    → ((r : Result Added AddError) → is_new counts r ≡ false → counts_after counts r ≡ counts → P r)
+    → (counts.entries + 1 ≤ e → counts.bytes + long ≤ b → P (indexed counts.entries (one_more counts long)))
     → P (placed long found counts e b)
 unfolding placed
 by_placed P long found counts e b quiet fresh =
     by_lt P found counts.entries
-    (λ h. quiet (Index found counts) (ne_eqb found counts.entries (λ q. omega arith)) refl)
+    (λ h. quiet (indexed found counts) (ne_eqb found counts.entries (λ q. omega arith)) refl)
     (λ h. by_lt P e (counts.entries + 1)
-    (λ l. quiet PoolFull refl refl)
+    (λ l. quiet (Err PoolFull) refl refl)
     (λ l. by_lt P b (counts.bytes + long)
-    (λ m. quiet PoolFull refl refl)
+    (λ m. quiet (Err PoolFull) refl refl)
     (λ m. fresh l m)))
 
 -- the numbers of a row of entries with one more
@@ -241,10 +242,10 @@ module _ (which : Which) (s : Shared) (string : List ℕ) (f : Fit s) where
   abbrev n : ℕ
   n = s.counts.entries
 
-  abbrev FitAfter : Added → Type 0
+  abbrev FitAfter : Result Added AddError → Type 0
   FitAfter r = Fit (shared_after which s string r)
 
-  quiet_fit : (r : Added) → is_new s.counts r ≡ false → counts_after s.counts r ≡ s.counts → FitAfter r
+  quiet_fit : (r : Result Added AddError) → is_new s.counts r ≡ false → counts_after s.counts r ≡ s.counts → FitAfter r
   quiet_fit r e q =
       rw (old_bytes string s.counts r e s.bytes, old_entries string s.counts r e s.entries, e, q) f
 
@@ -267,8 +268,8 @@ module _ (which : Which) (s : Shared) (string : List ℕ) (f : Fit s) where
       let t = takes _ _ _ _ _ _ (swap _ _ _ _ _ _ (bytes_out s f)) (length string) h in
       out_by _ _ _ _ _ _ (swap _ _ _ _ _ _ (record { guarantees_fit = t.0; adds_up = t.1; common_fits = t.2 }))
 
-  abbrev new_index : Added
-  new_index = Index n (one_more s.counts (length string))
+  abbrev new_index : Result Added AddError
+  new_index = indexed n (one_more s.counts (length string))
 
   is_new_lem : is_new s.counts new_index ≡ true
   is_new_lem = eq-eqb n n refl
@@ -316,7 +317,7 @@ module _ (which : Which) (s : Shared) (string : List ℕ) (f : Fit s) where
         let g : fit_pool (bytes_after string s.counts new_index s.bytes) (entries_after string s.counts new_index s.entries)
         (one_more s.counts (length string)) ≡ true =
         subst
-        (λ (r : Added). fit_pool (bytes_after string s.counts r s.bytes) (entries_after string s.counts r s.entries)
+        (λ (r : Result Added AddError). fit_pool (bytes_after string s.counts r s.bytes) (entries_after string s.counts r s.entries)
         (one_more s.counts (length string)) ≡ true)
         e grown.fit in
         let b = new_bytes_lem string s.counts new_index is_new_lem s.bytes in
@@ -324,13 +325,13 @@ module _ (which : Which) (s : Shared) (string : List ℕ) (f : Fit s) where
         rw (b, d, is_new_lem) (fit_then (rw (b, d) at g))
 
   -- the answer where the string is well formed
-  abbrev fine : Added
+  abbrev fine : Result Added AddError
   fine =
       placed (length string) (index_of string (strings_of s.bytes s.entries n)) s.counts
       (entries_for (entry_room s.entries) which s.desks) (bytes_for (byte_room s.bytes) which s.desks)
 
   -- what holds after an answer that changes nothing, and after a new index, holds after the addition
-  pub by_added : (P : Added → Type 0) → ((r : Added) → is_new s.counts r ≡ false → counts_after s.counts r ≡ s.counts → P r)
+  pub by_added : (P : Result Added AddError → Type 0) → ((r : Result Added AddError) → is_new s.counts r ≡ false → counts_after s.counts r ≡ s.counts → P r)
       → (n + 1 ≤ entries_for (entry_room s.entries) which s.desks
       → s.counts.bytes + length string ≤ bytes_for (byte_room s.bytes) which s.desks → added_for which s string ≡ new_index → P new_index)
       → P (added_for which s string)
@@ -339,10 +340,10 @@ module _ (which : Which) (s : Shared) (string : List ℕ) (f : Fit s) where
       subst P (sym e) (go (check_from 0 string) e)
     where
       go : (u : Utf8Check) → added_for which s string ≡ on_utf8 u fine → P (on_utf8 u fine)
-      go (utf8.BadAt i) e = quiet (BadUtf8 i) refl refl
-      go (utf8.CutAt i) e = quiet (CutUtf8 i) refl refl
+      go (utf8.BadAt i) e = quiet (Err (BadUtf8 i)) refl refl
+      go (utf8.CutAt i) e = quiet (Err (CutUtf8 i)) refl refl
       go utf8.Fine e =
-          by_placed (λ (r : Added). added_for which s string ≡ r → P r) (length string) _ s.counts _ _ (λ r q k a. quiet r q k) fresh e
+          by_placed (λ (r : Result Added AddError). added_for which s string ≡ r → P r) (length string) _ s.counts _ _ (λ r q k a. quiet r q k) fresh e
 
   pub fit_kept : FitAfter (added_for which s string)
   fit_kept =
@@ -354,12 +355,12 @@ module _ (which : Which) (s : Shared) (string : List ℕ) (f : Fit s) where
   pub means_same : (k : ℕ) → k < n
       → string_at (add_for which s string).bytes (add_for which s string).entries k ≡ string_at s.bytes s.entries k
   means_same k h =
-      by_added (λ (r : Added). string_at (shared_after which s string r).bytes (shared_after which s string r).entries k ≡ string_at s.bytes s.entries k)
+      by_added (λ (r : Result Added AddError). string_at (shared_after which s string r).bytes (shared_after which s string r).entries k ≡ string_at s.bytes s.entries k)
       (λ r e q. rw (old_bytes string s.counts r e s.bytes, old_entries string s.counts r e s.entries))
       (λ he hb e.
       let t = add_for which s string in
       let z : 0 + k ≡ k = omega arith in
-      subst (λ (r : Added). string_at (shared_after which s string r).bytes (shared_after which s string r).entries k ≡ string_at s.bytes s.entries k) e
+      subst (λ (r : Result Added AddError). string_at (shared_after which s string r).bytes (shared_after which s string r).entries k ≡ string_at s.bytes s.entries k) e
       (rw z at
       (sym (strings_at t.bytes t.entries 0 (n + 1) k (omega arith))
       ∙ index_kept which s string f n (one_more s.counts (length string)) e k h

@@ -9,13 +9,13 @@ ghost use Rattle.desks.specs.Desks.{shared, desk_of};
 ghost use Rattle.desk_add.specs.Add.{charged_more, with_more, AddsFor};
 
 use desks::{Desk, Desks, Which};
-use pool::Added;
+use pool::{AddError, Added};
 use pool_rows::Counts;
 
 // What adding a string for a desk answers, with the counts and both desks after it.
-#[derive(Clone, Copy)]
+#[derive(Clone, Copy, Debug, PartialEq, Eq)]
 pub struct AddedFor {
-    pub added: Added,
+    pub added: Result<Added, AddError>,
     pub counts: Counts,
     pub desks: Desks,
 }
@@ -69,7 +69,7 @@ pub fn add_string(
 {
     if !desks::is_fit(bytes, entries, owners, counts, desks) {
         return AddedFor {
-            added: pool::refusal_of(string),
+            added: Err(pool::refusal_of(string)),
             counts,
             desks,
         };

@@ -4,7 +4,7 @@
 --     no_pool, no_owners, no_charge, no_charge_2, no_entries, rest_is     `is_fit`: its tests in their order
 --     charge_is, entries_are, bytes_are                                   what its calls say
 -- Assumes nothing.
-use Rattle.std.specs.Prelude.{ℕ, ◌*◌, ◌/◌, ◌<◌, ◌≤◌, refl, Bool, false, List, length}
+use Rattle.std.specs.Prelude.{ℕ, ◌*◌, ◌/◌, ◌<◌, ◌≤◌, refl, Bool, false, not, ◌&&◌, eqb, List, length}
 use Rattle.std.proofs.Common.{arith, sym, ap, ◌∙◌}
 use Rattle.std.proofs.Math.Path.{◌≡◌}
 use Rattle.std.proofs.Math.Bool.{true}
@@ -111,8 +111,13 @@ module _ (s : Shared) where
 
 -- ---- what the calls of `is_fit` say
 
-pub charge_is : (a h b : Counts) {r : Bool} → h ≡ b → r ≡ same_counts a h → same_counts a b ≡ r
-charge_is a h b e f = ap (same_counts a) (sym e) ∙ sym f
+pub charge_is : (a h b : Counts) {r : Bool} → h ≡ b → r ≡ not (eqb a.entries h.entries && eqb a.bytes h.bytes) → same_counts a b ≡ not r
+charge_is a h b e f = ap (same_counts a) (sym e) ∙ go (eqb a.entries h.entries) (eqb a.bytes h.bytes) ∙ ap not (sym f)
+  where
+    go : (s t : Bool) → pick s t false ≡ not (not (s && t))
+    go true true = refl
+    go true false = refl
+    go false t = refl
 
 module _ (room room' : ℕ) (counts : Counts) (first second : Desk) where
   abbrev desks : Desks

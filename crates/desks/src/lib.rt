@@ -7,27 +7,27 @@
 ghost use Rattle.std.specs.Prelude.{◌≡◌, ◌+◌, ◌*◌, ◌-◌, ◌≤◌, ◌<◌, length, eqb};
 ghost use Rattle.base.specs.Pick.{pick};
 ghost use Rattle.pool.specs.Pool.{one_more};
-ghost use Rattle.desks.specs.Desks.{shared, desk_of, other, owner_of, held_by, same_counts, shared_out, entries_shared, bytes_shared, fit_desks, room_for};
+ghost use Rattle.desks.specs.Desks.{shared, desk_of, other, owner_of, held_by, shared_out, entries_shared, bytes_shared, fit_desks, room_for};
 ghost use Rattle.desks.specs.SpentLaws.{spent};
 
 use pool_rows::Counts;
 
 // What a desk is guaranteed, and what it is charged.
-#[derive(Clone, Copy)]
+#[derive(Clone, Copy, Debug, PartialEq, Eq)]
 pub struct Desk {
     pub guaranteed: Counts,
     pub charged: Counts,
 }
 
 // Both desks.
-#[derive(Clone, Copy)]
+#[derive(Clone, Copy, Debug, PartialEq, Eq)]
 pub struct Desks {
     pub first: Desk,
     pub second: Desk,
 }
 
 // One of the two.
-#[derive(Clone, Copy)]
+#[derive(Clone, Copy, Debug, PartialEq, Eq)]
 pub enum Which {
     First,
     Second,
@@ -76,35 +76,13 @@ pub fn held_by(entries: &[u32], owners: &[u8], owner: u8, n: usize) -> Counts
         entries: 0,
         bytes: 0,
     };
-    let mut i = 0;
-    while i < n {
+    for i in 0..n {
         held = one_held(held, owners[i], owner, entries[2 * i + 1]);
-        i += 1;
     }
     held
 }
 
-// Whether two counts are the same.
-fn is_same(a: Counts, b: Counts) -> bool
-    ensures { result ≡ same_counts a b }
-{
-    if a.entries == b.entries {
-        return a.bytes == b.bytes;
-    }
-    false
-}
-
 // ---- room
-
-// By how much a number is over another; 0 where it is not.
-fn over(a: u32, b: u32) -> u32
-    ensures { result ≡ a - b }
-{
-    if a < b {
-        return 0;
-    }
-    a - b
-}
 
 // Whether two desks with guarantees g and h and charges c and d share a room of which so much is in use.
 fn is_shared_out(room: u32, count: u32, g: u32, c: u32, h: u32, d: u32) -> bool
@@ -115,11 +93,8 @@ fn is_shared_out(room: u32, count: u32, g: u32, c: u32, h: u32, d: u32) -> bool
         return false;
     }
     if c as u64 + d as u64 == count as u64 {
-        let beyond = over(c, g) as u64 + over(d, h) as u64;
-        if room as u64 - owed < beyond {
-            return false;
-        }
-        return true;
+        let beyond = c.saturating_sub(g) as u64 + d.saturating_sub(h) as u64;
+        return beyond <= room as u64 - owed;
     }
     false
 }
@@ -168,10 +143,10 @@ pub fn is_fit(bytes: &[u8], entries: &[u32], owners: &[u8], counts: Counts, desk
     let n = counts.entries as usize;
     let first = desks.first;
     let second = desks.second;
-    if !is_same(first.charged, held_by(entries, owners, 0, n)) {
+    if first.charged != held_by(entries, owners, 0, n) {
         return false;
     }
-    if !is_same(second.charged, held_by(entries, owners, 1, n)) {
+    if second.charged != held_by(entries, owners, 1, n) {
         return false;
     }
     if !are_entries_shared(entry_room, counts, first, second) {
@@ -200,7 +175,7 @@ pub fn room_for(entry_room: u32, byte_room: u32, which: Which, desks: Desks) -> 
     let owed = other.guaranteed;
     let has = other.charged;
     Counts {
-        entries: over(entry_room, over(owed.entries, has.entries)),
-        bytes: over(byte_room, over(owed.bytes, has.bytes)),
+        entries: entry_room.saturating_sub(owed.entries.saturating_sub(has.entries)),
+        bytes: byte_room.saturating_sub(owed.bytes.saturating_sub(has.bytes)),
     }
 }

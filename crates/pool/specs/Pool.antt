@@ -1,7 +1,7 @@
 -- Document 01, "Format options and pool" and "Refusal numbers" (3, 8, 13): the string side of koto's constant pool, `add_string` of
 -- constant_pool.rs, over the rows of the crate `pool_rows`.
 -- Assumes nothing.
-use Rattle.std.specs.Prelude.{ℕ, ◌+◌, ◌*◌, ◌≡◌, List, ◌++◌, Bool, true, false, eqb, ltb, length, set, take, drop, Result, Ok, Err}
+use Rattle.std.specs.Prelude.{ℕ, ◌+◌, ◌*◌, ◌≡◌, List, ◌++◌, Bool, true, false, Result, Ok, Err, eqb, ltb, length, set, take, drop}
 use Rattle.base.specs.Pick.{pick}
 use Rattle.base.specs.Refusal.{none, bad_utf8, cut_utf8, bad_state, pool_full}
 use Rattle.utf8.specs.Chars.{check_from}
@@ -10,7 +10,8 @@ use Rattle.utf8.specs.declared.Utf8Error.TheVariants as utf8
 use Rattle.pool_rows.specs.Rows.{with_string, index_of, strings_of, byte_room, entry_room, fit_pool}
 use Rattle.pool_rows.specs.declared.Counts.{Counts}
 use Rattle.pool.specs.declared.Added.{Added}
-use Rattle.pool.specs.declared.Added.TheVariants.{Index, BadUtf8, CutUtf8, BadState, PoolFull}
+use Rattle.pool.specs.declared.AddError.{AddError}
+use Rattle.pool.specs.declared.AddError.TheVariants.{BadUtf8, CutUtf8, BadState, PoolFull}
 
 -- ---- an addition
 
@@ -18,42 +19,48 @@ use Rattle.pool.specs.declared.Added.TheVariants.{Index, BadUtf8, CutUtf8, BadSt
 abbrev pub one_more : Counts → ℕ → Counts
 one_more counts long = record { entries = counts.entries + 1; bytes = counts.bytes + long }
 
+-- an index, and the counts after the addition
+abbrev pub indexed : ℕ → Counts → Result Added AddError
+indexed index after = Ok (record { index = index; counts = after })
+
 -- the answer in a fit pool, for a string of so many bytes whose index among the pool's strings is `found`; room goes in as two numbers
-unfoldable pub placed : ℕ → ℕ → Counts → ℕ → ℕ → Added
+unfoldable pub placed : ℕ → ℕ → Counts → ℕ → ℕ → Result Added AddError
 placed long found counts forEntries forBytes =
-    pick (ltb found counts.entries) (Index found counts)
-    (pick (ltb forEntries (counts.entries + 1)) PoolFull
-    (pick (ltb forBytes (counts.bytes + long)) PoolFull
-    (Index counts.entries (one_more counts long))))
+    pick (ltb found counts.entries) (indexed found counts)
+    (pick (ltb forEntries (counts.entries + 1)) (Err PoolFull)
+    (pick (ltb forBytes (counts.bytes + long)) (Err PoolFull)
+    (indexed counts.entries (one_more counts long))))
 
 -- the answer where the bytes are well formed; wrong bytes are 3, and bytes that the end cuts are 15
-abbrev pub on_utf8 : Result (Unit {0}) Utf8Error → Added → Added
+abbrev pub on_utf8 : Result (Unit {0}) Utf8Error → Result Added AddError → Result Added AddError
 on_utf8 (Ok _) r = r
-on_utf8 (Err (utf8.BadAt i)) r = BadUtf8 i
-on_utf8 (Err (utf8.CutAt i)) r = CutUtf8 i
+on_utf8 (Err (utf8.BadAt i)) r = Err (BadUtf8 i)
+on_utf8 (Err (utf8.CutAt i)) r = Err (CutUtf8 i)
 
 -- the answer for a string and a pool that is fit
-abbrev pub added_to_fit : List ℕ → List ℕ → List ℕ → Counts → Added
+abbrev pub added_to_fit : List ℕ → List ℕ → List ℕ → Counts → Result Added AddError
 added_to_fit string bytes entries counts =
     placed (length string) (index_of string (strings_of bytes entries counts.entries)) counts (entry_room entries) (byte_room bytes)
 
 -- the answer: refusals 3 or 15, 8, 13 in this order
-unfoldable pub added : List ℕ → List ℕ → List ℕ → Counts → Added
+unfoldable pub added : List ℕ → List ℕ → List ℕ → Counts → Result Added AddError
 added string bytes entries counts =
     on_utf8 (check_from 0 string)
-    (pick (fit_pool bytes entries counts) (added_to_fit string bytes entries counts) BadState)
+    (pick (fit_pool bytes entries counts) (added_to_fit string bytes entries counts) (Err BadState))
 
 -- what is refused before an addition, where something is
-abbrev pub refusal_at : List ℕ → Added
-refusal_at string = on_utf8 (check_from 0 string) BadState
+abbrev pub refused_as : Utf8Check → AddError
+refused_as utf8.Fine = BadState
+refused_as (utf8.BadAt i) = BadUtf8 i
+refused_as (utf8.CutAt i) = CutUtf8 i
+
+abbrev pub refusal_at : List ℕ → AddError
+refusal_at string = refused_as (check_from 0 string)
 
 -- whether an answer hands out an index that no string had before
-abbrev pub is_new : Counts → Added → Bool
-is_new counts (Index index after) = eqb index counts.entries
-is_new counts (BadUtf8 place) = false
-is_new counts (CutUtf8 place) = false
-is_new counts BadState = false
-is_new counts PoolFull = false
+abbrev pub is_new : Counts → Result Added AddError → Bool
+is_new counts (Ok added) = eqb added.index counts.entries
+is_new counts (Err e) = false
 
 -- a row of bytes with a string written into it from a byte on
 abbrev pub written : List ℕ → ℕ → List ℕ → List ℕ
@@ -64,21 +71,21 @@ abbrev pub entered : List ℕ → ℕ → ℕ → ℕ → List ℕ
 entered entries n start long = set (set entries (2 * n) start) (2 * n + 1) long
 
 -- the row of bytes after an answer: a new string stands behind those in use, and all else stays
-unfoldable pub bytes_after : List ℕ → Counts → Added → List ℕ → List ℕ
+unfoldable pub bytes_after : List ℕ → Counts → Result Added AddError → List ℕ → List ℕ
 bytes_after string counts r bytes = pick (is_new counts r) (written bytes counts.bytes string) bytes
 
 -- the row of entries after an answer: a new string's start and length stand behind those in use, and all else stays
-unfoldable pub entries_after : List ℕ → Counts → Added → List ℕ → List ℕ
+unfoldable pub entries_after : List ℕ → Counts → Result Added AddError → List ℕ → List ℕ
 entries_after string counts r entries = pick (is_new counts r) (entered entries counts.entries counts.bytes (length string)) entries
 
 -- what `add_to_fit` ensures, for a string that is well formed and a pool that is fit: its answer r, and the rows that it leaves
-pub record AddsToFit (string : List ℕ) (counts : Counts) (bytes entries new_bytes new_entries : List ℕ) (r : Added) : Type 0 where
+pub record AddsToFit (string : List ℕ) (counts : Counts) (bytes entries new_bytes new_entries : List ℕ) (r : Result Added AddError) : Type 0 where
   pub answer : r ≡ added_to_fit string bytes entries counts
   pub bytes_left : new_bytes ≡ bytes_after string counts r bytes
   pub entries_left : new_entries ≡ entries_after string counts r entries
 
 -- what `add_string` ensures: its answer r, and the rows that it leaves
-pub record AddsString (string : List ℕ) (counts : Counts) (bytes entries new_bytes new_entries : List ℕ) (r : Added) : Type 0 where
+pub record AddsString (string : List ℕ) (counts : Counts) (bytes entries new_bytes new_entries : List ℕ) (r : Result Added AddError) : Type 0 where
   pub answer : r ≡ added string bytes entries counts
   pub bytes_left : new_bytes ≡ bytes_after string counts (added string bytes entries counts) bytes
   pub entries_left : new_entries ≡ entries_after string counts (added string bytes entries counts) entries
@@ -93,33 +100,27 @@ pub record Grown (string bytes entries : List ℕ) (counts : Counts) (new_bytes 
 
 -- ---- the documents' numbers of an answer
 
-abbrev pub number_of : Added → ℕ
-number_of (Index index after) = none
-number_of (BadUtf8 place) = bad_utf8
-number_of (CutUtf8 place) = cut_utf8
-number_of BadState = bad_state
-number_of PoolFull = pool_full
+abbrev pub number_of : Result Added AddError → ℕ
+number_of (Ok added) = none
+number_of (Err (BadUtf8 place)) = bad_utf8
+number_of (Err (CutUtf8 place)) = cut_utf8
+number_of (Err BadState) = bad_state
+number_of (Err PoolFull) = pool_full
 
 -- the refusal's place; 0 where there is none
-abbrev pub place_of : Added → ℕ
-place_of (Index index after) = 0
-place_of (BadUtf8 place) = place
-place_of (CutUtf8 place) = place
-place_of BadState = 0
-place_of PoolFull = 0
+abbrev pub place_of : Result Added AddError → ℕ
+place_of (Ok added) = 0
+place_of (Err (BadUtf8 place)) = place
+place_of (Err (CutUtf8 place)) = place
+place_of (Err BadState) = 0
+place_of (Err PoolFull) = 0
 
 -- the string's index; 0 on a refusal
-abbrev pub added_index : Added → ℕ
-added_index (Index index after) = index
-added_index (BadUtf8 place) = 0
-added_index (CutUtf8 place) = 0
-added_index BadState = 0
-added_index PoolFull = 0
+abbrev pub added_index : Result Added AddError → ℕ
+added_index (Ok added) = added.index
+added_index (Err e) = 0
 
 -- the pool's counts after an answer: a refusal leaves them
-abbrev pub counts_after : Counts → Added → Counts
-counts_after counts (Index index after) = after
-counts_after counts (BadUtf8 place) = counts
-counts_after counts (CutUtf8 place) = counts
-counts_after counts BadState = counts
-counts_after counts PoolFull = counts
+abbrev pub counts_after : Counts → Result Added AddError → Counts
+counts_after counts (Ok added) = added.counts
+counts_after counts (Err e) = counts

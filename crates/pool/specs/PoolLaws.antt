@@ -10,7 +10,7 @@
 --     added_again                 a string that was added is there: adding it again answers the same
 --     one_answer                  no second answer and no second rows fit `AddsString`
 -- Assumes nothing.
-use Rattle.std.specs.Prelude.{ℕ, suc, ◌+◌, ◌*◌, ◌<◌, ◌≤◌, ◌≡◌, true, false, List, [], ◌++◌, get_or, set, take, drop, Result, Ok, Err}
+use Rattle.std.specs.Prelude.{ℕ, suc, ◌+◌, ◌*◌, ◌<◌, ◌≤◌, ◌≡◌, true, false, Result, Ok, Err, List, [], ◌++◌, get_or, set, take, drop}
 use Rattle.std.proofs.Common.{arith, add-one, sym, ap, subst, ◌∙◌, length-append, length-drop, length-set, take-append-drop, take_at, drop_at, get_or-set_same, get_or-set_other, length-take-le}
 use Rattle.std.proofs.Math.Path.{refl}
 use Rattle.std.proofs.Math.ListN.{length}
@@ -25,13 +25,14 @@ use Rattle.utf8.specs.CharsLaws.{fine_of_well}
 use Rattle.utf8.specs.declared.Utf8Error.{Utf8Error}
 use Rattle.utf8.specs.declared.Utf8Error.TheVariants as utf8
 use Rattle.pool_rows.specs.Rows.{start_of, length_of, string_at, strings_of, index_of, room_most, byte_room, entry_room, runs_to, fit_pool}
-use Rattle.pool.specs.Pool.{one_more, placed, on_utf8, added_to_fit, added, is_new, written, entered, bytes_after, entries_after}
+use Rattle.pool.specs.Pool.{one_more, indexed, placed, on_utf8, added_to_fit, added, is_new, written, entered, bytes_after, entries_after}
 use Rattle.pool.specs.Pool.{AddsToFit, AddsString, Grown, number_of}
 use Rattle.pool_rows.specs.StringsLaws.{index_most, kept_with, shown_with_lem, index_with, strings_long, strings_more, strings_same}
 use Rattle.pool_rows.specs.FitLaws.{room_within, entry_room_lem, Fit, fit_of, fit_by_lem, runs_more, runs_same, within}
 use Rattle.pool_rows.specs.declared.Counts.{Counts}
 use Rattle.pool.specs.declared.Added.{Added}
-use Rattle.pool.specs.declared.Added.TheVariants.{Index, BadUtf8, CutUtf8, BadState, PoolFull}
+use Rattle.pool.specs.declared.AddError.{AddError}
+use Rattle.pool.specs.declared.AddError.TheVariants.{BadUtf8, CutUtf8, BadState, PoolFull}
 
 -- ---- what an addition makes of a pool
 
@@ -144,17 +145,17 @@ module _ (string bytes entries : List ℕ) (counts : Counts) (f : Fit entries co
 
 -- the answer in a fit pool: the string is there; no entry is free; too few bytes are free; it is put in
 module _ (long found : ℕ) (counts : Counts) (forEntries forBytes : ℕ) where
-  pub placed_there : found < counts.entries → placed long found counts forEntries forBytes ≡ Index found counts
+  pub placed_there : found < counts.entries → placed long found counts forEntries forBytes ≡ indexed found counts
   unfolding placed
   placed_there h = rw (lt-ltb found counts.entries h)
 
   module _ (absent : counts.entries ≤ found) where
-    pub placed_no_entry : forEntries ≤ counts.entries → placed long found counts forEntries forBytes ≡ PoolFull
+    pub placed_no_entry : forEntries ≤ counts.entries → placed long found counts forEntries forBytes ≡ Err PoolFull
     unfolding placed
     placed_no_entry h = rw (le-ltb found counts.entries absent, lt-ltb forEntries (counts.entries + 1) (omega arith))
 
     module _ (free : counts.entries < forEntries) where
-      pub placed_few_bytes : forBytes < counts.bytes + long → placed long found counts forEntries forBytes ≡ PoolFull
+      pub placed_few_bytes : forBytes < counts.bytes + long → placed long found counts forEntries forBytes ≡ Err PoolFull
       unfolding placed
       placed_few_bytes h =
           rw (
@@ -164,7 +165,7 @@ module _ (long found : ℕ) (counts : Counts) (forEntries forBytes : ℕ) where
           )
 
       pub placed_new : counts.bytes + long ≤ forBytes
-          → placed long found counts forEntries forBytes ≡ Index counts.entries (one_more counts long)
+          → placed long found counts forEntries forBytes ≡ indexed counts.entries (one_more counts long)
       unfolding placed
       placed_new h =
           rw (
@@ -179,7 +180,7 @@ pub placed_same : (long found found' : ℕ) (counts : Counts) (forEntries forEnt
 placed_same long found found' counts forEntries forEntries' forBytes forBytes' e f g = rw (e, f, g)
 
 -- the rows after an answer that hands out no new index, and after one that does
-module _ (string : List ℕ) (counts : Counts) (r : Added) where
+module _ (string : List ℕ) (counts : Counts) (r : Result Added AddError) where
   pub old_bytes : is_new counts r ≡ false → (bytes : List ℕ) → bytes_after string counts r bytes ≡ bytes
   unfolding bytes_after
   old_bytes e bytes = rw e
@@ -209,7 +210,7 @@ pub new_has_room : (string bytes entries : List ℕ) (counts : Counts) → is_ne
 unfolding placed
 new_has_room string bytes entries counts =
     let found = index_of string (strings_of bytes entries counts.entries) in
-    let Claim : Added → Type 0 = λ r. is_new counts r ≡ true → HasRoom string bytes entries counts in
+    let Claim : Result Added AddError → Type 0 = λ r. is_new counts r ≡ true → HasRoom string bytes entries counts in
     by_lt Claim found counts.entries
     (λ h e. absurd (omega (arith, eqb-true found counts.entries e)))
     (λ h. by_lt Claim (entry_room entries) (counts.entries + 1)
@@ -228,15 +229,15 @@ module _ (string bytes entries : List ℕ) (counts : Counts) where
   found = index_of string (strings_of bytes entries counts.entries)
 
   -- the answer, from what the check of the string says and from whether the pool is fit
-  pub wrong : (i : ℕ) → check_from 0 string ≡ Err (utf8.BadAt i) → added string bytes entries counts ≡ BadUtf8 i
+  pub wrong : (i : ℕ) → check_from 0 string ≡ Err (utf8.BadAt i) → added string bytes entries counts ≡ Err (BadUtf8 i)
   unfolding added
   wrong i e = rw e
 
-  pub cut : (i : ℕ) → check_from 0 string ≡ Err (utf8.CutAt i) → added string bytes entries counts ≡ CutUtf8 i
+  pub cut : (i : ℕ) → check_from 0 string ≡ Err (utf8.CutAt i) → added string bytes entries counts ≡ Err (CutUtf8 i)
   unfolding added
   cut i e = rw e
 
-  pub unfit : check_from 0 string ≡ Ok tt → fit_pool bytes entries counts ≡ false → added string bytes entries counts ≡ BadState
+  pub unfit : check_from 0 string ≡ Ok tt → fit_pool bytes entries counts ≡ false → added string bytes entries counts ≡ Err BadState
   unfolding added
   unfit e f = rw (e, f)
 
@@ -246,25 +247,22 @@ module _ (string bytes entries : List ℕ) (counts : Counts) where
   unrefused e f = rw (e, f)
 
   -- an addition by what it answered, and one of a string and to a pool that both are fine
-  pub settled : {new_bytes new_entries : List ℕ} {r : Added} → r ≡ added string bytes entries counts → new_bytes ≡ bytes_after string counts r bytes
+  pub settled : {new_bytes new_entries : List ℕ} {r : Result Added AddError} → r ≡ added string bytes entries counts → new_bytes ≡ bytes_after string counts r bytes
       → new_entries ≡ entries_after string counts r entries → AddsString string counts bytes entries new_bytes new_entries r
   settled e f g = record { answer = e; bytes_left = rw (sym e) f; entries_left = rw (sym e) g }
 
-  pub adds_fine : check_from 0 string ≡ Ok tt → fit_pool bytes entries counts ≡ true → {new_bytes new_entries : List ℕ} {r : Added}
+  pub adds_fine : check_from 0 string ≡ Ok tt → fit_pool bytes entries counts ≡ true → {new_bytes new_entries : List ℕ} {r : Result Added AddError}
       → AddsToFit string counts bytes entries new_bytes new_entries r → AddsString string counts bytes entries new_bytes new_entries r
   adds_fine w f a = settled (a.answer ∙ sym (unrefused w f)) a.bytes_left a.entries_left
 
   -- what an index answered says of the rows
-  abbrev Leaves : Added → Type 0
-  Leaves (Index index after) =
+  abbrev Leaves : Result Added AddError → Type 0
+  Leaves (Ok added) =
       Grown string bytes entries counts
-      (bytes_after string counts (Index index after) bytes)
-      (entries_after string counts (Index index after) entries)
-      index after
-  Leaves (BadUtf8 place) = Unit {0}
-  Leaves (CutUtf8 place) = Unit {0}
-  Leaves BadState = Unit {0}
-  Leaves PoolFull = Unit {0}
+      (bytes_after string counts (Ok added) bytes)
+      (entries_after string counts (Ok added) entries)
+      added.index added.counts
+  Leaves (Err e) = Unit {0}
 
   leaves_placed : Fit entries counts (entry_room entries) (byte_room bytes) → Leaves (added_to_fit string bytes entries counts)
   unfolding placed
@@ -272,12 +270,12 @@ module _ (string bytes entries : List ℕ) (counts : Counts) where
       by_lt Leaves found counts.entries
       (λ h.
       let e = ne_eqb found counts.entries (λ q. omega arith) in
-      rw (old_bytes string counts (Index found counts) e bytes, old_entries string counts (Index found counts) e entries)
+      rw (old_bytes string counts (indexed found counts) e bytes, old_entries string counts (indexed found counts) e entries)
       (grown_none string bytes entries counts f h))
       (λ h. by_lt Leaves (entry_room entries) (counts.entries + 1) (λ l. tt)
       (λ l. by_lt Leaves (byte_room bytes) (counts.bytes + length string) (λ m. tt)
       (λ m.
-      let r = Index counts.entries (one_more counts (length string)) in
+      let r = indexed counts.entries (one_more counts (length string)) in
       let e = eq-eqb counts.entries counts.entries refl in
       rw (new_bytes_lem string counts r e bytes, new_entries_lem string counts r e entries) (grown_one string bytes entries counts f l m h))))
 
@@ -285,7 +283,7 @@ module _ (string bytes entries : List ℕ) (counts : Counts) where
   unfolding added
   leaves = go (check_from 0 string)
     where
-      go : (u : Result (Unit {0}) Utf8Error) → Leaves (on_utf8 u (pick (fit_pool bytes entries counts) (added_to_fit string bytes entries counts) BadState))
+      go : (u : Result (Unit {0}) Utf8Error) → Leaves (on_utf8 u (pick (fit_pool bytes entries counts) (added_to_fit string bytes entries counts) (Err BadState)))
       go (Ok _) =
           by_test Leaves (fit_pool bytes entries counts)
           (λ e. leaves_placed (fit_of entries counts (entry_room entries) (byte_room bytes) e))
@@ -293,11 +291,11 @@ module _ (string bytes entries : List ℕ) (counts : Counts) where
       go (Err (utf8.BadAt i)) = tt
       go (Err (utf8.CutAt i)) = tt
 
-  module _ (new_bytes new_entries : List ℕ) (r : Added) (p : AddsString string counts bytes entries new_bytes new_entries r) where
+  module _ (new_bytes new_entries : List ℕ) (r : Result Added AddError) (p : AddsString string counts bytes entries new_bytes new_entries r) where
     -- an index answered: the pool is fit again, and its strings are those before, with this one at their end where it was absent
-    pub grows : (index : ℕ) (after : Counts) → r ≡ Index index after → Grown string bytes entries counts new_bytes new_entries index after
+    pub grows : (index : ℕ) (after : Counts) → r ≡ indexed index after → Grown string bytes entries counts new_bytes new_entries index after
     grows index after e =
-        let a : added string bytes entries counts ≡ Index index after = sym p.answer ∙ e in
+        let a : added string bytes entries counts ≡ indexed index after = sym p.answer ∙ e in
         let g = subst Leaves a leaves in
         rw (p.bytes_left, p.entries_left, a) g
 
@@ -309,9 +307,9 @@ module _ (string bytes entries : List ℕ) (counts : Counts) where
 
     -- a string that is there costs nothing
     pub there_costs_nothing : WellFormed string → fit_pool bytes entries counts ≡ true → found < counts.entries
-        → (r ≡ Index found counts) × (new_bytes ≡ bytes) × (new_entries ≡ entries)
+        → (r ≡ indexed found counts) × (new_bytes ≡ bytes) × (new_entries ≡ entries)
     there_costs_nothing w f h =
-        let e : r ≡ Index found counts =
+        let e : r ≡ indexed found counts =
         p.answer
         ∙ unrefused (fine_of_well 0 string w) f
         ∙ placed_there (length string) found counts (entry_room entries) (byte_room bytes) h in
@@ -321,12 +319,9 @@ module _ (string bytes entries : List ℕ) (counts : Counts) where
     pub refused_writes_nothing : (number_of r ≡ none → ⊥) → (new_bytes ≡ bytes) × (new_entries ≡ entries)
     refused_writes_nothing h = unwritten (go r h)
       where
-        go : (q : Added) → (number_of q ≡ none → ⊥) → is_new counts q ≡ false
-        go (Index index after) k = absurd (k refl)
-        go (BadUtf8 place) k = refl
-        go (CutUtf8 place) k = refl
-        go BadState k = refl
-        go PoolFull k = refl
+        go : (q : Result Added AddError) → (number_of q ≡ none → ⊥) → is_new counts q ≡ false
+        go (Ok added) k = absurd (k refl)
+        go (Err e) k = refl
 
 -- no addition changes what an index means, and the string stands at the index answered
 module _
@@ -342,22 +337,22 @@ module _
   index_shows = rw (g.strings, g.index_is) (shown_with_lem string (strings_of bytes entries counts.entries))
 
 -- a string with an index is well formed
-index_fine : (string bytes entries : List ℕ) (counts : Counts) {i : ℕ} {after : Counts} → added string bytes entries counts ≡ Index i after
+index_fine : (string bytes entries : List ℕ) (counts : Counts) {i : ℕ} {after : Counts} → added string bytes entries counts ≡ indexed i after
     → check_from 0 string ≡ Ok tt
 unfolding added
 index_fine string bytes entries counts {i} {after} = go (check_from 0 string)
   where
-    go : (u : Result (Unit {0}) Utf8Error) → on_utf8 u (pick (fit_pool bytes entries counts) (added_to_fit string bytes entries counts) BadState) ≡ Index i after → u ≡ Ok tt
+    go : (u : Result (Unit {0}) Utf8Error) → on_utf8 u (pick (fit_pool bytes entries counts) (added_to_fit string bytes entries counts) (Err BadState)) ≡ indexed i after → u ≡ Ok tt
     go (Ok _) e = refl
     go (Err (utf8.BadAt n)) e = absurd (let z : ◌≡◌ {A = ℕ} 0 1 = cc in omega arith)
     go (Err (utf8.CutAt n)) e = absurd (let z : ◌≡◌ {A = ℕ} 0 1 = cc in omega arith)
 
 -- a string that was added is there: adding it again answers the same
 pub added_again : (string bytes entries : List ℕ) (counts : Counts) (new_bytes new_entries : List ℕ) (i : ℕ) (after : Counts)
-    → AddsString string counts bytes entries new_bytes new_entries (Index i after)
-    → (added string new_bytes new_entries after ≡ Index i after) × (i < after.entries)
+    → AddsString string counts bytes entries new_bytes new_entries (indexed i after)
+    → (added string new_bytes new_entries after ≡ indexed i after) × (i < after.entries)
 added_again string bytes entries counts new_bytes new_entries i after p =
-    let g = grows string bytes entries counts new_bytes new_entries (Index i after) p i after refl in
+    let g = grows string bytes entries counts new_bytes new_entries (indexed i after) p i after refl in
     let w = index_with string (strings_of bytes entries counts.entries) in
     let long = strings_long new_bytes new_entries 0 after.entries in
     let at : index_of string (strings_of new_bytes new_entries after.entries) ≡ i = ap (index_of string) g.strings ∙ w.0 ∙ sym g.index_is in
@@ -365,12 +360,12 @@ added_again string bytes entries counts new_bytes new_entries i after p =
     let fine = index_fine string bytes entries counts (sym p.answer) in (
       unrefused string new_bytes new_entries after fine g.fit
           ∙ placed_there (length string) _ after (entry_room new_entries) (byte_room new_bytes) (omega arith)
-          ∙ ap (λ (k : ℕ). Index k after) at,
+          ∙ ap (λ (k : ℕ). indexed k after) at,
       less,
     )
 
 -- no second answer and no second rows fit
-pub one_answer : {string bytes entries new_bytes new_entries newBytes' newEntries' : List ℕ} {counts : Counts} {r q : Added}
+pub one_answer : {string bytes entries new_bytes new_entries newBytes' newEntries' : List ℕ} {counts : Counts} {r q : Result Added AddError}
     → AddsString string counts bytes entries new_bytes new_entries r → AddsString string counts bytes entries newBytes' newEntries' q
     → (r ≡ q) × (new_bytes ≡ newBytes') × (new_entries ≡ newEntries')
 one_answer v w = (v.answer ∙ sym w.answer, v.bytes_left ∙ sym w.bytes_left, v.entries_left ∙ sym w.entries_left)

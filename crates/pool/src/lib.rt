@@ -11,11 +11,17 @@ ghost use Rattle.pool.specs.Pool.{placed, refusal_at, is_new, written, entered, 
 
 use pool_rows::{Counts, find_string, is_pool_fit, room_of};
 
-// What adding a string answers.
-#[derive(Clone, Copy)]
-pub enum Added {
-    // The string's index, and the counts after the addition; those are as before where the string was there.
-    Index { index: u32, counts: Counts },
+// What adding a string answers where nothing is refused: the string's index, and the counts after the addition. Those are as before where the
+// string was there.
+#[derive(Clone, Copy, Debug, PartialEq, Eq)]
+pub struct Added {
+    pub index: u32,
+    pub counts: Counts,
+}
+
+// What an addition is refused for.
+#[derive(Clone, Copy, Debug, PartialEq, Eq)]
+pub enum AddError {
     // Refusal 3: the string's bytes are wrong from this offset on.
     BadUtf8(usize),
     // Refusal 15: the string's end cuts the character that begins at this offset.
@@ -28,43 +34,46 @@ pub enum Added {
 
 // The answer in a fit pool that has room for so many entries and bytes, for a string of so many bytes that the search found at an index, or
 // at the count of entries where it did not.
-pub fn place(long: usize, found: usize, counts: Counts, entry_room: u32, byte_room: u32) -> Added
+pub fn place(
+    long: usize,
+    found: usize,
+    counts: Counts,
+    entry_room: u32,
+    byte_room: u32,
+) -> Result<Added, AddError>
     requires { counts.bytes ≤ byte_room }
     ensures { result ≡ placed long found counts entry_room byte_room }
 {
     let n = counts.entries;
     let used = counts.bytes;
     if found < n as usize {
-        return Added::Index {
+        return Ok(Added {
             index: found as u32,
-            counts: counts,
-        };
+            counts,
+        });
     }
     if entry_room <= n {
-        return Added::PoolFull;
+        return Err(AddError::PoolFull);
     }
     if ((byte_room - used) as usize) < long {
-        return Added::PoolFull;
+        return Err(AddError::PoolFull);
     }
-    Added::Index {
+    Ok(Added {
         index: n,
         counts: Counts {
             entries: n + 1,
             bytes: used + long as u32,
         },
-    }
+    })
 }
 
 // Whether an answer hands out an index that no string had before.
-pub fn is_new(counts: Counts, answer: Added) -> bool
+pub fn is_new(counts: Counts, answer: Result<Added, AddError>) -> bool
     ensures { result ≡ is_new counts answer }
 {
     match answer {
-        Added::Index { index, counts: _ } => index == counts.entries,
-        Added::BadUtf8(_) => false,
-        Added::CutUtf8(_) => false,
-        Added::BadState => false,
-        Added::PoolFull => false,
+        Ok(added) => added.index == counts.entries,
+        Err(_) => false,
     }
 }
 
@@ -73,11 +82,7 @@ pub fn copy_in(string: &[u8], bytes: &mut [u8], at: usize)
     requires { at + length string.now ≤ length bytes.old }
     ensures { bytes.new ≡ written bytes.old at string.now }
 {
-    let mut i = 0;
-    while i < string.len() {
-        bytes[at + i] = string[i];
-        i += 1;
-    }
+    bytes[at..at + string.len()].copy_from_slice(string);
 }
 
 // Writes entry n.
@@ -90,7 +95,12 @@ fn put_entry(entries: &mut [u32], n: usize, start: u32, long: u32)
 }
 
 // Adds a well-formed string to a fit pool, and asks neither: whoever knows both calls this. Only where it was not there, and has room, is anything written.
-pub fn add_to_fit(string: &[u8], bytes: &mut [u8], entries: &mut [u32], counts: Counts) -> Added
+pub fn add_to_fit(
+    string: &[u8],
+    bytes: &mut [u8],
+    entries: &mut [u32],
+    counts: Counts,
+) -> Result<Added, AddError>
     requires { fit_pool bytes.old entries.old counts ≡ true }
     ensures { AddsToFit string.now counts bytes.old entries.old
         bytes.new entries.new result }
@@ -110,29 +120,34 @@ pub fn add_to_fit(string: &[u8], bytes: &mut [u8], entries: &mut [u32], counts: 
 }
 
 // What is refused before an addition, where something is: the string's bytes with 3 or 15, or else the pool with 8.
-pub fn refusal_of(string: &[u8]) -> Added
+pub fn refusal_of(string: &[u8]) -> AddError
     ensures { result ≡ refusal_at string.now }
 {
     match utf8::check_utf8(string) {
-        Err(utf8::Utf8Error::BadAt(i)) => Added::BadUtf8(i),
-        Err(utf8::Utf8Error::CutAt(i)) => Added::CutUtf8(i),
-        Ok(()) => Added::BadState,
+        Err(utf8::Utf8Error::BadAt(i)) => AddError::BadUtf8(i),
+        Err(utf8::Utf8Error::CutAt(i)) => AddError::CutUtf8(i),
+        Ok(()) => AddError::BadState,
     }
 }
 
 // Adds a string to a pool: its index, and the counts after it. Refused are a string that is wrong or cut, then a pool that is unfit, then a
 // string that is not there where no entry or too few bytes are free. Only a new string writes: its bytes behind those in use, and its entry
 // behind those in use.
-pub fn add_string(string: &[u8], bytes: &mut [u8], entries: &mut [u32], counts: Counts) -> Added
+pub fn add_string(
+    string: &[u8],
+    bytes: &mut [u8],
+    entries: &mut [u32],
+    counts: Counts,
+) -> Result<Added, AddError>
     ensures { AddsString string.now counts bytes.old entries.old
         bytes.new entries.new result }
 {
     match utf8::check_utf8(string) {
-        Err(utf8::Utf8Error::BadAt(i)) => Added::BadUtf8(i),
-        Err(utf8::Utf8Error::CutAt(i)) => Added::CutUtf8(i),
+        Err(utf8::Utf8Error::BadAt(i)) => Err(AddError::BadUtf8(i)),
+        Err(utf8::Utf8Error::CutAt(i)) => Err(AddError::CutUtf8(i)),
         Ok(()) => {
             if !is_pool_fit(bytes, entries, counts) {
-                return Added::BadState;
+                return Err(AddError::BadState);
             }
             add_to_fit(string, bytes, entries, counts)
         }

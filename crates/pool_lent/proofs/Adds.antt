@@ -1,5 +1,5 @@
 -- What the calls of `is_pool_fit`, of `add_to_fit_row` and of `add_row` come to, over lists and numbers.
---     fit_is                             the test on numbers is that of the flat pool
+--     no_entries, no_bytes, fit_is       the tests of the row are those of the flat pool
 --     in_bytes, in_row                   what `add_to_fit` and `find_string` ask of a fit pool
 --     is_free                            where a new index is handed out, an entry is free and the string's length is a number of 32 bits
 --     fit_old, fit_new                   a return: nothing is written to the entries, or the new one
@@ -14,44 +14,42 @@ use mathlib.Core.List.{List}
 use lib.ListN.{length, set}
 use Rattle.base.specs.Pick.{pick}
 use borrow.Author.Tests.{lt-ltb, le-ltb}
-use Rattle.base.specs.PickLaws.{split_lt}
 use Rattle.utf8.specs.Chars.{check_from}
 use Rattle.utf8.specs.declared.Utf8Check.{Utf8Check}
 use Rattle.utf8.specs.declared.Utf8Check.TheVariants as utf8
 use Rattle.pool_rows.specs.Rows.{index_of, strings_of, room_of, byte_room, entry_room, runs_to, fit_in, fit_pool}
-use Rattle.pool.specs.Pool.{on_utf8, placed, added_to_fit, added, refusal_at}
+use Rattle.pool.specs.Pool.{on_utf8, placed, added_to_fit, added, refused_as, refusal_at}
 use Rattle.pool.specs.Pool.{is_new, bytes_after, AddsToFit, AddsString}
 use Rattle.pool_rows.specs.FitLaws.{room_within, fit_of}
 use Rattle.pool.specs.PoolLaws.{settled, adds_fine, placed_same, old_bytes, old_entries, new_entries_lem}
 use Rattle.pool_rows.specs.declared.Counts.{Counts}
 use Rattle.pool.specs.declared.Added.{Added}
-use Rattle.pool.specs.declared.Added.TheVariants.{BadState}
+use Rattle.pool.specs.declared.AddError.{AddError}
+use Rattle.pool.specs.declared.AddError.TheVariants.{BadState}
+use Rattle.std.specs.Prelude.{Result, Err}
 use Rattle.pool_lent.specs.Entries.{numbers_of, entry_of}
-use Rattle.pool_lent.specs.Decided.{least, EndsAt, fit_at, fine_by, fine_at}
+use Rattle.pool_lent.specs.Decided.{fine_by, fine_at}
 use Rattle.pool_lent.specs.EntriesLaws.{numbers_long, numbers_set}
 use Rattle.pool_lent.specs.declared.Entry.{Entry}
-use Rattle.pool_lent.proofs.Numbers.{least_is, new_room}
+use Rattle.pool_lent.proofs.Numbers.{new_room}
 
 room_is : (es : List Entry) → entry_room (numbers_of es) ≡ room_of (length es)
 room_is es = ap room_of (omega (arith, numbers_long es))
 
-module _ (bytes : List ℕ) (es : List Entry) (counts : Counts) (n : ℕ) (n-is : n ≡ least counts.entries (length es)) where
-  -- counts that the row has room for are those that the code goes by
-  within_row : counts.entries ≤ room_of (length es) → n ≡ counts.entries
-  within_row h = n-is ∙ least_is counts.entries (length es) (omega (arith, (room_within (length es)).0))
+-- the tests of the row's room, and then of its entries
+module _ (bytes : List ℕ) (es : List Entry) (counts : Counts) where
+  pub no_entries : room_of (length es) < counts.entries → fit_pool bytes (numbers_of es) counts ≡ false
+  unfolding fit_in
+  no_entries h = rw (room_is es, lt-ltb (room_of (length es)) counts.entries h)
 
-  pub fit_is : (end : ℕ) → EndsAt es n end → fit_at (length bytes) (length es) counts end ≡ fit_pool bytes (numbers_of es) counts
-  unfolding fit_at fit_in
-  fit_is end ends =
-      rw (room_is es)
-      (split_lt (room_of (length es)) counts.entries
-      (λ h. rw (lt-ltb (room_of (length es)) counts.entries h))
-      (λ h. rw (le-ltb (room_of (length es)) counts.entries h)
-      (split_lt (byte_room bytes) counts.bytes
-      (λ k. rw (lt-ltb (byte_room bytes) counts.bytes k))
-      (λ k. rw (le-ltb (byte_room bytes) counts.bytes k)
-      (ends counts.bytes (omega (arith, (room_within (length bytes)).1))
-      ∙ ap (λ (m : ℕ). runs_to (numbers_of es) 0 m 0 counts.bytes) (within_row h))))))
+  module _ (h : counts.entries ≤ room_of (length es)) where
+    pub no_bytes : byte_room bytes < counts.bytes → fit_pool bytes (numbers_of es) counts ≡ false
+    unfolding fit_in
+    no_bytes k = rw (room_is es, le-ltb (room_of (length es)) counts.entries h, lt-ltb (byte_room bytes) counts.bytes k)
+
+    pub fit_is : counts.bytes ≤ byte_room bytes → fit_pool bytes (numbers_of es) counts ≡ runs_to (numbers_of es) 0 counts.entries 0 counts.bytes
+    unfolding fit_in
+    fit_is k = rw (room_is es, le-ltb (room_of (length es)) counts.entries h, le-ltb (byte_room bytes) counts.bytes k)
 
 -- ---- for a string that is well formed, in a pool that is fit
 
@@ -68,7 +66,7 @@ module _ (bytes : List ℕ) (es : List Entry) (counts : Counts) (fit : fit_pool 
   in_row = omega (arith, within.0, (room_within (length es)).0)
 
   module _ (string : List ℕ) (found : ℕ) (found_as : found ≡ index_of string (strings_of bytes (numbers_of es) counts.entries))
-      (r : Added) (r-as : r ≡ placed (length string) found counts (room_of (length es)) (byte_room bytes)) where
+      (r : Result Added AddError) (r-as : r ≡ placed (length string) found counts (room_of (length es)) (byte_room bytes)) where
     fit_answer : r ≡ added_to_fit string bytes (numbers_of es) counts
     fit_answer = r-as ∙ placed_same _ _ _ _ _ _ _ _ found_as (sym (room_is es)) refl
 
@@ -105,22 +103,20 @@ module _ (string bytes : List ℕ) (es : List Entry) (counts : Counts) (fit : Bo
   pub fine_fit : fine_at string fit ≡ true → fit_pool bytes (numbers_of es) counts ≡ true
   fine_fit e = sym fit-as ∙ (all_fine (check_from 0 string) e).1
 
-  pub settled_fine : fine_at string fit ≡ true → {new_bytes new_entries : List ℕ} {r : Added}
+  pub settled_fine : fine_at string fit ≡ true → {new_bytes new_entries : List ℕ} {r : Result Added AddError}
       → AddsToFit string counts bytes (numbers_of es) new_bytes new_entries r → AddsString string counts bytes (numbers_of es) new_bytes new_entries r
   settled_fine e a = adds_fine _ _ _ _ (all_fine (check_from 0 string) e).0 (fine_fit e) a
 
-  -- a refusal is the answer, and hands out no index
+  -- a refusal is the answer
   refuses : (u : Utf8Check) → fine_by u fit ≡ false
-      → (on_utf8 u BadState ≡ on_utf8 u (pick (fit_pool bytes (numbers_of es) counts) (added_to_fit string bytes (numbers_of es) counts) BadState))
-      × (is_new counts (on_utf8 u BadState) ≡ false)
-  refuses utf8.Fine e = (rw (sym fit-as ∙ e), refl)
-  refuses (utf8.BadAt i) e = (refl, refl)
-  refuses (utf8.CutAt i) e = (refl, refl)
+      → (Err (refused_as u) ≡ on_utf8 u (pick (fit_pool bytes (numbers_of es) counts) (added_to_fit string bytes (numbers_of es) counts) (Err BadState)))
+  refuses utf8.Fine e = rw (sym fit-as ∙ e)
+  refuses (utf8.BadAt i) e = refl
+  refuses (utf8.CutAt i) e = refl
 
-  pub settled_refused : fine_at string fit ≡ false → (r : Added) → r ≡ refusal_at string
-      → AddsString string counts bytes (numbers_of es) bytes (numbers_of es) r
+  pub settled_refused : fine_at string fit ≡ false → (e : AddError) → e ≡ refusal_at string
+      → AddsString string counts bytes (numbers_of es) bytes (numbers_of es) (Err e)
   unfolding added
-  settled_refused e r q =
-      let p = refuses (check_from 0 string) e in
-      let old = ap (is_new counts) q ∙ p.1 in
-      settled _ _ _ _ (q ∙ p.0) (sym (old_bytes string counts r old bytes)) (sym (old_entries string counts r old (numbers_of es)))
+  settled_refused f e q =
+      settled _ _ _ _ (ap Err q ∙ refuses (check_from 0 string) f) (sym (old_bytes string counts (Err e) refl bytes))
+      (sym (old_entries string counts (Err e) refl (numbers_of es)))

@@ -1,5 +1,4 @@
 -- What the functions on bytes and numbers show, over lists and numbers.
---     least_within, least_is    the smaller of two numbers
 --     clipped                   the part of a row that `is_string` lends is what the row has of the entry's string
 --     new_room                  where a new index is handed out, there is room
 -- Assumes nothing.
@@ -10,18 +9,13 @@ use mathlib.Core.Bool.{true}
 use mathlib.Core.List.{List, [], ◌∷◌}
 use lib.ListN.{length, take, drop, length-drop}
 use lib.Seq.{take_all, take-nil}
-use borrow.Author.Tests.{eqb-true, lt-ltb, le-ltb}
+use borrow.Author.Tests.{eqb-true}
 use Rattle.base.specs.PickLaws.{by_lt, split_lt}
 use Rattle.pool.specs.Pool.{placed, is_new}
 use Rattle.pool_rows.specs.declared.Counts.{Counts}
 use Rattle.pool.specs.declared.Added.{Added}
-use Rattle.pool_lent.specs.Decided.{least}
-
-pub least_within : (a b : ℕ) → (least a b ≤ a) × (least a b ≤ b)
-least_within a b = by_lt (λ (r : ℕ). (r ≤ a) × (r ≤ b)) b a (λ h. (omega arith, omega arith)) (λ h. (omega arith, omega arith))
-
-pub least_is : (a b : ℕ) → a ≤ b → least a b ≡ a
-least_is a b h = rw (le-ltb b a h)
+use Rattle.pool.specs.declared.AddError.{AddError}
+use Rattle.std.specs.Prelude.{Result, min}
 
 -- a list of which nothing is left
 none_left : (n : ℕ) (l : List ℕ) → length l ≤ n → drop n l ≡ []
@@ -31,27 +25,27 @@ none_left n l h = empty (drop n l) (omega (arith, length-drop n l))
     empty [] e = refl
     empty (x ∷ xs) e = absurd (omega arith)
 
-pub clipped : (l : List ℕ) (start long first end : ℕ) → first ≡ least start (length l) → end ≡ least (first + long) (length l)
+pub clipped : (l : List ℕ) (start long first end : ℕ) → first ≡ min start (length l) → end ≡ min (first + long) (length l)
     → (first ≤ end) × (end ≤ length l) × (take (end - first) (drop first l) ≡ take long (drop start l))
 clipped l start long first end e f =
     split_lt (length l) start
     -- the entry starts outside the row
     (λ h.
-    let a : first ≡ length l = e ∙ rw (lt-ltb (length l) start h) in
-    let b : end ≡ length l = f ∙ by_lt (λ (r : ℕ). r ≡ length l) (length l) (first + long) (λ _. refl) (λ k. omega arith) in
+    let a : first ≡ length l = omega arith in
+    let b : end ≡ length l = omega arith in
     let z : end - first ≡ 0 = omega arith in
     (omega arith, omega arith, rw (z, none_left start l (omega arith)) (sym (take-nil long))))
     (λ h.
-    let a : first ≡ start = e ∙ least_is start (length l) h in
+    let a : first ≡ start = omega arith in
     split_lt (length l) (first + long)
     -- it ends outside
     (λ k.
-    let b : end ≡ length l = f ∙ rw (lt-ltb (length l) (first + long) k) in
+    let b : end ≡ length l = omega arith in
     let rest = length-drop start l in
     let all = take_all (end - start) (drop start l) (omega arith) in
     (omega arith, omega arith, rw a (all ∙ sym (take_all long (drop start l) (omega arith)))))
     (λ k.
-    let b : end ≡ first + long = f ∙ least_is (first + long) (length l) k in
+    let b : end ≡ first + long = omega arith in
     let z : end - first ≡ long = omega arith in
     (omega arith, omega arith, rw (z, a))))
 
@@ -60,7 +54,7 @@ module _ (long found : ℕ) (counts : Counts) (forEntries forBytes : ℕ) where
       → (counts.entries < forEntries) × (counts.bytes + long ≤ forBytes)
   unfolding placed
   new_room =
-      let Claim : Added → Type 0 = λ r. is_new counts r ≡ true → (counts.entries < forEntries) × (counts.bytes + long ≤ forBytes) in
+      let Claim : Result Added AddError → Type 0 = λ r. is_new counts r ≡ true → (counts.entries < forEntries) × (counts.bytes + long ≤ forBytes) in
       by_lt Claim found counts.entries
       (λ h e. absurd (omega (arith, eqb-true found counts.entries e)))
       (λ h. by_lt Claim forEntries (counts.entries + 1)

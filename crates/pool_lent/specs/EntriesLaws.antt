@@ -5,13 +5,14 @@
 --     same_numbers           rows with the same numbers are the same
 --     one_outcome            no second answer, and no second rows and counts, fit `AddsEntry`
 -- Assumes nothing.
-use Rattle.std.specs.Prelude.{ℕ, zero, suc, ◌+◌, ◌*◌, ◌≡◌, refl, List, [], ◌∷◌, length, get_or, set}
+use Rattle.std.specs.Prelude.{ℕ, zero, suc, ◌+◌, ◌*◌, ◌≡◌, refl, Result, List, [], ◌∷◌, length, get_or, set}
 use Rattle.std.proofs.Common.{arith, sym, ap, ◌∙◌}
 use Rattle.pool_rows.specs.Rows.{start_of, length_of}
 use Rattle.pool.specs.Pool.{entered, counts_after}
 use Rattle.pool.specs.PoolLaws.{one_answer}
 use Rattle.pool_rows.specs.declared.Counts.{Counts}
 use Rattle.pool.specs.declared.Added.{Added}
+use Rattle.pool.specs.declared.AddError.{AddError}
 use Rattle.pool_lent.specs.Entries.{entry_of, numbers_of, AddsEntry}
 use Rattle.pool_lent.specs.declared.Entry.{Entry}
 
@@ -68,7 +69,7 @@ same_numbers (x ∷ xs) (y ∷ ys) e =
     cc
 
 pub one_outcome : {string bytes new_bytes newBytes' : List ℕ} {entries new_entries newEntries' : List Entry}
-    {counts newCounts newCounts' : Counts} {r q : Added}
+    {counts newCounts newCounts' : Counts} {r q : Result Added AddError}
     → AddsEntry string counts bytes entries new_bytes new_entries newCounts r
     → AddsEntry string counts bytes entries newBytes' newEntries' newCounts' q
     → (r ≡ q) × (new_bytes ≡ newBytes') × (new_entries ≡ newEntries') × (newCounts ≡ newCounts')

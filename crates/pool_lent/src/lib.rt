@@ -1,70 +1,32 @@
 // The pool's long forms: `pool` with a record for each entry in place of two numbers, and with the counts lent. The answers, the bytes and
-// the numbers of the entries are those of the flat pool (constant_pool.rs, `add_string`). What is decided is decided on bytes and numbers;
-// the functions over `&[Entry]`, `&mut [Entry]` and `&mut Counts` only read, call and store.
+// the numbers of the entries are those of the flat pool (constant_pool.rs, `add_string`).
 #![tactic(auto)]
 
 ghost use Rattle.std.specs.Prelude.{◌≡◌, true, ◌≤◌, ◌<◌, length, set, take, drop};
-ghost use Rattle.pool_rows.specs.Rows.{same, index_of, strings_of, room_of, byte_room, fit_pool};
+ghost use Rattle.pool_rows.specs.Rows.{same, index_of, strings_of, room_of, byte_room, runs_to, fit_pool};
 ghost use Rattle.pool.specs.Pool.{placed, bytes_after, counts_after, AddsToFit, AddsString};
 ghost use Rattle.pool_lent.specs.Entries.{numbers_of, entry_of, AddsEntry};
-ghost use Rattle.pool_lent.specs.Decided.{least, end_of, EndsAt, fit_at, fine_at};
+ghost use Rattle.pool_lent.specs.Decided.{fine_at};
 
-use pool::Added;
+use pool::{AddError, Added};
 use pool_rows::Counts;
 
 // An entry: where its string starts in the row of bytes, and how long it is. C may hold a row of them.
 #[repr(C)]
-#[derive(Clone, Copy)]
+#[derive(Clone, Copy, Debug, PartialEq, Eq)]
 pub struct Entry {
     pub start: u32,
     pub len: u32,
 }
 
-// Where nothing ends: no entry starts there.
-const NOWHERE: u64 = 18446744073709551615;
-
 // ---- on bytes and numbers
-
-// The smaller of two numbers.
-fn least(a: usize, b: usize) -> usize
-    ensures { result ≡ least a b }
-{
-    if b < a {
-        return b;
-    }
-    a
-}
-
-// Where an entry ends that starts where those before it end.
-fn end_of(end: u64, start: u32, len: u32) -> u64
-    ensures value { result ≡ end_of end start len }
-    ensures in_range { (start < 4294967296) × (len < 4294967296) }
-{
-    if end == start as u64 {
-        return start as u64 + len as u64;
-    }
-    NOWHERE
-}
-
-// Whether a pool is fit whose rows have so many bytes and entries, and whose entries in use end there.
-fn is_fit_at(bytes: usize, entries: usize, counts: Counts, end: u64) -> bool
-    ensures { result ≡ fit_at bytes entries counts end }
-{
-    if pool_rows::room_of(entries) < counts.entries {
-        return false;
-    }
-    if pool_rows::room_of(bytes) < counts.bytes {
-        return false;
-    }
-    end == counts.bytes as u64
-}
 
 // Whether the string of an entry is this one. Of an entry that lies outside the row of bytes only what lies inside counts.
 fn is_string(string: &[u8], bytes: &[u8], start: u32, len: u32) -> bool
     ensures { result ≡ same (take len (drop start bytes.now)) string.now }
 {
-    let first = least(start as usize, bytes.len());
-    let end = least(first + len as usize, bytes.len());
+    let first = (start as usize).min(bytes.len());
+    let end = (first + len as usize).min(bytes.len());
     pool_rows::is_same(&bytes[first..end], string)
 }
 
@@ -76,7 +38,7 @@ fn add_to_fit(
     entries: usize,
     counts: Counts,
     found: usize,
-) -> Added
+) -> Result<Added, AddError>
     requires { counts.bytes ≤ byte_room bytes.old }
     ensures { (result ≡ placed (length string.now) found counts (room_of entries) (byte_room bytes.old))
         × (bytes.new ≡ bytes_after string.now counts result bytes.old) }
@@ -103,36 +65,30 @@ fn is_fine(string: &[u8], fit: bool) -> bool
 }
 
 // The counts after an answer: a refusal leaves them.
-fn counts_after(counts: Counts, answer: Added) -> Counts
+fn counts_after(counts: Counts, answer: Result<Added, AddError>) -> Counts
     ensures { result ≡ counts_after counts answer }
 {
     match answer {
-        Added::Index {
-            index: _,
-            counts: after,
-        } => after,
-        Added::BadUtf8(_) => counts,
-        Added::CutUtf8(_) => counts,
-        Added::BadState => counts,
-        Added::PoolFull => counts,
+        Ok(added) => added.counts,
+        Err(_) => counts,
     }
 }
 
 // ---- over entries, and lent counts
 
-// Where the first n entries end, if they run end to end from byte 0.
-fn ends(entries: &[Entry], n: usize) -> u64
+// Whether the first n entries run end to end from byte 0 to the byte `end`.
+fn runs_to(entries: &[Entry], n: usize, end: usize) -> bool
     requires { n ≤ length entries.now }
-    ensures { EndsAt entries.now n result }
+    ensures { result ≡ runs_to (numbers_of entries.now) 0 n 0 end }
 {
-    let mut end = 0;
-    let mut i = 0;
-    while i < n {
-        let e = entries[i];
-        end = end_of(end, e.start, e.len);
-        i += 1;
+    let mut next = 0;
+    for e in &entries[..n] {
+        if e.start as usize != next {
+            return false;
+        }
+        next = e.start as usize + e.len as usize;
     }
-    end
+    next == end
 }
 
 // The index of the first of the n entries that has this string; n where none has it.
@@ -140,15 +96,12 @@ fn find_string(string: &[u8], bytes: &[u8], entries: &[Entry], n: usize) -> usiz
     requires { n ≤ length entries.now }
     ensures { result ≡ index_of string.now (strings_of bytes.now (numbers_of entries.now) n) }
 {
-    let mut i = 0;
-    while i < n {
-        let e = entries[i];
+    for (i, e) in entries[..n].iter().enumerate() {
         if is_string(string, bytes, e.start, e.len) {
             return i;
         }
-        i += 1;
     }
-    i
+    n
 }
 
 // Writes entry n.
@@ -156,19 +109,20 @@ fn put_entry(entries: &mut [Entry], n: usize, start: u32, len: u32)
     requires { n < length entries.old }
     ensures { entries.new ≡ set entries.old n (entry_of start len) }
 {
-    entries[n] = Entry {
-        start: start,
-        len: len,
-    };
+    entries[n] = Entry { start, len };
 }
 
 // Whether a pool is fit: no count exceeds its row, and the entries in use run end to end from byte 0 to the byte count.
 pub fn is_pool_fit(bytes: &[u8], entries: &[Entry], counts: Counts) -> bool
     ensures { result ≡ fit_pool bytes.now (numbers_of entries.now) counts }
 {
-    let n = least(counts.entries as usize, entries.len());
-    let end = ends(entries, n);
-    is_fit_at(bytes.len(), entries.len(), counts, end)
+    if pool_rows::room_of(entries.len()) < counts.entries {
+        return false;
+    }
+    if pool_rows::room_of(bytes.len()) < counts.bytes {
+        return false;
+    }
+    runs_to(entries, counts.entries as usize, counts.bytes as usize)
 }
 
 // Adds a well-formed string to a fit pool, and asks neither: whoever knows both calls this. It answers and writes as `pool::add_to_fit` does.
@@ -177,7 +131,7 @@ pub fn add_to_fit_row(
     bytes: &mut [u8],
     entries: &mut [Entry],
     counts: Counts,
-) -> Added
+) -> Result<Added, AddError>
     requires { fit_pool bytes.old (numbers_of entries.old) counts ≡ true }
     ensures { AddsToFit string.now counts bytes.old (numbers_of entries.old)
         bytes.new (numbers_of entries.new) result }
@@ -192,7 +146,12 @@ pub fn add_to_fit_row(
 }
 
 // Adds a string to a pool: its index, and the counts after it. It refuses and writes as `pool::add_string` does.
-pub fn add_row(string: &[u8], bytes: &mut [u8], entries: &mut [Entry], counts: Counts) -> Added
+pub fn add_row(
+    string: &[u8],
+    bytes: &mut [u8],
+    entries: &mut [Entry],
+    counts: Counts,
+) -> Result<Added, AddError>
     ensures { AddsString string.now counts bytes.old (numbers_of entries.old)
         bytes.new (numbers_of entries.new) result }
 {
@@ -200,7 +159,7 @@ pub fn add_row(string: &[u8], bytes: &mut [u8], entries: &mut [Entry], counts: C
     if is_fine(string, fit) {
         return add_to_fit_row(string, bytes, entries, counts);
     }
-    pool::refusal_of(string)
+    Err(pool::refusal_of(string))
 }
 
 // Adds a string to a pool whose counts are lent: they are those after the addition.
@@ -209,7 +168,7 @@ pub fn add_string(
     bytes: &mut [u8],
     entries: &mut [Entry],
     counts: &mut Counts,
-) -> Added
+) -> Result<Added, AddError>
     ensures { AddsEntry string.now counts.old bytes.old entries.old
         bytes.new entries.new counts.new result }
 {

@@ -8,7 +8,7 @@ ghost use Rattle.pool_rows.specs.Rows.{same, index_of, strings_of, room_of, runs
 
 // How many entries and how many bytes of a pool are in use. C may hold it.
 #[repr(C)]
-#[derive(Clone, Copy)]
+#[derive(Clone, Copy, Debug, PartialEq, Eq)]
 pub struct Counts {
     pub entries: u32,
     pub bytes: u32,
@@ -33,14 +33,12 @@ fn runs_to(entries: &[u32], n: usize, end: usize) -> bool
     ensures { result ≡ runs_to entries.now 0 n 0 end }
 {
     let mut next = 0;
-    let mut i = 0;
-    while i < n {
+    for i in 0..n {
         let start = entries[2 * i] as usize;
         if start != next {
             return false;
         }
         next = start + entries[2 * i + 1] as usize;
-        i += 1;
     }
     next == end
 }
@@ -72,17 +70,7 @@ pub fn is_pool_fit(bytes: &[u8], entries: &[u32], counts: Counts) -> bool
 pub fn is_same(a: &[u8], b: &[u8]) -> bool
     ensures { result ≡ same a.now b.now }
 {
-    if a.len() != b.len() {
-        return false;
-    }
-    let mut i = 0;
-    while i < a.len() {
-        if a[i] != b[i] {
-            return false;
-        }
-        i += 1;
-    }
-    true
+    a == b
 }
 
 // Whether the string of an entry is this one.
@@ -100,12 +88,10 @@ pub fn find_string(string: &[u8], bytes: &[u8], entries: &[u32], n: usize) -> us
     requires { Within entries.now n (length bytes.now) × (2 * n ≤ length entries.now) }
     ensures { result ≡ index_of string.now (strings_of bytes.now entries.now n) }
 {
-    let mut i = 0;
-    while i < n {
+    for i in 0..n {
         if is_at(string, bytes, entries[2 * i], entries[2 * i + 1]) {
             return i;
         }
-        i += 1;
     }
-    i
+    n
 }

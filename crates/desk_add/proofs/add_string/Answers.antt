@@ -1,20 +1,20 @@
 -- `desk_add::add_string` meets its contract: where the desks are fit, the addition is that of the pool to the part of the rows that the desk may
 -- fill; a new string is then given its owner, and charged. Assumes nothing.
 use Prim.Native.Nat.{ℕ, ◌*◌, ◌≤◌}
-use mathlib.Core.Path.{◌≡◌, sym, ap, ◌∙◌}
+use mathlib.Core.Path.{◌≡◌, refl, sym, ap, ◌∙◌}
 use mathlib.Core.Bool.{true}
 use native.Mathlib.Omega.{arith}
 use lib.ListN.{length, set}
 use lib.Seq.{length-take-le}
 use Rattle.pool_rows.specs.Rows.{entry_room, byte_room}
-use Rattle.pool.specs.Pool.{is_new, counts_after}
+use Rattle.pool.specs.Pool.{is_new}
+use Rattle.std.specs.Prelude.{Err}
 use Rattle.pool_rows.specs.FitLaws.{entry_room_lem, room_within}
 use Rattle.pool.specs.PoolLaws.{old_bytes, old_entries}
-use Rattle.utf8.specs.Chars.{check_from}
 use Rattle.pool_rows.specs.declared.Counts.{Counts}
 use Rattle.desks.specs.Desks.{Shared, shared, fit_desks, entries_for, bytes_for}
 use Rattle.desks.specs.FitLaws.{fit_of}
-use Rattle.desk_add.specs.AddLaws.{unfit, unwritten, uncounted, on_parts, OnParts, settled}
+use Rattle.desk_add.specs.AddLaws.{unfit, on_parts, OnParts, settled}
 use Rattle.desk_add.proofs.add_string.Goals as goal
 use Rattle.desk_add.proofs.add_string.Goals.{After-add_string-added, After-room_for-room, Else-not-is_new}
 
@@ -54,10 +54,7 @@ pub returns-then-not-is_fit : goal.returns-then-not-is_fit
 returns-then-not-is_fit c =
     let a = c.args in
     let no = sym c.is_fit.ensures ∙ c.if-not-is_fit.true in
-    let r = c.refusal_of.ensures in
-    let old = ap (is_new a.counts) r ∙ unwritten a.counts (check_from 0 a.string.now) in
-    let kept = sym (ap (counts_after a.counts) r ∙ uncounted a.counts (check_from 0 a.string.now)) in
-    settled _ _ _ _ _ _ _ (r ∙ sym (unfit _ _ _ no)) kept (rw old) (sym (old_bytes _ _ _ old _)) (sym (old_entries _ _ _ old _)) (rw old)
+    settled _ _ _ _ _ _ _ (ap Err c.refusal_of.ensures ∙ sym (unfit _ _ _ no)) refl refl (sym (old_bytes _ _ _ refl _)) (sym (old_entries _ _ _ refl _)) refl
 
 pub slice_bounds-add_string-end : goal.slice_bounds-add_string-end
 slice_bounds-add_string-end c = bytes_within (goal.at.slice_bounds-add_string-end c).After-room_for-room

@@ -1,7 +1,7 @@
 -- `desks::is_fit` meets its contract: the code takes the tests of `fit_desks` in its order. Assumes nothing.
 use Prim.Native.Nat.{◌≤◌}
-use mathlib.Core.Path.{◌≡◌, sym, ◌∙◌}
-use mathlib.Core.Bool.{true}
+use mathlib.Core.Path.{◌≡◌, sym, ap, ◌∙◌}
+use mathlib.Core.Bool.{true, not}
 use native.Mathlib.Omega.{arith}
 use lib.ListN.{length}
 use Rattle.pool_rows.specs.Rows.{entry_room, fit_pool}
@@ -30,11 +30,11 @@ held_by-requires c =
     let p = countable a.bytes.now a.entries.now a.counts (pool_yes (goal.at.held_by-requires c).Else-owners-entry_room) in
     (p.0, omega (arith, owned (goal.at.held_by-requires c).Else-owners-entry_room, p.3), p.1, p.2)
 
-pub returns-then-not-is_same : goal.returns-then-not-is_same
-returns-then-not-is_same c =
+pub returns-then-ne : goal.returns-then-ne
+returns-then-ne c =
     sym
-    (no_charge _ (pool_yes (goal.at.returns-then-not-is_same c).Else-owners-entry_room) (owned (goal.at.returns-then-not-is_same c).Else-owners-entry_room)
-    (charge_is _ _ _ c.held_by.ensures c.is_same.ensures ∙ c.if-not-is_same.true))
+    (no_charge _ (pool_yes (goal.at.returns-then-ne c).Else-owners-entry_room) (owned (goal.at.returns-then-ne c).Else-owners-entry_room)
+    (charge_is _ _ _ c.held_by.ensures c.ne.ensures ∙ ap not c.if-ne.true))
 
 pub held_by-requires-2 : goal.held_by-requires-2
 held_by-requires-2 c =
@@ -42,20 +42,20 @@ held_by-requires-2 c =
     let p = countable a.bytes.now a.entries.now a.counts (pool_yes (goal.at.held_by-requires-2 c).Else-owners-entry_room) in
     (p.0, omega (arith, owned (goal.at.held_by-requires-2 c).Else-owners-entry_room, p.3), p.1, p.2)
 
-pub returns-then-not-is_same-2 : goal.returns-then-not-is_same-2
-returns-then-not-is_same-2 c =
+pub returns-then-ne-2 : goal.returns-then-ne-2
+returns-then-ne-2 c =
     sym
-    (no_charge_2 _ (pool_yes (goal.at.returns-then-not-is_same-2 c).Else-owners-entry_room) (owned (goal.at.returns-then-not-is_same-2 c).Else-owners-entry_room)
-    (charge_is _ _ _ c.held_by.ensures c.is_same.ensures ∙ c.if-not-is_same.false)
-    (charge_is _ _ _ c.held_by-2.ensures c.is_same-2.ensures ∙ c.if-not-is_same-2.true))
+    (no_charge_2 _ (pool_yes (goal.at.returns-then-ne-2 c).Else-owners-entry_room) (owned (goal.at.returns-then-ne-2 c).Else-owners-entry_room)
+    (charge_is _ _ _ c.held_by.ensures c.ne.ensures ∙ ap not c.if-ne.false)
+    (charge_is _ _ _ c.held_by-2.ensures c.ne-2.ensures ∙ ap not c.if-ne-2.true))
 
 pub returns-then-not-are_entries_shared : goal.returns-then-not-are_entries_shared
 returns-then-not-are_entries_shared c =
     let a = c.args in
     sym
     (no_entries _ (pool_yes (goal.at.returns-then-not-are_entries_shared c).Else-owners-entry_room) (owned (goal.at.returns-then-not-are_entries_shared c).Else-owners-entry_room)
-    (charge_is _ _ _ c.held_by.ensures c.is_same.ensures ∙ c.if-not-is_same.false)
-    (charge_is _ _ _ c.held_by-2.ensures c.is_same-2.ensures ∙ c.if-not-is_same-2.false)
+    (charge_is _ _ _ c.held_by.ensures c.ne.ensures ∙ ap not c.if-ne.false)
+    (charge_is _ _ _ c.held_by-2.ensures c.ne-2.ensures ∙ ap not c.if-ne-2.false)
     (entries_are _ _ a.counts a.desks.first a.desks.second c.room_of-entry_room.ensures c.are_entries_shared.ensures
     ∙ c.if-not-are_entries_shared.true))
 
@@ -64,8 +64,8 @@ returns c =
     let a = c.args in
     sym
     (rest_is _ (pool_yes (goal.at.returns c).Else-owners-entry_room) (owned (goal.at.returns c).Else-owners-entry_room)
-    (charge_is _ _ _ c.held_by.ensures c.is_same.ensures ∙ c.if-not-is_same.false)
-    (charge_is _ _ _ c.held_by-2.ensures c.is_same-2.ensures ∙ c.if-not-is_same-2.false)
+    (charge_is _ _ _ c.held_by.ensures c.ne.ensures ∙ ap not c.if-ne.false)
+    (charge_is _ _ _ c.held_by-2.ensures c.ne-2.ensures ∙ ap not c.if-ne-2.false)
     (entries_are _ _ a.counts a.desks.first a.desks.second c.room_of-entry_room.ensures c.are_entries_shared.ensures
     ∙ c.if-not-are_entries_shared.false)
     (bytes_are _ _ a.counts a.desks.first a.desks.second c.room_of.ensures c.are_bytes_shared.ensures))

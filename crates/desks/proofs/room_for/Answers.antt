@@ -4,4 +4,4 @@ use Rattle.desks.proofs.room_for.Goals as goal
 pub returns : goal.returns
 returns c =
     let owed = c.other_of-other.ensures in
-    rw (c.over-4.ensures, c.over-3.ensures, c.over-2.ensures, c.over.ensures, owed)
+    rw (c.saturating_sub-4.ensures, c.saturating_sub-3.ensures, c.saturating_sub-2.ensures, c.saturating_sub.ensures, owed)

@@ -1,11 +1,11 @@
 -- `pool_rows::find_string` meets its contract: `Searching` is what the loop keeps. Assumes nothing.
-use mathlib.Core.Path.{sym, ◌∙◌}
+use mathlib.Core.Path.{◌≡◌, sym, ◌∙◌}
 use native.Mathlib.Omega.{arith}
 use Rattle.pool_rows.proofs.Loops.{seek, found_here, not_here, none_left}
 use Rattle.pool_rows.proofs.find_string.Goals as goal
 
 pub loop-i-init : goal.loop-i-init
-loop-i-init c = (omega arith, seek _ _ _ _)
+loop-i-init c = seek _ _ _ _
 
 pub is_at-requires : goal.is_at-requires
 is_at-requires c = c.requires.0 c.loop-i.i (omega arith)
@@ -13,12 +13,14 @@ is_at-requires c = c.requires.0 c.loop-i.i (omega arith)
 pub returns-then-is_at : goal.returns-then-is_at
 returns-then-is_at c =
     let turn = c.loop-i in
-    found_here _ _ _ _ _ turn.invariant.1 (omega arith) (sym c.is_at.ensures ∙ c.if-is_at.true)
+    found_here _ _ _ _ _ turn.invariant (omega arith) (sym c.is_at.ensures ∙ c.if-is_at.true)
 
 pub loop-i-preserved : goal.loop-i-preserved
 loop-i-preserved c =
     let turn = c.loop-i in
-    (omega arith, not_here _ _ _ _ _ turn.invariant.1 (omega arith) (sym c.is_at.ensures ∙ c.if-is_at.false))
+    not_here _ _ _ _ _ turn.invariant (omega arith) (sym c.is_at.ensures ∙ c.if-is_at.false)
 
 pub returns : goal.returns
-returns c = none_left _ _ _ _ _ c.loop-i.invariant.1 (omega arith)
+returns c =
+    let e : c.loop-i.i ≡ c.args.n = omega arith in
+    sym e ∙ none_left _ _ _ _ _ c.loop-i.invariant (omega arith)

@@ -1,10 +1,6 @@
 -- `pool_rows::find_string` meets its contract: `Searching` is what the loop keeps. Assumes nothing.
-use Prim.Native.Nat.{◌-◌, ◌≤◌}
 use Rattle.pool_rows.proofs.Loops.{Searching}
 use Rattle.pool_rows.proofs.find_string.Given as goal
 
 abbrev pub invariant-loop-i : goal.invariant-loop-i
-invariant-loop-i l = (l.i ≤ l.n) × Searching l.string l.bytes l.entries l.n l.i
-
-abbrev pub decreases-loop-i : goal.decreases-loop-i
-decreases-loop-i l = l.n - l.i
+invariant-loop-i l = Searching l.string l.bytes l.entries l.n l.i

@@ -6,13 +6,13 @@ use Rattle.pool_rows.proofs.Loops.{run, broken, one_run, all_run}
 use Rattle.pool_rows.proofs.runs_to.Goals as goal
 
 pub loop-i-init : goal.loop-i-init
-loop-i-init c = (omega arith, omega arith, run _ _ _)
+loop-i-init c = (omega arith, run _ _ _)
 
 pub overflow_cast-start : goal.overflow_cast-start
 overflow_cast-start c = omega (arith, c.shared_slice_known-1.given (2 * c.loop-i.i))
 
 pub returns-then-start-next : goal.returns-then-start-next
-returns-then-start-next c = let turn = c.loop-i in broken _ _ _ _ _ turn.invariant.2 (omega arith) c.if-start-next.true
+returns-then-start-next c = let turn = c.loop-i in broken _ _ _ _ _ turn.invariant.1 (omega arith) c.if-start-next.true
 
 pub overflow_cast-next : goal.overflow_cast-next
 overflow_cast-next c = omega (arith, c.shared_slice_known-in-loop-i-1.given (2 * c.loop-i.i + 1))
@@ -25,10 +25,9 @@ overflow_add-next-in-loop-i c =
 pub loop-i-preserved : goal.loop-i-preserved
 loop-i-preserved c =
     let turn = c.loop-i in (
-      omega arith,
       omega (arith, c.shared_slice_known-1.given (2 * turn.i), c.shared_slice_known-in-loop-i-1.given (2 * turn.i + 1)),
-      one_run _ _ _ _ _ turn.invariant.2 (omega arith) c.if-start-next.false,
+      one_run _ _ _ _ _ turn.invariant.1 (omega arith) c.if-start-next.false,
     )
 
 pub returns : goal.returns
-returns c = all_run _ _ _ _ _ c.loop-i.invariant.2 (omega arith)
+returns c = all_run _ _ _ _ _ c.loop-i.invariant.1 (omega arith)

