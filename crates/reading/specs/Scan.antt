@@ -62,7 +62,7 @@ whole room n b deep = pick (ltb n room) (Err (ModesFull n b)) (Err (ListFull n b
 -- the answer where reading goes on from the byte b into a list that has k records of its room
 abbrev pub by_room : ℕ → ℕ → ℕ → Reading → Scanned
 by_room room k b r =
-    pick (ltb room (k + length r.rows)) (ListFull room (end_of b (take (room - k) r.rows)))
+    pick (ltb room (k + length r.rows)) (Err (ListFull room (end_of b (take (room - k) r.rows))))
     (whole room (k + length r.rows) (end_of b r.rows) r.stop)
 
 -- a list in which the first n records of a reading are put from record k on; every other word stays
