@@ -3,7 +3,7 @@
 --     on_rest_agrees, on_reading_agrees    an answer by them, or else by what is left to read from a state, or by the reading
 --     scan_agrees                          answer and words of a scan
 -- Assumes nothing.
-use Rattle.std.specs.Prelude.{ℕ, ◌≡◌, refl, List, [], take}
+use Rattle.std.specs.Prelude.{ℕ, ◌≡◌, refl, List, [], Err, take}
 use Rattle.std.proofs.Common.{sym, ◌∙◌}
 use Rattle.std.proofs.Math.Path.{ap}
 use Rattle.base.specs.Refusal.{source_most}
@@ -26,8 +26,8 @@ use Rattle.state.specs.State.{start_state}
 use Rattle.state.specs.declared.State.{State}
 use Rattle.reading.specs.Reading.{Reading, read_from}
 use Rattle.reading.specs.Scan.{marked_rows, by_room, reading_of, scanned, written_by, written, written_marked, writes_in, ScansIn}
-use Rattle.reading.specs.declared.Scanned.{Scanned}
-use Rattle.reading.specs.declared.Scanned.TheVariants.{Refused}
+use Rattle.reading.specs.Scan.{Scanned}
+use Rattle.reading.specs.declared.ScanError.TheVariants.{Refused}
 use Rattle.agree.specs.ReadingLaws.{left_agrees, read_agrees}
 
 -- of a table the refusals ask only whether it is fit
@@ -66,7 +66,7 @@ module _ (source t u : List ℕ) (edition : ℕ) (fit : table_check t ≡ Fit) (
 
   pub scanned_agrees : (n : ℕ) → scanned source t edition n ≡ scanned source u edition n
   unfolding scanned
-  scanned_agrees n = on_reading_agrees Refused (by_room n 0 0)
+  scanned_agrees n = on_reading_agrees (λ x. Err (Refused x)) (by_room n 0 0)
 
   -- nothing is written where a refusal comes before any work
   none_written : {A : Type 0} (v : List ℕ) (n : ℕ) {x : Refusal} → input_check source_most source v edition ≡ input.Refused x → (rows : List A)

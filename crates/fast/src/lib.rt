@@ -18,7 +18,7 @@ use found::copied;
 use input::SOURCE_MOST;
 use layout::Layout;
 use lexer::What;
-use reading::{Scanned, row_of};
+use reading::{Scan, ScanError, row_of};
 use scan::{full, stuck};
 use signs::signs;
 use state::{Change, State};
@@ -34,7 +34,7 @@ fn read_on_by(
     start: State,
     list: &mut [u32],
     first: usize,
-) -> Scanned
+) -> Result<Scan, ScanError>
     requires ok { Ok source.now start × FitTable table.now × (first ≤ room_in layout list.old) }
     requires rows { Rows classes.now signs.now }
     ensures { ReadsOnIn layout (properties_at table.now) edition source.now start first list.old result list.new }
@@ -58,7 +58,7 @@ fn read_on_by(
         match what {
             What::Token(token) => {
                 if layout.room(list) <= count {
-                    return Scanned::ListFull { count, byte };
+                    return Err(ScanError::ListFull { count, byte });
                 }
                 layout.put(&mut *list, count, row_of(token, lexer, next), false);
                 count += 1;
@@ -76,7 +76,7 @@ fn read_on_by(
                 return full(layout.room(list), count, byte);
             }
             What::End => {
-                return Scanned::End { count, byte };
+                return Ok(Scan::End { count, byte });
             }
         }
     }
@@ -92,7 +92,7 @@ fn read_on(
     start: State,
     list: &mut [u32],
     first: usize,
-) -> Scanned
+) -> Result<Scan, ScanError>
     requires ok { Ok source.now start × FitTable table.now × (first ≤ room_in layout list.old) }
     requires class_table { ClassTable classes.now }
     ensures { ReadsOnIn layout (properties_at table.now) edition source.now start first list.old result list.new }
@@ -104,12 +104,17 @@ fn read_on(
 }
 
 // Writes the records of a source at the start of the list, as `scan::scan` does: the same answer and the same words, on every input.
-pub fn scan_fast(source: &[u8], table: &[u32], edition: u32, list: &mut [u32]) -> Scanned
+pub fn scan_fast(
+    source: &[u8],
+    table: &[u32],
+    edition: u32,
+    list: &mut [u32],
+) -> Result<Scan, ScanError>
     ensures { Scans source.now table.now edition list.old result list.new }
 {
     let classes = classes();
     match input::check_input(source, table, edition, SOURCE_MOST) {
-        Err(refusal) => Scanned::Refused(refusal),
+        Err(refusal) => Err(ScanError::Refused(refusal)),
         Ok(()) => read_on(
             Layout::Whole,
             source,

@@ -47,29 +47,17 @@ pub fn row_before(list: &[u32], i: usize) -> Row
 fn is_chained(before: Row, row: Row) -> bool
     ensures { result ≡ chained before row }
 {
-    if row.start != before.end {
-        return false;
-    }
-    if row.start_line != before.end_line {
-        return false;
-    }
-    row.start_column == before.end_column
+    row.start == before.end
+        && (row.start_line == before.end_line && row.start_column == before.end_column)
 }
 
 // Whether it does not end before it starts, in bytes and in its span.
 fn is_forward(row: Row) -> bool
     ensures { result ≡ forward row }
 {
-    if row.end < row.start {
-        return false;
-    }
-    if row.start_line < row.end_line {
-        return true;
-    }
-    if row.start_line != row.end_line {
-        return false;
-    }
-    row.start_column <= row.end_column
+    row.start <= row.end
+        && (row.start_line < row.end_line
+            || (row.start_line == row.end_line && row.start_column <= row.end_column))
 }
 
 // Whether it stands over "\n" or "\r\n".
@@ -82,13 +70,7 @@ fn is_over_newline(source: &[u8], row: Row) -> bool
     if end == start + 1 {
         return source[start] == LF;
     }
-    if end != start + 2 {
-        return false;
-    }
-    if source[start] != CR {
-        return false;
-    }
-    source[start + 1] == LF
+    end == start + 2 && (source[start] == CR && source[start + 1] == LF)
 }
 
 // Whether a record with this first number may be the last that is kept, where the edited line starts at `line`.
@@ -119,8 +101,7 @@ pub fn kept_rows(source: &[u8], line: usize, list: &[u32], count: usize) -> usiz
     ensures { result ≡ kept_rows source.now line list.now count }
 {
     let mut before = no_row();
-    let mut i = 0;
-    while i < count {
+    for i in 0..count {
         let row = read_row(list, i);
         if !is_chained(before, row) {
             return 0;
@@ -135,7 +116,6 @@ pub fn kept_rows(source: &[u8], line: usize, list: &[u32], count: usize) -> usiz
             return 0;
         }
         before = row;
-        i += 1;
     }
     0
 }

@@ -7,6 +7,7 @@
 --     rescans, rescans_short      so the whole is a scan of the new source
 --     rescan_is_scan, short_rescan_is_scan     the same, by the old list and the newline's place
 -- Assumes nothing.
+use Rattle.std.specs.Prelude as result
 use Rattle.std.specs.Prelude.{ℕ, zero, suc, ◌+◌, ◌-◌, ◌≤◌, ◌<◌, ◌≡◌, refl, List, [], ◌∷◌, ◌++◌, length, get_or, take, drop}
 use Rattle.std.proofs.Common.{arith, sym, ap, subst, ◌∙◌, length-append, length-take-le, get_or-take, take-take}
 use Rattle.std.proofs.Math.Seq.{drop-append-add, split_at}
@@ -27,8 +28,8 @@ use Rattle.stepping.specs.Invariant.{Ok}
 use Rattle.reading.specs.Reading.{Reading, onto, read_from, reading}
 use Rattle.reading.specs.Scan.{end_of, Fills, ReadsOn, reading_of, Scans, count_of}
 use Rattle.reading.specs.ScanLaws.{fills_full, fills_row, scans_fine}
-use Rattle.reading.specs.declared.Scanned.{Scanned}
-use Rattle.reading.specs.declared.Scanned.TheVariants.{ListFull}
+use Rattle.reading.specs.Scan.{Scanned}
+use Rattle.reading.specs.declared.ScanError.TheVariants.{ListFull}
 use Rattle.line.specs.Line.{line}
 use Rattle.line.specs.SourceLaws.{after_line}
 use Rattle.kept.specs.Kept.{onto_all, last_of, UpTo, Shares, resumed, ResumesIn, OldList, Edited, KeptTo}
@@ -51,25 +52,25 @@ fills_rows (row ∷ rows) l k b r x new h f =
 
 -- records that do not all have room
 pub fills_short : (rows : List Row) (l : List ℕ) (k b : ℕ) (r : Reading) → k ≤ room l → room l < k + length rows
-    → Fills l k b (onto_all rows r) (ListFull (room l) (end_of b (take (room l - k) rows))) (put_rows_at l k (take (room l - k) rows))
+    → Fills l k b (onto_all rows r) (result.Err (ListFull (room l) (end_of b (take (room l - k) rows)))) (put_rows_at l k (take (room l - k) rows))
 unfolding put_rows_at put_row end_of
 fills_short [] l k b r h o = absurd (omega arith)
 fills_short (row ∷ rows) l k b r h o =
     let Short : ℕ → Type 0 =
-    λ n. Fills l k b (onto row (onto_all rows r)) (ListFull (room l) (end_of b (take n (row ∷ rows)))) (put_rows_at l k (take n (row ∷ rows))) in
+    λ n. Fills l k b (onto row (onto_all rows r)) (result.Err (ListFull (room l) (end_of b (take n (row ∷ rows))))) (put_rows_at l k (take n (row ∷ rows))) in
     split_lt k (room l)
     (λ j. let same : room (put_row l k row) ≡ room l = put_room l k row j in
     let n : suc (room l - (k + 1)) ≡ room l - k = omega arith in
     subst Short n
-    (fills_row l k b row (onto_all rows r) (ListFull (room l) (end_of row.end (take (room l - (k + 1)) rows)))
+    (fills_row l k b row (onto_all rows r) (result.Err (ListFull (room l) (end_of row.end (take (room l - (k + 1)) rows))))
     (put_rows_at (put_row l k row) (k + 1) (take (room l - (k + 1)) rows)) j
     (subst
-    (λ (m : ℕ). Fills (put_row l k row) (k + 1) row.end (onto_all rows r) (ListFull m (end_of row.end (take (m - (k + 1)) rows)))
+    (λ (m : ℕ). Fills (put_row l k row) (k + 1) row.end (onto_all rows r) (result.Err (ListFull m (end_of row.end (take (m - (k + 1)) rows))))
     (put_rows_at (put_row l k row) (k + 1) (take (m - (k + 1)) rows)))
     same (fills_short rows (put_row l k row) (k + 1) row.end r (omega arith) (omega arith)))))
     (λ j. let e : k ≡ room l = omega arith in
     let n : 0 ≡ room l - k = omega arith in
-    subst Short n (subst (λ (m : ℕ). Fills l k b (onto row (onto_all rows r)) (ListFull m b) l) e (fills_full l k b row (onto_all rows r) e)))
+    subst Short n (subst (λ (m : ℕ). Fills l k b (onto row (onto_all rows r)) (result.Err (ListFull m b)) l) e (fills_full l k b row (onto_all rows r) e)))
 
 -- where the modes are empty behind the last of the kept records
 module _ (look : ℕ → ℕ) (edition : ℕ) (s t : List ℕ) (kept : List Row) (c : Shares look edition s t start_state kept) (none : c.state.modes.depth ≡ 0) (d : Row) where
@@ -179,14 +180,14 @@ module _ (table : List ℕ) (edition : ℕ) (a x y : List ℕ) where
 
     -- where they do not all have room, the scan is refused for the same reason
     pub rescans_short : (old : List ℕ) → room old < length kept
-        → Scans T table edition old (ListFull (room old) (end_of 0 (take (room old) kept))) (put_rows_at old 0 (take (room old) kept))
+        → Scans T table edition old (result.Err (ListFull (room old) (end_of 0 (take (room old) kept)))) (put_rows_at old 0 (take (room old) kept))
     rescans_short old h =
         let behind = read_from (properties_at table) edition T common.state in
         let n : room old - 0 ≡ room old = omega arith in
         scans_fine (is_fine_lem source_most T table edition good) refl
-        (subst (λ (q : Reading). Fills old 0 0 q (ListFull (room old) (end_of 0 (take (room old) kept))) (put_rows_at old 0 (take (room old) kept)))
+        (subst (λ (q : Reading). Fills old 0 0 q (result.Err (ListFull (room old) (end_of 0 (take (room old) kept)))) (put_rows_at old 0 (take (room old) kept)))
         (sym common.second)
-        (subst (λ (m : ℕ). Fills old 0 0 (onto_all kept behind) (ListFull (room old) (end_of 0 (take m kept))) (put_rows_at old 0 (take m kept))) n
+        (subst (λ (m : ℕ). Fills old 0 0 (onto_all kept behind) (result.Err (ListFull (room old) (end_of 0 (take m kept)))) (put_rows_at old 0 (take m kept))) n
         (fills_short kept old 0 0 behind (omega arith) (omega arith))))
 
 -- ---- by the old list and the newline's place
@@ -239,9 +240,9 @@ module _ (table : List ℕ) (edition : ℕ) (s old₀ list : List ℕ) (r₀ : S
 
     -- and so is copying as many as have room
     pub short_rescan_is_scan : (old : List ℕ) → room old < length kept
-        → Scans t table edition old (ListFull (room old) (end_of 0 (take (room old) kept))) (put_rows_at old 0 (take (room old) kept))
+        → Scans t table edition old (result.Err (ListFull (room old) (end_of 0 (take (room old) kept)))) (put_rows_at old 0 (take (room old) kept))
     short_rescan_is_scan old m =
-        subst (λ (z : List ℕ). Scans z table edition old (ListFull (room old) (end_of 0 (take (room old) kept))) (put_rows_at old 0 (take (room old) kept)))
+        subst (λ (z : List ℕ). Scans z table edition old (result.Err (ListFull (room old) (end_of 0 (take (room old) kept)))) (put_rows_at old 0 (take (room old) kept)))
         (sym two)
         (rescans_short table edition (take n s) (drop (suc n) s) (drop (suc n) t) old_good new_good kept
         (drop (suc k) (reading_of s table edition).rows) up begins old m)

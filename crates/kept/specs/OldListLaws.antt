@@ -4,7 +4,7 @@
 --     old_words    it has the words of its records
 --     old_kept     so the first of them begin the reading
 -- Assumes nothing.
-use Rattle.std.specs.Prelude.{ℕ, zero, suc, ◌+◌, ◌≤◌, ◌<◌, ◌≡◌, List, [], ◌∷◌, ◌++◌, ltb, get_or, take, drop}
+use Rattle.std.specs.Prelude.{ℕ, zero, suc, ◌+◌, ◌≤◌, ◌<◌, ◌≡◌, List, [], ◌∷◌, ◌++◌, Err, ltb, get_or, take, drop}
 use Rattle.std.proofs.Common.{arith, sym, subst, ◌∙◌, take-append-drop, length-take-le, take_all, take-take, get_or-take}
 use Rattle.std.proofs.Math.Path.{refl, ap}
 use Rattle.std.proofs.Math.Bool.{true}
@@ -27,8 +27,8 @@ use Rattle.reading.specs.Reading.{Stop, ended, stuck, deep, Reading}
 use Rattle.reading.specs.ShownLaws.{reading_shown}
 use Rattle.reading.specs.ScanLaws.{room_writes}
 use Rattle.reading.specs.Scan.{end_of, whole, by_room, reading_of, scanned, written_by, written, Scans, count_of}
-use Rattle.reading.specs.declared.Scanned.{Scanned}
-use Rattle.reading.specs.declared.Scanned.TheVariants.{Refused}
+use Rattle.reading.specs.Scan.{Scanned}
+use Rattle.reading.specs.declared.ScanError.TheVariants.{Refused}
 use Rattle.kept.specs.Kept.{OldList}
 
 -- ---- by the reading
@@ -64,8 +64,8 @@ module _ (s table : List ℕ) (edition n : ℕ) where
   unfolding scanned
   unrefused = go (input_check source_most s table edition) refl
     where
-      go : (c : Input) → input_check source_most s table edition ≡ c → 0 < count_of (on_input Refused c (by_room n 0 0 (reading_of s table edition)))
-          → ByReading (on_input Refused c (by_room n 0 0 (reading_of s table edition)))
+      go : (c : Input) → input_check source_most s table edition ≡ c → 0 < count_of (on_input (λ x. Err (Refused x)) c (by_room n 0 0 (reading_of s table edition)))
+          → ByReading (on_input (λ x. Err (Refused x)) c (by_room n 0 0 (reading_of s table edition)))
       go input.Fine e k = record { readable = fine_of source_most s table edition e; by_room_lem = refl }
       go (input.Refused x) e k = absurd (omega arith)
 

@@ -3,11 +3,11 @@
 --     end_first, stuck_first            the pass over its list finds the first forbidden record
 --     profiles_end, profiles_stuck      so it gives the profile's answer
 --     profiled_same                     which is the same for tables that scan alike
---     profiles_by                       from a scan's answer: one that is refused is the answer as it is
+--     profiles_by, profiles_err         from a scan's answer: one that is refused is the answer as it is
 --     judged_out, judged_in             with a forbidden record, and without
 --     one_answer                        no second answer and no second list fits
 -- Assumes nothing.
-use Rattle.std.specs.Prelude.{ℕ, ◌<◌, ◌≤◌, ◌≡◌, refl, List, length, get_or, Some}
+use Rattle.std.specs.Prelude.{ℕ, ◌<◌, ◌≤◌, ◌≡◌, refl, List, Some, Ok, Err, length, get_or}
 use Rattle.std.proofs.Common.{arith, sym, subst, ◌∙◌, lt-ltb, le-ltb}
 use Rattle.std.proofs.Math.Path.{ap}
 use Rattle.property.specs.Table.{properties_at}
@@ -21,19 +21,19 @@ use Rattle.state.specs.Lexer.{start_lexer}
 use Rattle.state.specs.State.{start_state}
 use Rattle.stepping.specs.InvariantLaws.{start_ok_lem}
 use Rattle.reading.specs.Reading.{Stop, row_of}
-use Rattle.reading.specs.Scan.{reading_of, Scans}
+use Rattle.reading.specs.Scan.{Scanned, reading_of, Scans}
 use Rattle.reading.specs.ShownLaws.{reading_shown}
 use Rattle.reading.specs.WholeLaws.{ReadWhole, end_whole, stuck_whole}
-use Rattle.reading.specs.declared.Scanned.{Scanned}
-use Rattle.reading.specs.declared.Scanned.TheVariants.{End, Stuck, Refused, ListFull, ModesFull}
+use Rattle.reading.specs.declared.Scan.{Scan}
+use Rattle.reading.specs.declared.Scan.TheVariants.{End, Stuck}
+use Rattle.reading.specs.declared.ScanError.{ScanError}
 use Rattle.rust.specs.TokenLexer.{new_token_lexer}
 use Rattle.rust.proofs.HandsLaws.{reading_hands}
 use Rattle.forbidden.specs.Forbidden.{first_forbidden}
-use Rattle.profile.specs.Profile.{judged, profiled_by, Profiles}
+use Rattle.profile.specs.Profile.{Profiled, as_scan, judged, profiled_by, Profiles}
 use Rattle.forbidden.specs.Pass.{pass_from}
 use Rattle.forbidden.proofs.PassLaws.{pass_is}
-use Rattle.profile.specs.declared.Profiled.{Profiled}
-use Rattle.profile.specs.declared.Profiled.TheVariants.{Base, NotInProfile}
+use Rattle.profile.specs.declared.ProfileError.TheVariants.{NotInProfile}
 
 module _ (source table : List ℕ) (edition : ℕ) (old new : List ℕ) where
   -- any record: what is read past the end of a list
@@ -73,45 +73,47 @@ module _ (source table : List ℕ) (edition : ℕ) (old new : List ℕ) where
         → Profiles source table edition old r new
     profiles_by e q = record { answer = q ∙ ap (profiled_by (first_forbidden source table edition)) (sym e ∙ p.answer); words = p.words }
 
-    pub end_room : {n b : ℕ} → x ≡ End n b → n ≤ room new
+    -- a refusal of the scan, as it is
+    pub profiles_err : {e : ScanError} → x ≡ Err e → Profiles source table edition old (as_scan (Err e)) new
+    profiles_err e = profiles_by e refl
+
+    pub end_room : {n b : ℕ} → x ≡ Ok (End n b) → n ≤ room new
     end_room {n} {b} e = let w = end_whole source table edition old new n b (is e) in has_room n _ w.0 w.1
 
-    pub stuck_room : {n b : ℕ} → x ≡ Stuck n b → n ≤ room new
+    pub stuck_room : {n b : ℕ} → x ≡ Ok (Stuck n b) → n ≤ room new
     stuck_room {n} {b} e = let w = stuck_whole source table edition old new n b (is e) in has_room n _ w.0 w.1
 
     -- the first forbidden record, by the list
-    pub end_first : {n b : ℕ} → x ≡ End n b → pass_from (shown_at new) 0 0 n ≡ first_forbidden source table edition
+    pub end_first : {n b : ℕ} → x ≡ Ok (End n b) → pass_from (shown_at new) 0 0 n ≡ first_forbidden source table edition
     end_first {n} {b} e = let w = end_whole source table edition old new n b (is e) in found n _ w.0 w.1
 
-    pub stuck_first : {n b : ℕ} → x ≡ Stuck n b → pass_from (shown_at new) 0 0 n ≡ first_forbidden source table edition
+    pub stuck_first : {n b : ℕ} → x ≡ Ok (Stuck n b) → pass_from (shown_at new) 0 0 n ≡ first_forbidden source table edition
     stuck_first {n} {b} e = let w = stuck_whole source table edition old new n b (is e) in found n _ w.0 w.1
 
-    pub profiles_end : {n b : ℕ} {r : Profiled} → x ≡ End n b → r ≡ judged (pass_from (shown_at new) 0 0 n) n (End n b)
+    pub profiles_end : {n b : ℕ} {r : Profiled} → x ≡ Ok (End n b) → r ≡ judged (pass_from (shown_at new) 0 0 n) n (End n b)
         → Profiles source table edition old r new
     profiles_end {n} {b} e q = profiles_by e (q ∙ ap (λ (first : ℕ). judged first n (End n b)) (end_first e))
 
-    pub profiles_stuck : {n b : ℕ} {r : Profiled} → x ≡ Stuck n b → r ≡ judged (pass_from (shown_at new) 0 0 n) n (Stuck n b)
+    pub profiles_stuck : {n b : ℕ} {r : Profiled} → x ≡ Ok (Stuck n b) → r ≡ judged (pass_from (shown_at new) 0 0 n) n (Stuck n b)
         → Profiles source table edition old r new
     profiles_stuck {n} {b} e q = profiles_by e (q ∙ ap (λ (first : ℕ). judged first n (Stuck n b)) (stuck_first e))
 
 -- two tables whose scans of a source are the same have the same answer by the profile
 pub profiled_same : (source t u : List ℕ) (edition : ℕ) (old new : List ℕ) (x : Scanned) → Scans source t edition old x new
     → Scans source u edition old x new → profiled_by (first_forbidden source t edition) x ≡ profiled_by (first_forbidden source u edition) x
-profiled_same source t u edition old new (End n b) p q =
+profiled_same source t u edition old new (Ok (End n b)) p q =
     ap (λ (first : ℕ). judged first n (End n b)) (sym (end_first source t edition old new p refl) ∙ end_first source u edition old new q refl)
-profiled_same source t u edition old new (Stuck n b) p q =
+profiled_same source t u edition old new (Ok (Stuck n b)) p q =
     ap (λ (first : ℕ). judged first n (Stuck n b)) (sym (stuck_first source t edition old new p refl) ∙ stuck_first source u edition old new q refl)
-profiled_same source t u edition old new (Refused y) p q = refl
-profiled_same source t u edition old new (ListFull n b) p q = refl
-profiled_same source t u edition old new (ModesFull n b) p q = refl
+profiled_same source t u edition old new (Err e) p q = refl
 
 -- ---- how a scan that was not refused is judged
 
-module _ {i first : ℕ} (n : ℕ) (s : Scanned) (e : i ≡ first) where
-  pub judged_out : i < n → NotInProfile n i ≡ judged first n s
+module _ {i first : ℕ} (n : ℕ) (s : Scan) (e : i ≡ first) where
+  pub judged_out : i < n → Err (NotInProfile n i) ≡ judged first n s
   judged_out h = rw (sym e, lt-ltb i n h)
 
-  pub judged_in : n ≤ i → Base s ≡ judged first n s
+  pub judged_in : n ≤ i → Ok s ≡ judged first n s
   judged_in h = rw (sym e, le-ltb i n h)
 
 pub one_answer : (source table : List ℕ) (edition : ℕ) (old : List ℕ) (r q : Profiled) (new other : List ℕ) → Profiles source table edition old r new

@@ -2,46 +2,50 @@
 ghost use Rattle.std.specs.Prelude.{◌≡◌};
 ghost use Rattle.profile.specs.Profile.{number_of, place_of, count_of, status_of};
 
-use crate::Profiled;
+use crate::ProfileError;
 use base::refusals::NOT_IN_PROFILE;
-use reading::answer;
+use reading::{Scan, answer};
 
 // The refusal's number; 0 where there is no refusal.
-pub fn number_of(profiled: Profiled) -> u32
+pub fn number_of(profiled: Result<Scan, ProfileError>) -> u32
     ensures { result ≡ number_of profiled }
 {
     match profiled {
-        Profiled::Base(scanned) => answer::number_of(scanned),
-        Profiled::NotInProfile { count: _, index: _ } => NOT_IN_PROFILE,
+        Ok(scan) => answer::number_of(Ok(scan)),
+        Err(ProfileError::Scan(error)) => answer::number_of(Err(error)),
+        Err(ProfileError::NotInProfile { .. }) => NOT_IN_PROFILE,
     }
 }
 
 // The refusal's place, which is the record's index for 21; the current byte where there is no refusal.
-pub fn place_of(profiled: Profiled) -> usize
+pub fn place_of(profiled: Result<Scan, ProfileError>) -> usize
     ensures { result ≡ place_of profiled }
 {
     match profiled {
-        Profiled::Base(scanned) => answer::place_of(scanned),
-        Profiled::NotInProfile { count: _, index } => index,
+        Ok(scan) => answer::place_of(Ok(scan)),
+        Err(ProfileError::Scan(error)) => answer::place_of(Err(error)),
+        Err(ProfileError::NotInProfile { index, .. }) => index,
     }
 }
 
 // How many records were written.
-pub fn count_of(profiled: Profiled) -> usize
+pub fn count_of(profiled: Result<Scan, ProfileError>) -> usize
     ensures { result ≡ count_of profiled }
 {
     match profiled {
-        Profiled::Base(scanned) => answer::count_of(scanned),
-        Profiled::NotInProfile { count, index: _ } => count,
+        Ok(scan) => answer::count_of(Ok(scan)),
+        Err(ProfileError::Scan(error)) => answer::count_of(Err(error)),
+        Err(ProfileError::NotInProfile { count, .. }) => count,
     }
 }
 
 // How it ended.
-pub fn status_of(profiled: Profiled) -> u32
+pub fn status_of(profiled: Result<Scan, ProfileError>) -> u32
     ensures { result ≡ status_of profiled }
 {
     match profiled {
-        Profiled::Base(scanned) => answer::status_of(scanned),
-        Profiled::NotInProfile { count: _, index: _ } => answer::REFUSED,
+        Ok(scan) => answer::status_of(Ok(scan)),
+        Err(ProfileError::Scan(error)) => answer::status_of(Err(error)),
+        Err(ProfileError::NotInProfile { .. }) => answer::REFUSED,
     }
 }

@@ -11,15 +11,15 @@ ghost use Rattle.rows.specs.Row.{room, shown_at};
 ghost use Rattle.profile.specs.Profile.{judged, Profiles};
 ghost use Rattle.forbidden.specs.Pass.{is_inner, is_forbidden_by, opener_after, forbidden_at, opener_at, pass_from};
 
-use reading::Scanned;
+use reading::{Scan, ScanError};
 use rows::{Row, RowAt};
 use token::kinds::{CURLY_OPEN, STRING_START};
 
-// What a scan by the profile answers.
+// Why a scan by the profile is refused.
 #[derive(Clone, Copy)]
-pub enum Profiled {
-    // What the scan answers: there is no forbidden token, or the scan was refused.
-    Base(Scanned),
+pub enum ProfileError {
+    // The scan was refused, as it is.
+    Scan(ScanError),
     // Refusal 21: the scan was not refused and has `count` records, of which record `index` is the first of a forbidden token.
     NotInProfile { count: usize, index: usize },
 }
@@ -83,41 +83,43 @@ fn first_forbidden(list: &[u32], count: usize) -> usize
     ensures { result ≡ pass_from (shown_at list.now) 0 0 count }
 {
     let mut opener = 0;
-    let mut i = 0;
-    while i < count {
+    for i in 0..count {
         let at = rows::row_at(list, i);
         if forbidden_at(opener, at) {
             return i;
         }
         opener = opener_at(opener, at);
-        i += 1;
     }
     count
 }
 
 // A scan of so many records that was not refused, by the profile.
-fn judge(list: &[u32], count: usize, scanned: Scanned) -> Profiled
+fn judge(list: &[u32], count: usize, scan: Scan) -> Result<Scan, ProfileError>
     requires { count ≤ room list.now }
-    ensures { result ≡ judged (pass_from (shown_at list.now) 0 0 count) count scanned }
+    ensures { result ≡ judged (pass_from (shown_at list.now) 0 0 count) count scan }
 {
     let index = first_forbidden(list, count);
     if index < count {
-        return Profiled::NotInProfile { count, index };
+        return Err(ProfileError::NotInProfile { count, index });
     }
-    Profiled::Base(scanned)
+    Ok(scan)
 }
 
 // Scans as `scan` does, and then refuses with 21 where a token is forbidden, at the first of them; the list keeps the whole scan. A scan that is
 // refused is refused as it was.
-pub fn scan_profile(source: &[u8], table: &[u32], edition: u32, list: &mut [u32]) -> Profiled
+pub fn scan_profile(
+    source: &[u8],
+    table: &[u32],
+    edition: u32,
+    list: &mut [u32],
+) -> Result<Scan, ProfileError>
     ensures { Profiles source.now table.now edition list.old result list.new }
 {
-    let scanned = scan::scan(source, table, edition, &mut *list);
-    match scanned {
-        Scanned::End { count, byte: _ } => judge(list, count, scanned),
-        Scanned::Stuck { count, byte: _ } => judge(list, count, scanned),
-        Scanned::Refused(_) => Profiled::Base(scanned),
-        Scanned::ListFull { count: _, byte: _ } => Profiled::Base(scanned),
-        Scanned::ModesFull { count: _, byte: _ } => Profiled::Base(scanned),
+    match scan::scan(source, table, edition, &mut *list) {
+        Ok(scan) => match scan {
+            Scan::End { count, .. } => judge(list, count, scan),
+            Scan::Stuck { count, .. } => judge(list, count, scan),
+        },
+        Err(error) => Err(ProfileError::Scan(error)),
     }
 }

@@ -5,6 +5,7 @@
 --     at_end, at_modes, at_full, at_stuck       the ways out
 --     again                                     a turn
 -- Assumes nothing.
+use Rattle.std.specs.Prelude as result
 use Rattle.std.specs.Prelude.{ℕ, ◌+◌, ◌≤◌, ◌<◌, ◌≡◌, refl, true, false, List, length}
 use Rattle.std.proofs.Common.{arith, sym, ap, subst, ◌∙◌}
 use Rattle.property.specs.Table.{properties_at}
@@ -28,25 +29,25 @@ use Rattle.stepping.specs.Invariant.{Ok}
 use Rattle.lexer.specs.declared.Half.{Half}
 use Rattle.lexer.specs.declared.What.TheVariants as what
 use Rattle.reading.specs.Reading.{row_of, ended, stuck, deep, Reading, stuck_reading, stopped, read_from}
-use Rattle.reading.specs.Scan.{stands_still, whole, FillsIn, ReadsOnIn}
+use Rattle.reading.specs.Scan.{Scanned, stands_still, whole, FillsIn, ReadsOnIn}
 use Rattle.reading.specs.ScanLaws.{fills_none, fills_full, fills_row}
 use Rattle.reading.specs.ShownLaws.{stuck_some, still_last}
 use Rattle.reading.specs.HeadLaws.{Head, begin_head, left_is, left_token, left_stuck, byte_after, byte_stays, head_again}
-use Rattle.reading.specs.declared.Scanned.{Scanned}
-use Rattle.reading.specs.declared.Scanned.TheVariants.{End, Stuck, ListFull}
+use Rattle.reading.specs.declared.Scan.TheVariants.{End, Stuck}
+use Rattle.reading.specs.declared.ScanError.TheVariants.{ListFull}
 
 -- ---- an Error that stands still
 
 module _ {layout : Layout} (l : List ℕ) (k : ℕ) (before after : Lexer) where
   pub stuck_written : k < room_in layout l → {t : Token} {row : Row} {new : List ℕ} → t ≡ token_of error → row ≡ row_of t before after
       → new ≡ put_in layout l k (marked row true)
-      → FillsIn layout l k (reach_of after).byte.0 (stuck_reading before after) (Stuck (k + 1) (reach_of after).byte.0) new
+      → FillsIn layout l k (reach_of after).byte.0 (stuck_reading before after) (result.Ok (Stuck (k + 1) (reach_of after).byte.0)) new
   stuck_written h {t} {row} {new} e q p =
       let last : Row = row_of (token_of error) before after in
       let put : List ℕ = put_in layout l k (marked last true) in
       let written : new ≡ put = p ∙ ap (λ (x : Row). put_in layout l k (marked x true)) (q ∙ ap (λ (u : Token). row_of u before after) e) in
-      fills_row l k (reach_of after).byte.0 last (stopped stuck) (Stuck (k + 1) (reach_of after).byte.0) new h
-      (subst (λ (m : List ℕ). FillsIn layout put (k + 1) last.end (stopped stuck) (Stuck (k + 1) last.end) m) (sym written)
+      fills_row l k (reach_of after).byte.0 last (stopped stuck) (result.Ok (Stuck (k + 1) (reach_of after).byte.0)) new h
+      (subst (λ (m : List ℕ). FillsIn layout put (k + 1) last.end (stopped stuck) (result.Ok (Stuck (k + 1) last.end)) m) (sym written)
       (fills_none put (k + 1) last.end stuck (omega (arith, put_room layout l k (marked last true) h))))
 
 -- ---- the loop
@@ -87,7 +88,7 @@ module _ {layout : Layout} {s table : List ℕ} {edition : ℕ} {st₀ : State} 
       → ReadsOnIn layout (properties_at table) edition s st₀ k₀ l₀ x new
   comes {r} {x} {new} e f = g.rest x new (subst (λ (q : Reading). FillsIn layout l k byte q x new) (sym e) f)
 
-  pub at_end : found.what ≡ what.End → ReadsOnIn layout (properties_at table) edition s st₀ k₀ l₀ (End k byte) l
+  pub at_end : found.what ≡ what.End → ReadsOnIn layout (properties_at table) edition s st₀ k₀ l₀ (result.Ok (End k byte)) l
   at_end e = comes (left_is g.head what.End e) (fills_none l k byte ended g.within)
 
   pub at_modes : found.what ≡ what.ModesFull → {n : ℕ} {x : Scanned} → n ≡ room_in layout l → x ≡ whole n k byte deep
@@ -97,7 +98,7 @@ module _ {layout : Layout} {s table : List ℕ} {edition : ℕ} {st₀ : State} 
       (subst (λ (y : Scanned). FillsIn layout l k byte (stopped deep) y l) (sym (q ∙ ap (λ (i : ℕ). whole i k byte deep) m))
       (fills_none l k byte deep g.within))
 
-  pub at_full : (u : Token) → found.what ≡ what.Token u → room_in layout l ≤ k → ReadsOnIn layout (properties_at table) edition s st₀ k₀ l₀ (ListFull k byte) l
+  pub at_full : (u : Token) → found.what ≡ what.Token u → room_in layout l ≤ k → ReadsOnIn layout (properties_at table) edition s st₀ k₀ l₀ (result.Err (ListFull k byte)) l
   at_full u e h =
       comes (left_token g.head u e refl) (fills_full l k byte (row_of u st.lexer found.lexer) (read_from (properties_at table) edition s next) (omega (arith, g.within)))
 

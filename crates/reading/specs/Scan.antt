@@ -3,7 +3,7 @@
 -- or 5, which leave the records before them. It is said of a list in either layout (`FillsIn`, `ReadsOnIn`, `ScansIn`); without a layout, of a list
 -- with whole records.
 -- Assumes nothing.
-use Rattle.std.specs.Prelude.{ℕ, ◌+◌, ◌-◌, ◌≡◌, Bool, true, false, List, [], ◌∷◌, ltb, length, take}
+use Rattle.std.specs.Prelude.{ℕ, ◌+◌, ◌-◌, ◌≡◌, Bool, true, false, List, [], ◌∷◌, Result, Ok, Err, ltb, length, take}
 use Rattle.base.specs.Pick.{pick}
 use Rattle.base.specs.Refusal.{none, list_full, modes_full, source_most}
 use Rattle.property.specs.Table.{properties_at}
@@ -18,8 +18,14 @@ use Rattle.layout.specs.declared.Layout.TheVariants.{Whole, Half}
 use Rattle.state.specs.Lexer.{reach_of}
 use Rattle.state.specs.declared.State.{State}
 use Rattle.reading.specs.Reading.{Stop, ended, stuck, deep, Reading, read_from, reading}
-use Rattle.reading.specs.declared.Scanned.{Scanned}
-use Rattle.reading.specs.declared.Scanned.TheVariants.{End, Stuck, Refused, ListFull, ModesFull}
+use Rattle.reading.specs.declared.Scan.{Scan}
+use Rattle.reading.specs.declared.Scan.TheVariants.{End, Stuck}
+use Rattle.reading.specs.declared.ScanError.{ScanError}
+use Rattle.reading.specs.declared.ScanError.TheVariants.{Refused, ListFull, ModesFull}
+
+-- what a scan answers
+abbrev pub Scanned : Type 0
+Scanned = Result Scan ScanError
 
 -- ---- an Error that stands still
 
@@ -48,15 +54,15 @@ end_of b (r ∷ rows) = end_of r.end rows
 
 -- the answer where all records have room: n is how many there are then, and b the current byte
 abbrev pub whole : ℕ → ℕ → ℕ → Stop → Scanned
-whole room n b ended = End n b
-whole room n b stuck = Stuck n b
+whole room n b ended = Ok (End n b)
+whole room n b stuck = Ok (Stuck n b)
 -- a token is left to read: 4 comes before 5
-whole room n b deep = pick (ltb n room) (ModesFull n b) (ListFull n b)
+whole room n b deep = pick (ltb n room) (Err (ModesFull n b)) (Err (ListFull n b))
 
 -- the answer where reading goes on from the byte b into a list that has k records of its room
 abbrev pub by_room : ℕ → ℕ → ℕ → Reading → Scanned
 by_room room k b r =
-    pick (ltb room (k + length r.rows)) (ListFull room (end_of b (take (room - k) r.rows)))
+    pick (ltb room (k + length r.rows)) (Err (ListFull room (end_of b (take (room - k) r.rows))))
     (whole room (k + length r.rows) (end_of b r.rows) r.stop)
 
 -- a list in which the first n records of a reading are put from record k on; every other word stays
@@ -88,15 +94,14 @@ reading_of source table edition = reading (properties_at table) edition source
 -- the answer for the bytes of a source, the numbers of a table, an edition, and a list's room
 unfoldable pub scanned : List ℕ → List ℕ → ℕ → ℕ → Scanned
 scanned source table edition n =
-    on_input Refused (input_check source_most source table edition) (by_room n 0 0 (reading_of source table edition))
+    on_input (λ x. Err (Refused x)) (input_check source_most source table edition) (by_room n 0 0 (reading_of source table edition))
 
 -- the records that are written: none at a refusal that comes before any work, or else those that have room
 abbrev pub written_by : {A : Type 0} → Scanned → List A → List A
-written_by (Refused x) rows = []
-written_by (End n b) rows = rows
-written_by (Stuck n b) rows = rows
-written_by (ListFull n b) rows = rows
-written_by (ModesFull n b) rows = rows
+written_by (Err (Refused x)) rows = []
+written_by (Ok s) rows = rows
+written_by (Err (ListFull n b)) rows = rows
+written_by (Err (ModesFull n b)) rows = rows
 
 unfoldable pub written : List ℕ → List ℕ → ℕ → ℕ → List Row
 written source table edition n = written_by (scanned source table edition n) (take n (reading_of source table edition).rows)
@@ -131,24 +136,23 @@ Scans = ScansIn Whole
 -- ---- the documents' numbers of an answer
 
 abbrev pub number_of : Scanned → ℕ
-number_of (End n b) = none
-number_of (Stuck n b) = none
-number_of (Refused x) = input.number_of x
-number_of (ListFull n b) = list_full
-number_of (ModesFull n b) = modes_full
+number_of (Ok s) = none
+number_of (Err (Refused x)) = input.number_of x
+number_of (Err (ListFull n b)) = list_full
+number_of (Err (ModesFull n b)) = modes_full
 
 -- the refusal's place; the current byte where there is no refusal
 abbrev pub place_of : Scanned → ℕ
-place_of (End n b) = b
-place_of (Stuck n b) = b
-place_of (Refused x) = input.place_of x
-place_of (ListFull n b) = b
-place_of (ModesFull n b) = b
+place_of (Ok (End n b)) = b
+place_of (Ok (Stuck n b)) = b
+place_of (Err (Refused x)) = input.place_of x
+place_of (Err (ListFull n b)) = b
+place_of (Err (ModesFull n b)) = b
 
 -- how many records were written
 abbrev pub count_of : Scanned → ℕ
-count_of (End n b) = n
-count_of (Stuck n b) = n
-count_of (Refused x) = 0
-count_of (ListFull n b) = n
-count_of (ModesFull n b) = n
+count_of (Ok (End n b)) = n
+count_of (Ok (Stuck n b)) = n
+count_of (Err (Refused x)) = 0
+count_of (Err (ListFull n b)) = n
+count_of (Err (ModesFull n b)) = n

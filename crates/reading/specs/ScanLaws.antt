@@ -32,10 +32,9 @@ use Rattle.layout.specs.declared.Layout.TheVariants.{Whole, Half}
 use Rattle.state.specs.State.{start_state}
 use Rattle.state.specs.declared.State.{State}
 use Rattle.reading.specs.Reading.{Stop, ended, stuck, deep, Reading, onto, stopped}
-use Rattle.reading.specs.Scan.{stands_still, mark_all, marked_rows, end_of, whole, by_room, puts_in, FillsIn, ReadsOnIn}
+use Rattle.reading.specs.Scan.{Scanned, stands_still, mark_all, marked_rows, end_of, whole, by_room, puts_in, FillsIn, ReadsOnIn}
 use Rattle.reading.specs.Scan.{reading_of, scanned, written_by, written, written_marked, writes_in, ScansIn, count_of}
-use Rattle.reading.specs.declared.Scanned.{Scanned}
-use Rattle.reading.specs.declared.Scanned.TheVariants.{Refused, ListFull}
+use Rattle.reading.specs.declared.ScanError.TheVariants.{Refused, ListFull}
 
 take_none : {A : Type 0} (n : ℕ) → take {A = A} n [] ≡ []
 take_none zero = refl
@@ -73,7 +72,7 @@ module _ {layout : Layout} (l : List ℕ) (k b : ℕ) where
       }
 
   -- a record is left and has no room
-  pub fills_full : (row : Row) (r : Reading) → k ≡ room_in layout l → FillsIn layout l k b (onto row r) (ListFull k b) l
+  pub fills_full : (row : Row) (r : Reading) → k ≡ room_in layout l → FillsIn layout l k b (onto row r) (Err (ListFull k b)) l
   unfolding end_of
   fills_full row r h =
       let z : room_in layout l - k ≡ 0 = omega arith in
@@ -112,7 +111,7 @@ room_writes n k b r rows =
 
 module _ (old source table : List ℕ) (edition n : ℕ) where
   -- a refusal that comes before any work
-  writes_none : (layout : Layout) {x : Refusal} → scanned source table edition n ≡ Refused x → writes_in layout old source table edition n ≡ old
+  writes_none : (layout : Layout) {x : Refusal} → scanned source table edition n ≡ Err (Refused x) → writes_in layout old source table edition n ≡ old
   unfolding written written_marked
   writes_none Whole e =
       ap (λ (r : Scanned). put_rows old (written_by r (take n (reading_of source table edition).rows))) e ∙ rows.rows_none old
@@ -139,10 +138,10 @@ module _ (old source table : List ℕ) (edition n : ℕ) where
 module _ {layout : Layout} {source table : List ℕ} {edition : ℕ} {old : List ℕ} where
   -- a refusal that writes nothing
   pub scans_refused : {x : Refusal} → input_check source_most source table edition ≡ Err x
-      → ScansIn layout source table edition old (Refused x) old
+      → ScansIn layout source table edition old (Err (Refused x)) old
   unfolding scanned
   scans_refused {x} c =
-      let e : scanned source table edition (room_in layout old) ≡ Refused x = rw c in
+      let e : scanned source table edition (room_in layout old) ≡ Err (Refused x) = rw c in
       record { answer = sym e; words = sym (writes_none old source table edition (room_in layout old) layout e) }
 
   -- no refusal before any work: the records are read from the start
@@ -173,7 +172,7 @@ module _ (n : ℕ) where
   pub count_room : (source table : List ℕ) (edition : ℕ) → count_of (scanned source table edition n) ≤ n
   unfolding scanned
   count_room source table edition =
-      by_input_lem Refused (λ (g : Scanned → Scanned). Within (g (by_room n 0 0 (reading_of source table edition)))) (input_check source_most source table edition)
+      by_input_lem (λ x. Err (Refused x)) (λ (g : Scanned → Scanned). Within (g (by_room n 0 0 (reading_of source table edition)))) (input_check source_most source table edition)
       (λ _. omega arith) (room_counts 0 0 (reading_of source table edition))
 
 -- no second answer and no second list fits

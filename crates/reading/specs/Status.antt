@@ -1,8 +1,8 @@
 -- How a scan ended, as a number: what a cursor over its list carries.
 -- Assumes nothing.
-use Rattle.std.specs.Prelude.{ℕ}
-use Rattle.reading.specs.declared.Scanned.{Scanned}
-use Rattle.reading.specs.declared.Scanned.TheVariants.{End, Stuck, Refused, ListFull, ModesFull}
+use Rattle.std.specs.Prelude.{ℕ, Ok, Err}
+use Rattle.reading.specs.Scan.{Scanned}
+use Rattle.reading.specs.declared.Scan.TheVariants.{End, Stuck}
 
 -- at the end, stuck, or refused
 abbrev pub end_number : ℕ
@@ -22,15 +22,11 @@ abbrev pub stuck_half_number : ℕ
 stuck_half_number = 4
 
 abbrev pub status_of : Scanned → ℕ
-status_of (End n b) = end_number
-status_of (Stuck n b) = stuck_number
-status_of (Refused x) = refused_number
-status_of (ListFull n b) = refused_number
-status_of (ModesFull n b) = refused_number
+status_of (Ok (End n b)) = end_number
+status_of (Ok (Stuck n b)) = stuck_number
+status_of (Err e) = refused_number
 
 abbrev pub half_status_of : Scanned → ℕ
-half_status_of (End n b) = end_half_number
-half_status_of (Stuck n b) = stuck_half_number
-half_status_of (Refused x) = refused_number
-half_status_of (ListFull n b) = refused_number
-half_status_of (ModesFull n b) = refused_number
+half_status_of (Ok (End n b)) = end_half_number
+half_status_of (Ok (Stuck n b)) = stuck_half_number
+half_status_of (Err e) = refused_number

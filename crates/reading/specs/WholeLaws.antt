@@ -1,7 +1,7 @@
 -- A scan that is not refused has read the whole source: its bytes and its table are fit, every record has room, and each is written.
 --     end_whole, stuck_whole    of a scan that says End, and of one that says Stuck
 -- Assumes nothing.
-use Rattle.std.specs.Prelude.{ℕ, ◌+◌, ◌≤◌, ◌≡◌, List, ltb, length, take, Result, Ok, Err}
+use Rattle.std.specs.Prelude.{ℕ, ◌+◌, ◌≤◌, ◌≡◌, List, Result, Ok, Err, ltb, length, take}
 use Rattle.std.proofs.Common.{arith, sym, subst, ◌∙◌, take_all}
 use Rattle.std.proofs.Math.Path.{refl, ap}
 use Rattle.base.specs.PickLaws.{by_test, by_lt}
@@ -15,10 +15,10 @@ use Rattle.layout.specs.Layout.{room_in}
 use Rattle.layout.specs.declared.Layout.{Layout}
 use Rattle.layout.specs.declared.Layout.TheVariants.{Whole, Half}
 use Rattle.reading.specs.Reading.{Stop, ended, stuck, deep}
-use Rattle.reading.specs.Scan.{marked_rows, end_of, whole, by_room, reading_of, scanned, written_by, written, written_marked, writes_in, holds_in, ScansIn}
+use Rattle.reading.specs.Scan.{Scanned, marked_rows, end_of, whole, by_room, reading_of, scanned, written_by, written, written_marked, writes_in, holds_in, ScansIn}
 use Rattle.reading.specs.StartsLaws.{marks_length}
-use Rattle.reading.specs.declared.Scanned.{Scanned}
-use Rattle.reading.specs.declared.Scanned.TheVariants.{End, Stuck, Refused, ListFull, ModesFull}
+use Rattle.reading.specs.declared.Scan.TheVariants.{End, Stuck}
+use Rattle.reading.specs.declared.ScanError.TheVariants.{Refused}
 
 -- a source that is read whole, into a list with room for so many records: n of them, and how it stops
 pub record ReadWhole (source table : List ℕ) (edition room n : ℕ) (stop : Stop) : Type 0 where
@@ -29,11 +29,9 @@ pub record ReadWhole (source table : List ℕ) (edition room n : ℕ) (stop : St
 
 -- what an answer means, if it is no refusal
 abbrev Means : List ℕ → List ℕ → ℕ → ℕ → Scanned → Type 0
-Means source table edition room (End n b) = ReadWhole source table edition room n ended
-Means source table edition room (Stuck n b) = ReadWhole source table edition room n stuck
-Means source table edition room (Refused x) = Unit {0}
-Means source table edition room (ListFull n b) = Unit {0}
-Means source table edition room (ModesFull n b) = Unit {0}
+Means source table edition room (Ok (End n b)) = ReadWhole source table edition room n ended
+Means source table edition room (Ok (Stuck n b)) = ReadWhole source table edition room n stuck
+Means source table edition room (Err e) = Unit {0}
 
 module _ (source table : List ℕ) (edition room : ℕ) where
   module _ (g : Readable source_most source table edition) where
@@ -54,7 +52,7 @@ module _ (source table : List ℕ) (edition room : ℕ) where
   scanned_means = by_check_lem (input_check source_most source table edition) refl
     where
       by_check_lem : (c : Result (Unit {0}) Refusal) → input_check source_most source table edition ≡ c
-          → Means source table edition room (on_input Refused c (by_room room 0 0 (reading_of source table edition)))
+          → Means source table edition room (on_input (λ x. Err (Refused x)) c (by_room room 0 0 (reading_of source table edition)))
       by_check_lem (Ok _) e = read_means (fine_of source_most source table edition e)
       by_check_lem (Err x) e = tt
 
@@ -79,10 +77,10 @@ module _ {layout : Layout} (source table : List ℕ) (edition : ℕ) (old new : 
       → ((A : Type 0) (rows : List A) → written_by r rows ≡ rows) → new ≡ holds_in layout old (reading_of source table edition)
   all_written p h e = p.words ∙ writes_whole old source table edition (room_in layout old) h p.answer e layout
 
-  pub end_whole : ScansIn layout source table edition old (End n b) new
+  pub end_whole : ScansIn layout source table edition old (Ok (End n b)) new
       → ReadWhole source table edition (room_in layout old) n ended × (new ≡ holds_in layout old (reading_of source table edition))
   end_whole p = let w = meant p in (w, all_written p (omega (arith, w.counted, w.has_room)) (λ A rows. refl))
 
-  pub stuck_whole : ScansIn layout source table edition old (Stuck n b) new
+  pub stuck_whole : ScansIn layout source table edition old (Ok (Stuck n b)) new
       → ReadWhole source table edition (room_in layout old) n stuck × (new ≡ holds_in layout old (reading_of source table edition))
   stuck_whole p = let w = meant p in (w, all_written p (omega (arith, w.counted, w.has_room)) (λ A rows. refl))

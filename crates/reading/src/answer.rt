@@ -3,7 +3,7 @@ ghost use Rattle.std.specs.Prelude.{◌≡◌};
 ghost use Rattle.reading.specs.Scan.{number_of, place_of, count_of};
 ghost use Rattle.reading.specs.Status.{status_of, half_status_of};
 
-use crate::Scanned;
+use crate::{Scan, ScanError};
 use base::refusals::{LIST_FULL, MODES_FULL, NO_REFUSAL};
 
 // How a scan ends, as a number: what a cursor over its list carries.
@@ -20,66 +20,57 @@ pub const END_HALF: u32 = 3;
 pub const STUCK_HALF: u32 = 4;
 
 // The refusal's number; 0 where there is no refusal.
-pub fn number_of(scanned: Scanned) -> u32
+pub fn number_of(scanned: Result<Scan, ScanError>) -> u32
     ensures { result ≡ number_of scanned }
 {
     match scanned {
-        Scanned::End { count: _, byte: _ } => NO_REFUSAL,
-        Scanned::Stuck { count: _, byte: _ } => NO_REFUSAL,
-        Scanned::Refused(refusal) => input::answer::number_of(refusal),
-        Scanned::ListFull { count: _, byte: _ } => LIST_FULL,
-        Scanned::ModesFull { count: _, byte: _ } => MODES_FULL,
+        Ok(_) => NO_REFUSAL,
+        Err(ScanError::Refused(refusal)) => input::answer::number_of(refusal),
+        Err(ScanError::ListFull { .. }) => LIST_FULL,
+        Err(ScanError::ModesFull { .. }) => MODES_FULL,
     }
 }
 
 // The refusal's place; the current byte where there is no refusal.
-pub fn place_of(scanned: Scanned) -> usize
+pub fn place_of(scanned: Result<Scan, ScanError>) -> usize
     ensures { result ≡ place_of scanned }
 {
     match scanned {
-        Scanned::End { count: _, byte } => byte,
-        Scanned::Stuck { count: _, byte } => byte,
-        Scanned::Refused(refusal) => input::answer::place_of(refusal),
-        Scanned::ListFull { count: _, byte } => byte,
-        Scanned::ModesFull { count: _, byte } => byte,
+        Ok(Scan::End { byte, .. } | Scan::Stuck { byte, .. }) => byte,
+        Err(ScanError::Refused(refusal)) => input::answer::place_of(refusal),
+        Err(ScanError::ListFull { byte, .. } | ScanError::ModesFull { byte, .. }) => byte,
     }
 }
 
 // How many records were written.
-pub fn count_of(scanned: Scanned) -> usize
+pub fn count_of(scanned: Result<Scan, ScanError>) -> usize
     ensures { result ≡ count_of scanned }
 {
     match scanned {
-        Scanned::End { count, byte: _ } => count,
-        Scanned::Stuck { count, byte: _ } => count,
-        Scanned::Refused(_) => 0,
-        Scanned::ListFull { count, byte: _ } => count,
-        Scanned::ModesFull { count, byte: _ } => count,
+        Ok(Scan::End { count, .. } | Scan::Stuck { count, .. }) => count,
+        Err(ScanError::Refused(_)) => 0,
+        Err(ScanError::ListFull { count, .. } | ScanError::ModesFull { count, .. }) => count,
     }
 }
 
 // How it ended.
-pub fn status_of(scanned: Scanned) -> u32
+pub fn status_of(scanned: Result<Scan, ScanError>) -> u32
     ensures { result ≡ status_of scanned }
 {
     match scanned {
-        Scanned::End { count: _, byte: _ } => END,
-        Scanned::Stuck { count: _, byte: _ } => STUCK,
-        Scanned::Refused(_) => REFUSED,
-        Scanned::ListFull { count: _, byte: _ } => REFUSED,
-        Scanned::ModesFull { count: _, byte: _ } => REFUSED,
+        Ok(Scan::End { .. }) => END,
+        Ok(Scan::Stuck { .. }) => STUCK,
+        Err(_) => REFUSED,
     }
 }
 
 // How it ended, into records at half the size.
-pub fn half_status_of(scanned: Scanned) -> u32
+pub fn half_status_of(scanned: Result<Scan, ScanError>) -> u32
     ensures { result ≡ half_status_of scanned }
 {
     match scanned {
-        Scanned::End { count: _, byte: _ } => END_HALF,
-        Scanned::Stuck { count: _, byte: _ } => STUCK_HALF,
-        Scanned::Refused(_) => REFUSED,
-        Scanned::ListFull { count: _, byte: _ } => REFUSED,
-        Scanned::ModesFull { count: _, byte: _ } => REFUSED,
+        Ok(Scan::End { .. }) => END_HALF,
+        Ok(Scan::Stuck { .. }) => STUCK_HALF,
+        Err(_) => REFUSED,
     }
 }

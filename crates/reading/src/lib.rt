@@ -1,5 +1,5 @@
 // The reading of a source by the language alone, and what a scan must answer and write (see specs/). What every reader of tokens shares stands
-// here, so that whatever scans meets the same contract without knowing how another does: the type of the answer with its numbers, and a token's
+// here, so that whatever scans meets the same contract without knowing how another does: the types of the answer with its numbers, and a token's
 // record.
 #![tactic(auto)]
 
@@ -15,13 +15,19 @@ use rows::Row;
 use state::Lexer;
 use token::Token;
 
-// What a scan answers (document 01, "Records" and "Refusal numbers"). `count` is how many records were written, and `byte` is the current byte.
-#[derive(Clone, Copy)]
-pub enum Scanned {
+// How a scan ends that is not refused (document 01, "Records"): it answers `Result<Scan, ScanError>`. `count` is how many records were written, and
+// `byte` is the current byte.
+#[derive(Clone, Copy, Debug, PartialEq, Eq)]
+pub enum Scan {
     // Nothing is left to read: the Rust would answer None.
     End { count: usize, byte: usize },
     // The last record is an Error that advanced nothing, which the Rust repeats for ever.
     Stuck { count: usize, byte: usize },
+}
+
+// Why a scan is refused (document 01, "Refusal numbers"), with the same two numbers where it had begun.
+#[derive(Clone, Copy)]
+pub enum ScanError {
     // One of refusals 1, 17, 2, 3 and 15, before any work: a source of over 1,048,576 bytes, a number that is no edition, an unfit table, bytes
     // that are wrong or cut.
     Refused(Refusal),

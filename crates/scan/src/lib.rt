@@ -19,22 +19,28 @@ ghost use Rattle.reading.specs.Reading.{deep, stuck_reading};
 use input::SOURCE_MOST;
 use layout::Layout;
 use lexer::{What, read_half};
-use reading::{Scanned, row_of};
+use reading::{Scan, ScanError, row_of};
 use state::{Change, Lexer, State};
 use token::{kinds, token_of};
 
 // A token is left that would push a 65th mode. Where its record has no room either, that is said.
-pub fn full(room: usize, count: usize, byte: usize) -> Scanned
+pub fn full(room: usize, count: usize, byte: usize) -> Result<Scan, ScanError>
     ensures { result ≡ whole room count byte deep }
 {
     if count < room {
-        return Scanned::ModesFull { count, byte };
+        return Err(ScanError::ModesFull { count, byte });
     }
-    Scanned::ListFull { count, byte }
+    Err(ScanError::ListFull { count, byte })
 }
 
 // An Error stands still: its record is the last, if it has room.
-pub fn stuck(layout: Layout, list: &mut [u32], count: usize, before: Lexer, after: Lexer) -> Scanned
+pub fn stuck(
+    layout: Layout,
+    list: &mut [u32],
+    count: usize,
+    before: Lexer,
+    after: Lexer,
+) -> Result<Scan, ScanError>
     requires previous_byte_bound { (after.place.previous_byte.0 ≤ source_most) × (after.place.current_byte.0 ≤ source_most) }
     requires depth_le_depth_most { (before.depth ≤ depth_most) × (count ≤ room_in layout list.old) }
     ensures { FillsIn layout list.old count (reach_of after).byte.0 (stuck_reading before after) result list.new }
@@ -43,12 +49,12 @@ pub fn stuck(layout: Layout, list: &mut [u32], count: usize, before: Lexer, afte
     if count < layout.room(list) {
         let row = row_of(token_of(kinds::ERROR), before, after);
         layout.put(list, count, row, true);
-        return Scanned::Stuck {
+        return Ok(Scan::Stuck {
             count: count + 1,
             byte,
-        };
+        });
     }
-    Scanned::ListFull { count, byte }
+    Err(ScanError::ListFull { count, byte })
 }
 
 // Reads on from a state, into the list from record `first` on.
@@ -60,7 +66,7 @@ pub fn read_on(
     start: State,
     list: &mut [u32],
     first: usize,
-) -> Scanned
+) -> Result<Scan, ScanError>
     requires { Ok source.now start × FitTable table.now × (first ≤ room_in layout list.old) }
     ensures { ReadsOnIn layout (properties_at table.now) edition source.now start first list.old result list.new }
 {
@@ -76,7 +82,7 @@ pub fn read_on(
         match what {
             What::Token(token) => {
                 if layout.room(list) <= count {
-                    return Scanned::ListFull { count, byte };
+                    return Err(ScanError::ListFull { count, byte });
                 }
                 layout.put(&mut *list, count, row_of(token, lexer, next), false);
                 count += 1;
@@ -94,7 +100,7 @@ pub fn read_on(
                 return full(layout.room(list), count, byte);
             }
             What::End => {
-                return Scanned::End { count, byte };
+                return Ok(Scan::End { count, byte });
             }
         }
     }
@@ -103,24 +109,35 @@ pub fn read_on(
 // Writes the records of a source at the start of a list in this layout, by the cluster rules of edition 1 (without GB9c) or 2 (with it). Refused
 // are a source that is too long, then a number that is no edition, then a table that is unfit, then bytes that are wrong or cut, each before a word
 // is written; then a token for which there is no record or no mode left.
-fn scan_in(layout: Layout, source: &[u8], table: &[u32], edition: u32, list: &mut [u32]) -> Scanned
+fn scan_in(
+    layout: Layout,
+    source: &[u8],
+    table: &[u32],
+    edition: u32,
+    list: &mut [u32],
+) -> Result<Scan, ScanError>
     ensures { ScansIn layout source.now table.now edition list.old result list.new }
 {
     match input::check_input(source, table, edition, SOURCE_MOST) {
-        Err(refusal) => Scanned::Refused(refusal),
+        Err(refusal) => Err(ScanError::Refused(refusal)),
         Ok(()) => read_on(layout, source, table, edition, State::new(), list, 0),
     }
 }
 
 // Into whole records (document 01).
-pub fn scan(source: &[u8], table: &[u32], edition: u32, list: &mut [u32]) -> Scanned
+pub fn scan(source: &[u8], table: &[u32], edition: u32, list: &mut [u32]) -> Result<Scan, ScanError>
     ensures { Scans source.now table.now edition list.old result list.new }
 {
     scan_in(Layout::Whole, source, table, edition, list)
 }
 
 // Into records at half the size (document 02, C-5).
-pub fn scan_half(source: &[u8], table: &[u32], edition: u32, list: &mut [u32]) -> Scanned
+pub fn scan_half(
+    source: &[u8],
+    table: &[u32],
+    edition: u32,
+    list: &mut [u32],
+) -> Result<Scan, ScanError>
     ensures { ScansIn Half source.now table.now edition list.old result list.new }
 {
     scan_in(Layout::Half, source, table, edition, list)

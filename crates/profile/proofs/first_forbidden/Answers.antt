@@ -1,7 +1,6 @@
 -- `profile::first_forbidden` meets its contract. The loop's invariant: what completes the pass from here completes it from the start. Assumes
 -- nothing.
 use native.Mathlib.Omega.{arith}
-use Prim.Native.Nat.{◌-◌}
 use mathlib.Core.Path.{sym, ◌∙◌}
 use Rattle.profile.specs.LoopLaws.{start, onward, here, done}
 use Rattle.profile.proofs.first_forbidden.Goals as goal
