@@ -15,7 +15,7 @@ ghost use Rattle.parse.specs.Plan.{input_of, plan_with, plan_of, CanAdd, is_addi
 
 use format::{FormatRead, read_format};
 use format_options::{Fill, OptionalNumber, Options, Outcome};
-use input::{FORMAT_MOST, Input, Refusal};
+use input::{FORMAT_MOST, Refusal};
 use pool::Added;
 use pool_rows::Counts;
 
@@ -85,8 +85,8 @@ pub fn read(format: &[u8], table: &[u32], terms: Terms, fit: bool) -> FormatInpu
 {
     let edition = terms.edition;
     match input::check_input(format, table, edition, FORMAT_MOST) {
-        Input::Refused(refusal) => FormatInput::Refused(Parsed::Refused(refusal)),
-        Input::Fine => {
+        Err(refusal) => FormatInput::Refused(Parsed::Refused(refusal)),
+        Ok(()) => {
             if fit {
                 return FormatInput::Read(read_format(format, table, edition));
             }
