@@ -3,7 +3,6 @@
 // Then a file with one wrong line, so that a difference is seen to be reported.
 #![tactic(auto)]
 
-use cluster::Cluster;
 use std::io;
 use std::rt::Files;
 
@@ -13,8 +12,8 @@ fn agrees(text: &[u8], at: usize, table: &[u32], edition: u32) -> bool {
     let n = lines::hex(text, at, &mut bytes);
     let length_at = lines::past(text, at, b' ');
     match cluster::first_cluster(&bytes[..n], table, edition) {
-        Cluster::Length(length) => length == lines::number(text, length_at),
-        Cluster::Refused(_) => false,
+        Ok(length) => length == lines::number(text, length_at),
+        Err(_) => false,
     }
 }
 

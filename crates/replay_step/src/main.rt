@@ -12,7 +12,6 @@ use lexer::What;
 use state::{Lexer, State};
 use std::io;
 use std::rt::Files;
-use utf8::Utf8Check;
 
 // The ten numbers of a record, of a token that was found at this depth; answers the place after them, or 0 where one differs.
 fn same_record(text: &[u8], at: usize, token: token::Token, depth: usize, lexer: Lexer) -> usize {
@@ -99,8 +98,8 @@ fn source_agrees(text: &[u8], at: usize, source: &[u8], table: &[u32]) -> bool
         return false;
     }
     match utf8::check_utf8(source) {
-        Utf8Check::Fine => steps_agree(text, at, source, table),
-        _ => false,
+        Ok(()) => steps_agree(text, at, source, table),
+        Err(_) => false,
     }
 }
 
