@@ -3,19 +3,16 @@
 --     on_rest_agrees, on_reading_agrees    an answer by them, or else by what is left to read from a state, or by the reading
 --     scan_agrees                          answer and words of a scan
 -- Assumes nothing.
-use Rattle.std.specs.Prelude.{ℕ, ◌≡◌, refl, List, [], Err, take}
+use Rattle.std.specs.Prelude.{ℕ, ◌≡◌, refl, List, [], Err, take, Result, Ok}
 use Rattle.std.proofs.Common.{sym, ◌∙◌}
 use Rattle.std.proofs.Math.Path.{ap}
 use Rattle.base.specs.Refusal.{source_most}
 use Rattle.utf8.specs.Chars.{chars}
 use Rattle.property.specs.Table.{properties_at}
 use Rattle.fitness.specs.Fit.{table_check}
-use Rattle.fitness.specs.declared.TableCheck.TheVariants.{Fit}
 use Rattle.input.specs.Input.{input_check, on_input}
 use Rattle.input.specs.InputLaws.{fine_of}
 use Rattle.input.specs.declared.Refusal.{Refusal}
-use Rattle.input.specs.declared.Input.{Input}
-use Rattle.input.specs.declared.Input.TheVariants as input
 use Rattle.cluster.specs.FirstLaws.{Agree}
 use Rattle.rows.specs.Row.{put_rows}
 use Rattle.half_rows.specs.Half.{put_halves}
@@ -31,18 +28,18 @@ use Rattle.reading.specs.declared.ScanError.TheVariants.{Refused}
 use Rattle.agree.specs.ReadingLaws.{left_agrees, read_agrees}
 
 -- of a table the refusals ask only whether it is fit
-pub inputs_agree : (most : ℕ) (bytes t u : List ℕ) (edition : ℕ) → table_check t ≡ Fit → table_check u ≡ Fit
+pub inputs_agree : (most : ℕ) (bytes t u : List ℕ) (edition : ℕ) → table_check t ≡ Ok tt → table_check u ≡ Ok tt
     → input_check most bytes t edition ≡ input_check most bytes u edition
 unfolding input_check
 inputs_agree most bytes t u edition e f = rw (e, f)
 
-module _ (source t u : List ℕ) (edition : ℕ) (fit : table_check t ≡ Fit) (also : table_check u ≡ Fit)
+module _ (source t u : List ℕ) (edition : ℕ) (fit : table_check t ≡ Ok tt) (also : table_check u ≡ Ok tt)
     (agree : Agree (properties_at t) (properties_at u) (chars source)) where
   same_input : input_check source_most source t edition ≡ input_check source_most source u edition
   same_input = inputs_agree source_most source t u edition fit also
 
   -- where none of the refusals is given
-  rests : input_check source_most source t edition ≡ input.Fine → (st : State)
+  rests : input_check source_most source t edition ≡ Ok tt → (st : State)
       → read_from (properties_at t) edition source st ≡ read_from (properties_at u) edition source st
   rests e st =
       let well = (fine_of source_most source t edition e).well in
@@ -53,11 +50,11 @@ module _ (source t u : List ℕ) (edition : ℕ) (fit : table_check t ≡ Fit) (
       ≡ on_input f (input_check source_most source u edition) (g (read_from (properties_at u) edition source st))
   on_rest_agrees f st g = go (input_check source_most source t edition) refl
     where
-      go : (c : Input) → input_check source_most source t edition ≡ c
+      go : (c : Result (Unit {0}) Refusal) → input_check source_most source t edition ≡ c
           → on_input f (input_check source_most source t edition) (g (read_from (properties_at t) edition source st))
           ≡ on_input f (input_check source_most source u edition) (g (read_from (properties_at u) edition source st))
-      go input.Fine e = λ i. on_input f (same_input i) (g (rests e st i))
-      go (input.Refused x) e = rw (e, sym same_input ∙ e)
+      go (Ok _) e = λ i. on_input f (same_input i) (g (rests e st i))
+      go (Err x) e = rw (e, sym same_input ∙ e)
 
   pub on_reading_agrees : {A : Type 0} (f : Refusal → A) (g : Reading → A)
       → on_input f (input_check source_most source t edition) (g (reading_of source t edition))
@@ -69,7 +66,7 @@ module _ (source t u : List ℕ) (edition : ℕ) (fit : table_check t ≡ Fit) (
   scanned_agrees n = on_reading_agrees (λ x. Err (Refused x)) (by_room n 0 0)
 
   -- nothing is written where a refusal comes before any work
-  none_written : {A : Type 0} (v : List ℕ) (n : ℕ) {x : Refusal} → input_check source_most source v edition ≡ input.Refused x → (rows : List A)
+  none_written : {A : Type 0} (v : List ℕ) (n : ℕ) {x : Refusal} → input_check source_most source v edition ≡ Err x → (rows : List A)
       → written_by (scanned source v edition n) rows ≡ []
   unfolding scanned
   none_written v n e rows = rw e
@@ -80,11 +77,11 @@ module _ (source t u : List ℕ) (edition : ℕ) (fit : table_check t ≡ Fit) (
       ≡ written_by (scanned source u edition n) (take n (told (reading_of source u edition)))
   writes_agree {A} told n = go (input_check source_most source t edition) refl
     where
-      go : (c : Input) → input_check source_most source t edition ≡ c
+      go : (c : Result (Unit {0}) Refusal) → input_check source_most source t edition ≡ c
           → written_by (scanned source t edition n) (take n (told (reading_of source t edition)))
           ≡ written_by (scanned source u edition n) (take n (told (reading_of source u edition)))
-      go input.Fine e = λ i. written_by (scanned_agrees n i) (take n (told (rests e start_state i)))
-      go (input.Refused x) e =
+      go (Ok _) e = λ i. written_by (scanned_agrees n i) (take n (told (rests e start_state i)))
+      go (Err x) e =
           none_written t n e (take n (told (reading_of source t edition)))
           ∙ sym (none_written u n (sym same_input ∙ e) (take n (told (reading_of source u edition))))
 

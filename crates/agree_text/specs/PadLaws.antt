@@ -3,7 +3,7 @@
 --     check_agrees, pads_agree      the refusals before any work, and the call with its answer and the buffer after it
 -- Assumes nothing.
 use Prim.Native.Nat.{ℕ, suc, ◌+◌}
-use Rattle.std.specs.Prelude.{◌≡◌, Bool, true, false, eqb, length}
+use Rattle.std.specs.Prelude.{◌≡◌, Bool, true, false, eqb, length, Ok}
 use Rattle.std.proofs.Math.Path.{refl, sym}
 use Rattle.std.proofs.Common.{◌∙◌}
 use mathlib.Core.List.{List, [], ◌∷◌}
@@ -11,7 +11,6 @@ use Rattle.base.specs.Pick.{pick}
 use Rattle.utf8.specs.Chars.{chars, check_from}
 use Rattle.property.specs.Table.{properties_at}
 use Rattle.fitness.specs.Fit.{table_check}
-use Rattle.fitness.specs.declared.TableCheck.TheVariants.{Fit}
 use Rattle.input.specs.Input.{on_utf8, on_input}
 use Rattle.input.specs.declared.Refusal.TheVariants.{TooLong}
 use Rattle.uax29.specs.Uax29.{joined}
@@ -54,7 +53,7 @@ module _ (f g : ℕ → ℕ) (alignment width : ℕ) (fill : List ℕ) (edition 
   given_agrees false a = refl
 
 -- the checks, of a fill that the tables agree on if it is given
-checks_agree : (text : List ℕ) (alignment width : ℕ) (given : Bool) (fill t u : List ℕ) (edition : ℕ) → table_check t ≡ Fit → table_check u ≡ Fit
+checks_agree : (text : List ℕ) (alignment width : ℕ) (given : Bool) (fill t u : List ℕ) (edition : ℕ) → table_check t ≡ Ok tt → table_check u ≡ Ok tt
     → (given ≡ true → Agree (properties_at t) (properties_at u) (chars fill))
     → pad_check text alignment width given fill t edition ≡ pad_check text alignment width given fill u edition
 unfolding pad_check
@@ -63,8 +62,8 @@ checks_agree text alignment width given fill t u edition fit also a =
     (on_input Refused (inputs_agree text_most text t u edition fit also i)
     (given_agrees (properties_at t) (properties_at u) alignment width fill edition given a i))
 
-module _ (text : List ℕ) (alignment width : ℕ) (given : Bool) (fill t u : List ℕ) (edition : ℕ) (fit : table_check t ≡ Fit)
-    (also : table_check u ≡ Fit) (agree : Agree (properties_at t) (properties_at u) (chars text))
+module _ (text : List ℕ) (alignment width : ℕ) (given : Bool) (fill t u : List ℕ) (edition : ℕ) (fit : table_check t ≡ Ok tt)
+    (also : table_check u ≡ Ok tt) (agree : Agree (properties_at t) (properties_at u) (chars text))
     (of-fill : given ≡ true → Agree (properties_at t) (properties_at u) (chars fill)) where
   pub check_agrees : pad_check text alignment width given fill t edition ≡ pad_check text alignment width given fill u edition
   check_agrees = checks_agree text alignment width given fill t u edition fit also of-fill

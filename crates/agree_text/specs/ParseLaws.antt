@@ -1,14 +1,13 @@
 -- C-14, of `parse`: fit tables that agree on the code points of a format string give the same call, with its answer and the pool after it.
 --     call_agrees, parses_agree
 -- Assumes nothing.
-use Rattle.std.specs.Prelude.{ℕ, ◌≡◌, List, Err}
+use Rattle.std.specs.Prelude.{ℕ, ◌≡◌, List, Err, Ok}
 use Rattle.std.proofs.Common.{ap, ◌∙◌}
 use Rattle.base.specs.Pick.{pick}
 use Rattle.base.specs.Refusal.{format_most}
 use Rattle.utf8.specs.Chars.{chars}
 use Rattle.property.specs.Table.{properties_at}
 use Rattle.fitness.specs.Fit.{table_check}
-use Rattle.fitness.specs.declared.TableCheck.TheVariants.{Fit}
 use Rattle.input.specs.Input.{on_input}
 use Rattle.input.specs.declared.Refusal.{Refusal}
 use Rattle.cluster.specs.FirstLaws.{Agree}
@@ -21,7 +20,7 @@ use Rattle.parse.specs.declared.ParseError.TheVariants.{Refused, BadState}
 use Rattle.agree.specs.ScanLaws.{inputs_agree}
 use Rattle.agree_text.specs.FormatLaws.{parse_agrees}
 
-module _ (format t u : List ℕ) (edition : ℕ) (fit : table_check t ≡ Fit) (also : table_check u ≡ Fit)
+module _ (format t u : List ℕ) (edition : ℕ) (fit : table_check t ≡ Ok tt) (also : table_check u ≡ Ok tt)
     (agree : Agree (properties_at t) (properties_at u) (chars format)) where
   parsed_agrees : (p : Pool) → parsed format t edition p ≡ parsed format u edition p
   unfolding parsed

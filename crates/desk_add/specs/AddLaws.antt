@@ -8,12 +8,12 @@
 --     settled                 a return of `add_string`, from its answer
 --     one_answer              no second answer, and no second rows and desks, fit `AddsFor`
 -- Assumes nothing.
-use Rattle.std.specs.Prelude.{ℕ, ◌+◌, ◌*◌, ◌/◌, ◌<◌, ◌≤◌, ◌≡◌, refl, true, false, List, ◌++◌, length, take, drop, Result, Err}
+use Rattle.std.specs.Prelude.{ℕ, ◌+◌, ◌*◌, ◌/◌, ◌<◌, ◌≤◌, ◌≡◌, refl, true, false, List, ◌++◌, length, take, drop, Result, Err, Ok}
 use Rattle.std.proofs.Common.{arith, sym, ap, subst, ◌∙◌, eqb-true, eq-eqb}
 use Rattle.base.specs.PickLaws.{by_lt}
 use Rattle.utf8.specs.Chars.{check_from}
-use Rattle.utf8.specs.declared.Utf8Check.{Utf8Check}
-use Rattle.utf8.specs.declared.Utf8Check.TheVariants as utf8
+use Rattle.utf8.specs.declared.Utf8Error.{Utf8Error}
+use Rattle.utf8.specs.declared.Utf8Error.TheVariants as utf8
 use Rattle.pool_rows.specs.Rows.{strings_of, index_of, room_most, byte_room, entry_room}
 use Rattle.pool.specs.Pool.{one_more, placed, on_utf8, refused_as, refusal_at, is_new, bytes_after, entries_after, counts_after, AddsString}
 use Rattle.pool_rows.specs.FitLaws as pool
@@ -31,20 +31,20 @@ use Rattle.desks.specs.declared.Which.TheVariants.{First, Second}
 use Rattle.desk_add.specs.declared.AddedFor.{AddedFor}
 
 -- a refusal of the string, or of the state
-refused_is : (u : Utf8Check) → on_utf8 u (Err BadState) ≡ Err (refused_as u)
-refused_is utf8.Fine = refl
-refused_is (utf8.BadAt i) = refl
-refused_is (utf8.CutAt i) = refl
+refused_is : (u : Result (Unit {0}) Utf8Error) → on_utf8 u (Err BadState) ≡ Err (refused_as u)
+refused_is (Ok _) = refl
+refused_is (Err (utf8.BadAt i)) = refl
+refused_is (Err (utf8.CutAt i)) = refl
 
 -- the counts after an answer are those before, or have one string more where its index is new
 abbrev pub Counted : Counts → ℕ → Result Added AddError → Type 0
 Counted counts long r = (is_new counts r ≡ false → counts_after counts r ≡ counts) × (is_new counts r ≡ true → counts_after counts r ≡ one_more counts long)
 
-counted : (counts : Counts) (u : Utf8Check) (long found re rb : ℕ) → Counted counts long (on_utf8 u (placed long found counts re rb))
+counted : (counts : Counts) (u : Result (Unit {0}) Utf8Error) (long found re rb : ℕ) → Counted counts long (on_utf8 u (placed long found counts re rb))
 unfolding placed
-counted counts (utf8.BadAt i) long found re rb = (λ _. refl, λ e. let z : ◌≡◌ {A = ℕ} 0 1 = cc in absurd (omega arith))
-counted counts (utf8.CutAt i) long found re rb = (λ _. refl, λ e. let z : ◌≡◌ {A = ℕ} 0 1 = cc in absurd (omega arith))
-counted counts utf8.Fine long found re rb =
+counted counts (Err (utf8.BadAt i)) long found re rb = (λ _. refl, λ e. let z : ◌≡◌ {A = ℕ} 0 1 = cc in absurd (omega arith))
+counted counts (Err (utf8.CutAt i)) long found re rb = (λ _. refl, λ e. let z : ◌≡◌ {A = ℕ} 0 1 = cc in absurd (omega arith))
+counted counts (Ok _) long found re rb =
     by_lt (Counted counts long) found counts.entries
     (λ h. (λ _. refl, λ f. absurd (omega (arith, eqb-true found counts.entries f))))
     (λ h. by_lt (Counted counts long) re (counts.entries + 1)
@@ -59,12 +59,12 @@ counted counts utf8.Fine long found re rb =
     ))))
 
 -- a new string has room
-pub has_room : (counts : Counts) (u : Utf8Check) (long found re rb : ℕ) → is_new counts (on_utf8 u (placed long found counts re rb)) ≡ true
+pub has_room : (counts : Counts) (u : Result (Unit {0}) Utf8Error) (long found re rb : ℕ) → is_new counts (on_utf8 u (placed long found counts re rb)) ≡ true
     → (counts.bytes + long ≤ rb) × (counts.entries + 1 ≤ re)
 unfolding placed
-has_room counts (utf8.BadAt i) long found re rb e = let z : ◌≡◌ {A = ℕ} 0 1 = cc in absurd (omega arith)
-has_room counts (utf8.CutAt i) long found re rb e = let z : ◌≡◌ {A = ℕ} 0 1 = cc in absurd (omega arith)
-has_room counts utf8.Fine long found re rb e =
+has_room counts (Err (utf8.BadAt i)) long found re rb e = let z : ◌≡◌ {A = ℕ} 0 1 = cc in absurd (omega arith)
+has_room counts (Err (utf8.CutAt i)) long found re rb e = let z : ◌≡◌ {A = ℕ} 0 1 = cc in absurd (omega arith)
+has_room counts (Ok _) long found re rb e =
     let Claim : Result Added AddError → Type 0 = λ r. is_new counts r ≡ true → (counts.bytes + long ≤ rb) × (counts.entries + 1 ≤ re) in
     by_lt Claim found counts.entries
     (λ h f. absurd (omega (arith, eqb-true found counts.entries f)))
@@ -82,11 +82,11 @@ module _ (s : Shared) (which : Which) where
   rb = bytes_for (byte_room s.bytes) which s.desks
 
   module _ (string : List ℕ) where
-    pub wrong : (i : ℕ) → check_from 0 string ≡ utf8.BadAt i → added_for which s string ≡ Err (BadUtf8 i)
+    pub wrong : (i : ℕ) → check_from 0 string ≡ Err (utf8.BadAt i) → added_for which s string ≡ Err (BadUtf8 i)
     unfolding added_for
     wrong i e = rw e
 
-    pub cut : (i : ℕ) → check_from 0 string ≡ utf8.CutAt i → added_for which s string ≡ Err (CutUtf8 i)
+    pub cut : (i : ℕ) → check_from 0 string ≡ Err (utf8.CutAt i) → added_for which s string ≡ Err (CutUtf8 i)
     unfolding added_for
     cut i e = rw e
 

@@ -9,14 +9,14 @@
 --     within_guarantee    a desk that stays within its guarantee is not refused with 13
 --     alone               where the other desk is guaranteed nothing, the pool alone answers so
 -- Assumes nothing.
-use Rattle.std.specs.Prelude.{ℕ, ◌+◌, ◌*◌, ◌<◌, ◌≤◌, refl, true, false, List, [], eqb, length, get_or, set, Result, Err}
+use Rattle.std.specs.Prelude.{ℕ, ◌+◌, ◌*◌, ◌<◌, ◌≤◌, refl, true, false, List, [], eqb, length, get_or, set, Result, Err, Ok}
 use Rattle.std.proofs.Common.{arith, add-one, sym, ap, subst, ◌∙◌, length-set, length-append, length-drop, get_or-set_same, get_or-set_other, length-take-le, eq-eqb, ne_eqb}
 use Rattle.std.proofs.Math.Path.{◌≡◌}
 use Rattle.base.specs.Pick.{pick}
 use Rattle.base.specs.PickLaws.{by_lt, by_test}
 use Rattle.utf8.specs.Chars.{check_from}
-use Rattle.utf8.specs.declared.Utf8Check.{Utf8Check}
-use Rattle.utf8.specs.declared.Utf8Check.TheVariants as utf8
+use Rattle.utf8.specs.declared.Utf8Error.{Utf8Error}
+use Rattle.utf8.specs.declared.Utf8Error.TheVariants as utf8
 use Rattle.pool_rows.specs.StringsLaws.{strings_at}
 use Rattle.pool_rows.specs.Rows.{string_at, length_of, strings_of, index_of, byte_room, entry_room, fit_pool}
 use Rattle.pool.specs.Pool.{one_more, indexed, placed, on_utf8, added, is_new, written, entered}
@@ -66,19 +66,19 @@ module _ (which : Which) (s : Shared) (string : List ℕ) (f : Fit s) where
   base_agrees i after e =
       go (check_from 0 string) (sym (fitting s which string fits) ∙ e)
     where
-      go : (u : Utf8Check)
+      go : (u : Result (Unit {0}) Utf8Error)
           → on_utf8 u (placed (length string) (index_of string (strings_of s.bytes s.entries s.counts.entries)) s.counts
           (entries_for (entry_room s.entries) which s.desks) (bytes_for (byte_room s.bytes) which s.desks)) ≡ indexed i after
           → on_utf8 u (pick (fit_pool s.bytes s.entries s.counts)
           (placed (length string) (index_of string (strings_of s.bytes s.entries s.counts.entries)) s.counts (entry_room s.entries) (byte_room s.bytes))
           (Err BadState)) ≡ indexed i after
-      go utf8.Fine q =
+      go (Ok _) q =
           rw f.pool_fit
           (wider (length string) _ s.counts _ _ _ _ i after
           (less_entries s which)
           (less_bytes s which) q)
-      go (utf8.BadAt n) q = let z : ◌≡◌ {A = ℕ} 0 1 = cc in absurd (omega arith)
-      go (utf8.CutAt n) q = let z : ◌≡◌ {A = ℕ} 0 1 = cc in absurd (omega arith)
+      go (Err (utf8.BadAt n)) q = let z : ◌≡◌ {A = ℕ} 0 1 = cc in absurd (omega arith)
+      go (Err (utf8.CutAt n)) q = let z : ◌≡◌ {A = ℕ} 0 1 = cc in absurd (omega arith)
 
   -- so the pool has grown as it does without desks
   pub strings_after : (i : ℕ) (after : Counts) → added_for which s string ≡ indexed i after
@@ -172,10 +172,10 @@ module _ (s : Shared) (f : Fit s) where
       (fit_by_lem s f)) ∙ e)
       (placed_full (length string) _ s.counts _ _ r.0 r.1)
     where
-      go : (u : Utf8Check) {q : Result Added AddError} → on_utf8 u q ≡ Err PoolFull → (q ≡ Err PoolFull → ⊥) → ⊥
-      go utf8.Fine p n = n p
-      go (utf8.BadAt i) p n = let z : ◌≡◌ {A = ℕ} 0 1 = cc in omega arith
-      go (utf8.CutAt i) p n = let z : ◌≡◌ {A = ℕ} 0 1 = cc in omega arith
+      go : (u : Result (Unit {0}) Utf8Error) {q : Result Added AddError} → on_utf8 u q ≡ Err PoolFull → (q ≡ Err PoolFull → ⊥) → ⊥
+      go (Ok _) p n = n p
+      go (Err (utf8.BadAt i)) p n = let z : ◌≡◌ {A = ℕ} 0 1 = cc in omega arith
+      go (Err (utf8.CutAt i)) p n = let z : ◌≡◌ {A = ℕ} 0 1 = cc in omega arith
 
 -- ---- an addition leaves a fit state
 
@@ -339,10 +339,10 @@ module _ (which : Which) (s : Shared) (string : List ℕ) (f : Fit s) where
       let e = fitting s which string (fits which s string f) in
       subst P (sym e) (go (check_from 0 string) e)
     where
-      go : (u : Utf8Check) → added_for which s string ≡ on_utf8 u fine → P (on_utf8 u fine)
-      go (utf8.BadAt i) e = quiet (Err (BadUtf8 i)) refl refl
-      go (utf8.CutAt i) e = quiet (Err (CutUtf8 i)) refl refl
-      go utf8.Fine e =
+      go : (u : Result (Unit {0}) Utf8Error) → added_for which s string ≡ on_utf8 u fine → P (on_utf8 u fine)
+      go (Err (utf8.BadAt i)) e = quiet (Err (BadUtf8 i)) refl refl
+      go (Err (utf8.CutAt i)) e = quiet (Err (CutUtf8 i)) refl refl
+      go (Ok _) e =
           by_placed (λ (r : Result Added AddError). added_for which s string ≡ r → P r) (length string) _ s.counts _ _ (λ r q k a. quiet r q k) fresh e
 
   pub fit_kept : FitAfter (added_for which s string)

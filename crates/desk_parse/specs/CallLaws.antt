@@ -7,7 +7,7 @@
 --     parse_fits, parse_keeps, parse_means_same      a parse, refused or not, leaves a fit state, the other desk, and what an index means
 --     one_answer          no second answer fits
 -- Assumes nothing.
-use Rattle.std.specs.Prelude.{ℕ, ◌*◌, ◌<◌, ◌≤◌, ◌≡◌, Bool, List, ◌++◌, length, take, drop, Result, Err}
+use Rattle.std.specs.Prelude.{ℕ, ◌*◌, ◌<◌, ◌≤◌, ◌≡◌, Bool, List, ◌++◌, length, take, drop, Result, Err, Ok}
 use Rattle.std.proofs.Common.{arith, sym, ap, ◌∙◌, take-append-drop}
 use Rattle.std.proofs.Math.Path.{refl, subst}
 use Rattle.std.proofs.Math.Bool.{true, false}
@@ -16,8 +16,6 @@ use Rattle.base.specs.Refusal.{format_most}
 use Rattle.utf8.specs.Chars.{chars}
 use Rattle.property.specs.Table.{properties_at}
 use Rattle.input.specs.Input.{input_check, on_input}
-use Rattle.input.specs.declared.Input.{Input}
-use Rattle.input.specs.declared.Input.TheVariants as input
 use Rattle.input.specs.declared.Refusal.{Refusal}
 use Rattle.pool_rows.specs.Rows.{string_at, byte_room, entry_room, fit_pool}
 use Rattle.pool_rows.specs.FitLaws as rows
@@ -49,12 +47,12 @@ use Rattle.desk_parse.specs.declared.ParsedFor.{ParsedFor}
 module _ (format table : List ℕ) (edition : ℕ) (which : Which) (s : Shared) where
   -- ---- the answer, by what is checked first
 
-  pub refused_is : {x : Refusal} → input_check format_most format table edition ≡ input.Refused x
+  pub refused_is : {x : Refusal} → input_check format_most format table edition ≡ Err x
       → call format table edition which s ≡ comes (Err (said.Refused x)) s
   unfolding call
   refused_is e = rw e
 
-  module _ (e : input_check format_most format table edition ≡ input.Fine) where
+  module _ (e : input_check format_most format table edition ≡ Ok tt) where
     pub bad_state_is : fit_desks s ≡ false → call format table edition which s ≡ comes (Err said.BadState) s
     unfolding call
     bad_state_is f = rw (e, f)
@@ -69,10 +67,10 @@ module _ (format table : List ℕ) (edition : ℕ) (which : Which) (s : Shared) 
   unfolding call input_of
   unfit_is e = rw e (go (input_check format_most format table edition))
     where
-      go : (c : Input) → on_input (λ (x : Refusal). comes (Err (said.Refused x)) s) c (comes (Err said.BadState) s)
+      go : (c : Result (Unit {0}) Refusal) → on_input (λ (x : Refusal). comes (Err (said.Refused x)) s) c (comes (Err said.BadState) s)
           ≡ comes (Err (unfit_answer (on_input (λ (x : Refusal). Err (said.Refused x)) c (Err said.BadState)))) s
-      go input.Fine = refl
-      go (input.Refused x) = refl
+      go (Ok _) = refl
+      go (Err x) = refl
 
   pub settled_unfit : fit_desks s ≡ false → (r : ParsedFor) → r.answer ≡ Err (unfit_answer (input_of format table edition false)) → r.counts ≡ s.counts
       → r.desks ≡ s.desks → ParsesFor format table edition which s s.bytes s.entries s.owners r
@@ -199,10 +197,10 @@ module _ (format table : List ℕ) (edition : ℕ) (which : Which) (s : Shared) 
     unfolding call parse.call
     follows = go (input_check format_most format table edition) refl
       where
-        go : (c : Input) → input_check format_most format table edition ≡ c
+        go : (c : Result (Unit {0}) Refusal) → input_check format_most format table edition ≡ c
             → Follows (call format table edition which s) (parse.call format table edition part)
-        go (input.Refused x) h = rw h (following (Err (said.Refused x)) refl at_first)
-        go input.Fine h = rw (h, ok, part_ok) read_on
+        go (Err x) h = rw h (following (Err (said.Refused x)) refl at_first)
+        go (Ok _) h = rw (h, ok, part_ok) read_on
 
     -- how much is in use after the parse in the part, of which this is said
     module _ (new_bytes new_entries : List ℕ) (after : After)

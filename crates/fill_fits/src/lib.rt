@@ -124,8 +124,7 @@ pub fn fill_fits(fill: &[u8], table: &[u32], edition: u32, fields: Fields) -> bo
     ensures { result ≡ fill_fits (properties_at table.now) edition (wanted_by fields (Bytes fill.now)) (Bytes fill.now) }
 {
     match utf8::check_utf8(fill) {
-        utf8::Utf8Check::BadAt(_) => false,
-        utf8::Utf8Check::CutAt(_) => false,
-        utf8::Utf8Check::Fine => chars_fit(fill, table, edition, fields),
+        Err(_) => false,
+        Ok(()) => chars_fit(fill, table, edition, fields),
     }
 }

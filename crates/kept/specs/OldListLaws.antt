@@ -4,7 +4,7 @@
 --     old_words    it has the words of its records
 --     old_kept     so the first of them begin the reading
 -- Assumes nothing.
-use Rattle.std.specs.Prelude.{ℕ, zero, suc, ◌+◌, ◌≤◌, ◌<◌, ◌≡◌, List, [], ◌∷◌, ◌++◌, Err, ltb, get_or, take, drop}
+use Rattle.std.specs.Prelude.{ℕ, zero, suc, ◌+◌, ◌≤◌, ◌<◌, ◌≡◌, List, [], ◌∷◌, ◌++◌, Err, ltb, get_or, take, drop, Result, Ok}
 use Rattle.std.proofs.Common.{arith, sym, subst, ◌∙◌, take-append-drop, length-take-le, take_all, take-take, get_or-take}
 use Rattle.std.proofs.Math.Path.{refl, ap}
 use Rattle.std.proofs.Math.Bool.{true}
@@ -14,8 +14,7 @@ use Rattle.base.specs.Refusal.{source_most}
 use Rattle.fitness.specs.FitLaws.{fit_of}
 use Rattle.input.specs.Input.{input_check, Readable, on_input}
 use Rattle.input.specs.InputLaws.{fine_of}
-use Rattle.input.specs.declared.Input.{Input}
-use Rattle.input.specs.declared.Input.TheVariants as input
+use Rattle.input.specs.declared.Refusal.{Refusal}
 use Rattle.rows.specs.First.{row_fits}
 use Rattle.rows.specs.FirstLaws.{fits_packs}
 use Rattle.rows.specs.Row.{room, put_rows, rows_of}
@@ -64,10 +63,10 @@ module _ (s table : List ℕ) (edition n : ℕ) where
   unfolding scanned
   unrefused = go (input_check source_most s table edition) refl
     where
-      go : (c : Input) → input_check source_most s table edition ≡ c → 0 < count_of (on_input (λ x. Err (Refused x)) c (by_room n 0 0 (reading_of s table edition)))
+      go : (c : Result (Unit {0}) Refusal) → input_check source_most s table edition ≡ c → 0 < count_of (on_input (λ x. Err (Refused x)) c (by_room n 0 0 (reading_of s table edition)))
           → ByReading (on_input (λ x. Err (Refused x)) c (by_room n 0 0 (reading_of s table edition)))
-      go input.Fine e k = record { readable = fine_of source_most s table edition e; by_room_lem = refl }
-      go (input.Refused x) e k = absurd (omega arith)
+      go (Ok _) e k = record { readable = fine_of source_most s table edition e; by_room_lem = refl }
+      go (Err x) e k = absurd (omega arith)
 
 module _ (s table : List ℕ) (edition : ℕ) (old list : List ℕ) (r : Scanned) (d : Row) where
   -- the records that were written

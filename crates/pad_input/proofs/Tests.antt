@@ -1,34 +1,29 @@
 -- `pad_check` and `fill_check` by the cases of the checks' answers: rules for `search`, beside `cases`. r is what a check answered.
 -- Assumes nothing.
+use Rattle.std.specs.Prelude.{Result, Ok, Err}
 use Prim.Native.Nat.{ℕ}
 use mathlib.Core.Path.{◌≡◌, sym, ◌∙◌}
 use mathlib.Core.List.{List}
 use Rattle.base.specs.CasesLaws.{cases}
-use Rattle.utf8.specs.declared.Utf8Check.{Utf8Check}
-use Rattle.utf8.specs.declared.Utf8Check.TheVariants as utf8
-use Rattle.input.specs.Input.{on_utf8, on_input}
+use Rattle.utf8.specs.declared.Utf8Error.{Utf8Error}
+use Rattle.input.specs.Input.{of_utf8, on_utf8, on_input}
 use Rattle.input.specs.declared.Refusal.{Refusal}
-use Rattle.input.specs.declared.Refusal.TheVariants.{BadUtf8, CutUtf8}
-use Rattle.input.specs.declared.Input.{Input}
-use Rattle.input.specs.declared.Input.TheVariants as input
 use Rattle.pad_input.specs.Check.{format_check, fill_check}
 use Rattle.pad_input.specs.declared.Check.{Check}
 use Rattle.pad_input.specs.declared.Check.TheVariants.{Refused, FillRefused}
 
-pub input_fine : (r a : Input) (b v : Check) → r ≡ a → r ≡ input.Fine → b ≡ v → on_input Refused a b ≡ v
-input_fine r a b v e f g = let h : a ≡ input.Fine = sym e ∙ f in rw h g
+pub input_fine : (r a : Result (Unit {0}) Refusal) (b v : Check) → r ≡ a → r ≡ Ok tt → b ≡ v → on_input Refused a b ≡ v
+input_fine r a b v e f g = let h : a ≡ Ok tt = sym e ∙ f in rw h g
 
-pub input_refused : (r a : Input) (b : Check) (x : Refusal) → r ≡ a → r ≡ input.Refused x → on_input Refused a b ≡ Refused x
-input_refused r a b x e f = let h : a ≡ input.Refused x = sym e ∙ f in rw h
+pub input_refused : (r a : Result (Unit {0}) Refusal) (b : Check) (x : Refusal) → r ≡ a → r ≡ Err x → on_input Refused a b ≡ Refused x
+input_refused r a b x e f = let h : a ≡ Err x = sym e ∙ f in rw h
 
-pub fill_fine : (r a : Utf8Check) (b v : Check) → r ≡ a → r ≡ utf8.Fine → b ≡ v → on_input FillRefused (on_utf8 a) b ≡ v
-fill_fine r a b v e f g = let h : a ≡ utf8.Fine = sym e ∙ f in rw h g
+pub fill_fine : (r a : Result (Unit {0}) Utf8Error) (b v : Check) → r ≡ a → r ≡ Ok tt → b ≡ v → on_input FillRefused (on_utf8 a) b ≡ v
+fill_fine r a b v e f g = let h : a ≡ Ok tt = sym e ∙ f in rw h g
 
-pub fill_bad : (r a : Utf8Check) (b : Check) (i : ℕ) → r ≡ a → r ≡ utf8.BadAt i → on_input FillRefused (on_utf8 a) b ≡ FillRefused (BadUtf8 i)
-fill_bad r a b i e f = let h : a ≡ utf8.BadAt i = sym e ∙ f in rw h
-
-pub fill_cut : (r a : Utf8Check) (b : Check) (i : ℕ) → r ≡ a → r ≡ utf8.CutAt i → on_input FillRefused (on_utf8 a) b ≡ FillRefused (CutUtf8 i)
-fill_cut r a b i e f = let h : a ≡ utf8.CutAt i = sym e ∙ f in rw h
+pub fill_refused : (r a : Result (Unit {0}) Utf8Error) (b : Check) (e : Utf8Error) (x : Refusal) → r ≡ a → r ≡ Err e → x ≡ of_utf8 e
+    → on_input FillRefused (on_utf8 a) b ≡ FillRefused x
+fill_refused r a b e x f g h = let k : a ≡ Err e = sym f ∙ g in rw (k, h)
 
 -- the answer of `check_fill`, handed on, and that of `check_format`
 pub fill_handed : (look : ℕ → ℕ) (edition alignment width : ℕ) (fill : List ℕ) (r : Check) → r ≡ fill_check look edition alignment width fill
@@ -38,6 +33,6 @@ fill_handed look edition alignment width fill r e = sym e
 pub format_handed : (alignment width : ℕ) (r : Check) → r ≡ format_check alignment width → format_check alignment width ≡ r
 format_handed alignment width r e = sym e
 
-pub ruleset checks = (cases, input_fine, input_refused, fill_fine, fill_bad, fill_cut)
+pub ruleset checks = (cases, input_fine, input_refused, fill_fine, fill_refused)
 
 pub ruleset hands = (cases, input_fine, fill_fine, fill_handed, format_handed)

@@ -1,13 +1,11 @@
 -- Whether a text may be padded (document 02, C-11): the refusals before any work, in their order: 1 of the text or of the fill, 17, 2, 3 or 15
 -- of the text and then of the fill, 18. A fill that is not given is not looked at; one that is given is, whether or not it will be needed.
 -- Assumes nothing.
-use Rattle.std.specs.Prelude.{ℕ, ◌≤◌, ◌≡◌, List, Bool, true, ◌&&◌, ltb, leb, eqb, length}
+use Rattle.std.specs.Prelude.{ℕ, ◌≤◌, ◌≡◌, List, Bool, true, ◌&&◌, ltb, leb, eqb, length, Ok}
 use Rattle.base.specs.Pick.{pick}
 use Rattle.utf8.specs.Chars.{chars, check_from}
-use Rattle.utf8.specs.declared.Utf8Check.TheVariants as utf8
 use Rattle.property.specs.Table.{properties_at}
 use Rattle.fitness.specs.Fit.{table_check}
-use Rattle.fitness.specs.declared.TableCheck.TheVariants as fitness
 use Rattle.input.specs.Input.{on_utf8, input_check, on_input}
 use Rattle.input.specs.declared.Refusal.TheVariants.{TooLong}
 use Rattle.cluster_count.specs.Count.{cluster_count}
@@ -61,8 +59,8 @@ pub record Begun (text : List ℕ) (given : Bool) (fill : List ℕ) (edition : �
 -- nor any other
 pub record Paddable (text : List ℕ) (alignment width : ℕ) (given : Bool) (fill table : List ℕ) (edition : ℕ) : Type 0 where
   pub begun : Begun text given fill edition
-  pub fit : table_check table ≡ fitness.Fit
-  pub well : check_from 0 text ≡ utf8.Fine
-  pub fill_well : given ≡ true → check_from 0 fill ≡ utf8.Fine
+  pub fit : table_check table ≡ Ok tt
+  pub well : check_from 0 text ≡ Ok tt
+  pub fill_well : given ≡ true → check_from 0 fill ≡ Ok tt
   pub fill_one : given ≡ true → cluster_count (properties_at table) edition (chars fill) ≡ 1
   pub format : is_format alignment width ≡ true

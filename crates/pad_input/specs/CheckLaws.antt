@@ -5,7 +5,7 @@
 --     is_fine_lem, fine_parts                    no refusal, exactly of what is `Paddable`
 --     width_of_lem                               what `is_format` says of a width
 -- Assumes nothing.
-use Rattle.std.specs.Prelude.{ℕ, ◌<◌, ◌≤◌, List, ◌&&◌, leb}
+use Rattle.std.specs.Prelude.{ℕ, ◌<◌, ◌≤◌, List, ◌&&◌, leb, Result, Ok, Err}
 use Rattle.std.proofs.Common.{arith, ◌∙◌}
 use Rattle.std.proofs.Math.Path.{◌≡◌, refl}
 use Rattle.std.proofs.Math.Bool.{Bool, true, false}
@@ -17,17 +17,15 @@ use Rattle.base.specs.PickLaws.{is_second, split_lt, split_eq}
 use Rattle.base.specs.RangeLaws.{inside_is, is_inside, under, over}
 use Rattle.utf8.specs.Chars.{chars, check_from}
 use Rattle.utf8.specs.CharsLaws.{fine_of_well}
-use Rattle.utf8.specs.declared.Utf8Check.{Utf8Check}
-use Rattle.utf8.specs.declared.Utf8Check.TheVariants as utf8
+use Rattle.utf8.specs.declared.Utf8Error.{Utf8Error}
+use Rattle.utf8.specs.declared.Utf8Error.TheVariants as utf8
 use Rattle.property.specs.Table.{properties_at}
 use Rattle.fitness.specs.Fit.{table_check}
-use Rattle.fitness.specs.declared.TableCheck.TheVariants as fitness
+use Rattle.fitness.specs.declared.TableError.TheVariants as fitness
 use Rattle.input.specs.Input.{is_edition, on_table, on_utf8, input_check, on_input}
 use Rattle.input.specs.InputLaws.{is_long, is_none, is_rest, fine_of}
 use Rattle.input.specs.declared.Refusal.{Refusal}
 use Rattle.input.specs.declared.Refusal.TheVariants.{TooLong, BadEdition, BadTable, BadUtf8, CutUtf8}
-use Rattle.input.specs.declared.Input.{Input}
-use Rattle.input.specs.declared.Input.TheVariants as input
 use Rattle.cluster_count.specs.Count.{cluster_count}
 use Rattle.fills.specs.Pad.{right, is_width}
 use Rattle.pad_input.specs.Check.{text_most, long_fill, is_format, format_check, fill_check, pad_check, Short, Begun, Paddable}
@@ -37,14 +35,14 @@ use Rattle.pad_input.specs.declared.Check.TheVariants.{Fine, Refused, FillRefuse
 never : {A : Type 0} (x : Refusal) → Refused x ≡ Fine → A
 never x e = absurd (let z : ◌≡◌ {A = ℕ} 0 1 = cc in omega arith)
 
-input_fine : (c : Input) (r : Check) → on_input Refused c r ≡ Fine → (c ≡ input.Fine) × (r ≡ Fine)
-input_fine input.Fine r e = (refl, e)
-input_fine (input.Refused x) r e = never x e
+input_fine : (c : Result (Unit {0}) Refusal) (r : Check) → on_input Refused c r ≡ Fine → (c ≡ Ok tt) × (r ≡ Fine)
+input_fine (Ok _) r e = (refl, e)
+input_fine (Err x) r e = never x e
 
-fill_fine : (x : Utf8Check) (r : Check) → on_input FillRefused (on_utf8 x) r ≡ Fine → (x ≡ utf8.Fine) × (r ≡ Fine)
-fill_fine utf8.Fine r e = (refl, e)
-fill_fine (utf8.BadAt i) r e = absurd (let z : ◌≡◌ {A = ℕ} 0 1 = cc in omega arith)
-fill_fine (utf8.CutAt i) r e = absurd (let z : ◌≡◌ {A = ℕ} 0 1 = cc in omega arith)
+fill_fine : (x : Result (Unit {0}) Utf8Error) (r : Check) → on_input FillRefused (on_utf8 x) r ≡ Fine → (x ≡ Ok tt) × (r ≡ Fine)
+fill_fine (Ok _) r e = (refl, e)
+fill_fine (Err (utf8.BadAt i)) r e = absurd (let z : ◌≡◌ {A = ℕ} 0 1 = cc in omega arith)
+fill_fine (Err (utf8.CutAt i)) r e = absurd (let z : ◌≡◌ {A = ℕ} 0 1 = cc in omega arith)
 
 short_fill : (given : Bool) (fill : List ℕ) → long_fill given fill ≡ false → given ≡ true → length fill ≤ text_most
 unfolding long_fill
@@ -72,7 +70,7 @@ format_fine alignment width e = (first_case (is_format alignment width) Fine e).
 module _ (look : ℕ → ℕ) (edition alignment width : ℕ) (fill : List ℕ) where
   rest_parts : (given : Bool) → pick given (fill_check look edition alignment width fill) (format_check alignment width) ≡ Fine
       → (is_format alignment width ≡ true)
-      × ((given ≡ true → check_from 0 fill ≡ utf8.Fine) × (given ≡ true → cluster_count look edition (chars fill) ≡ 1))
+      × ((given ≡ true → check_from 0 fill ≡ Ok tt) × (given ≡ true → cluster_count look edition (chars fill) ≡ 1))
   unfolding fill_check
   rest_parts true e =
       let u = fill_fine (check_from 0 fill) _ e in
@@ -93,7 +91,7 @@ module _ (text : List ℕ) (alignment width : ℕ) (given : Bool) (fill table : 
   check = pad_check text alignment width given fill table edition
 
   -- what the checks of the text, the edition and the table answer
-  abbrev checked : Input
+  abbrev checked : Result (Unit {0}) Refusal
   checked = input_check text_most text table edition
 
   -- ---- 1 and 17
@@ -143,34 +141,34 @@ module _ (text : List ℕ) (alignment width : ℕ) (given : Bool) (fill table : 
         by_text b.short.fill_short
         ∙ rw (is_rest text_most text table edition b.short.text_short (is_inside edition 1 2 b.edition_some b.edition_most))
 
-    pub unfit : (i : ℕ) → table_check table ≡ fitness.BadTable i → check ≡ Refused (BadTable i)
+    pub unfit : (i : ℕ) → table_check table ≡ Err (fitness.BadTable i) → check ≡ Refused (BadTable i)
     unfit i e = opened ∙ rw e
 
-    module _ (f : table_check table ≡ fitness.Fit) where
-      pub bad_text : (i : ℕ) → check_from 0 text ≡ utf8.BadAt i → check ≡ Refused (BadUtf8 i)
+    module _ (f : table_check table ≡ Ok tt) where
+      pub bad_text : (i : ℕ) → check_from 0 text ≡ Err (utf8.BadAt i) → check ≡ Refused (BadUtf8 i)
       bad_text i e = opened ∙ rw (f, e)
 
-      pub cut_text : (i : ℕ) → check_from 0 text ≡ utf8.CutAt i → check ≡ Refused (CutUtf8 i)
+      pub cut_text : (i : ℕ) → check_from 0 text ≡ Err (utf8.CutAt i) → check ≡ Refused (CutUtf8 i)
       cut_text i e = opened ∙ rw (f, e)
 
-      module _ (w : check_from 0 text ≡ utf8.Fine) where
+      module _ (w : check_from 0 text ≡ Ok tt) where
         asked : check ≡ rest
         asked = opened ∙ rw (f, w)
 
-        pub bad_fill : given ≡ true → (i : ℕ) → check_from 0 fill ≡ utf8.BadAt i → check ≡ FillRefused (BadUtf8 i)
+        pub bad_fill : given ≡ true → (i : ℕ) → check_from 0 fill ≡ Err (utf8.BadAt i) → check ≡ FillRefused (BadUtf8 i)
         unfolding fill_check
         bad_fill g i e = asked ∙ rw (g, e)
 
-        pub cut_fill : given ≡ true → (i : ℕ) → check_from 0 fill ≡ utf8.CutAt i → check ≡ FillRefused (CutUtf8 i)
+        pub cut_fill : given ≡ true → (i : ℕ) → check_from 0 fill ≡ Err (utf8.CutAt i) → check ≡ FillRefused (CutUtf8 i)
         unfolding fill_check
         cut_fill g i e = asked ∙ rw (g, e)
 
-        pub not_one : given ≡ true → check_from 0 fill ≡ utf8.Fine → (cluster_count look edition (chars fill) ≡ 1 → ⊥)
+        pub not_one : given ≡ true → check_from 0 fill ≡ Ok tt → (cluster_count look edition (chars fill) ≡ 1 → ⊥)
             → check ≡ NoSuchFormat
         unfolding fill_check
         not_one g e n = asked ∙ rw (g, e, ne_eqb (cluster_count look edition (chars fill)) 1 n)
 
-        pub no_format : (given ≡ true → check_from 0 fill ≡ utf8.Fine) → is_format alignment width ≡ false → check ≡ NoSuchFormat
+        pub no_format : (given ≡ true → check_from 0 fill ≡ Ok tt) → is_format alignment width ≡ false → check ≡ NoSuchFormat
         unfolding fill_check format_check
         no_format e n = asked ∙ go given e
           where
@@ -181,7 +179,7 @@ module _ (text : List ℕ) (alignment width : ℕ) (given : Bool) (fill table : 
             both true = rw n
             both false = refl
 
-            go : (t : Bool) → (t ≡ true → check_from 0 fill ≡ utf8.Fine)
+            go : (t : Bool) → (t ≡ true → check_from 0 fill ≡ Ok tt)
                 → pick t (fill_check look edition alignment width fill) (format_check alignment width) ≡ NoSuchFormat
             go true e = rw (e refl) (both one)
             go false e = rw n
@@ -214,7 +212,7 @@ module _ (text : List ℕ) (alignment width : ℕ) (given : Bool) (fill table : 
   unfolding fill_check format_check
   is_fine_lem p = asked p.begun p.fit p.well ∙ go given p.fill_well p.fill_one
     where
-      go : (t : Bool) → (t ≡ true → check_from 0 fill ≡ utf8.Fine) → (t ≡ true → cluster_count look edition (chars fill) ≡ 1)
+      go : (t : Bool) → (t ≡ true → check_from 0 fill ≡ Ok tt) → (t ≡ true → cluster_count look edition (chars fill) ≡ 1)
           → pick t (fill_check look edition alignment width fill) (format_check alignment width) ≡ Fine
       go true w o = rw (w refl, eq-eqb (cluster_count look edition (chars fill)) 1 (o refl), p.format)
       go false w o = rw p.format

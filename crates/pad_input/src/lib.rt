@@ -9,7 +9,7 @@ ghost use Rattle.pad_input.specs.Check.{long_fill, is_format, format_check, fill
 
 use cluster_count::count_clusters;
 use fills::{RIGHT, is_width};
-use input::{Input, Refusal, check_input};
+use input::{Refusal, check_input};
 
 // A text, and a fill, has at most this many bytes.
 const TEXT_MOST: usize = 65535;
@@ -55,9 +55,8 @@ fn check_fill(alignment: u64, width: u64, fill: &[u8], table: &[u32], edition: u
     ensures { result ≡ fill_check (properties_at table.now) edition alignment width fill.now }
 {
     match utf8::check_utf8(fill) {
-        utf8::Utf8Check::BadAt(i) => Check::FillRefused(Refusal::BadUtf8(i)),
-        utf8::Utf8Check::CutAt(i) => Check::FillRefused(Refusal::CutUtf8(i)),
-        utf8::Utf8Check::Fine => {
+        Err(error) => Check::FillRefused(Refusal::from(error)),
+        Ok(()) => {
             if count_clusters(fill, table, edition) == 1 {
                 return check_format(alignment, width);
             }
@@ -83,8 +82,8 @@ pub fn check_pad(
         return Check::Refused(Refusal::TooLong);
     }
     match check_input(text, table, edition, TEXT_MOST) {
-        Input::Refused(refusal) => Check::Refused(refusal),
-        Input::Fine => {
+        Err(refusal) => Check::Refused(refusal),
+        Ok(()) => {
             if filled {
                 return check_fill(alignment, width, fill, table, edition);
             }

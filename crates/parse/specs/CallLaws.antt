@@ -9,7 +9,7 @@
 --     called                  what a call comes to that none of them meets
 --     one_answer              no second answer, counts and rows fit
 -- Assumes nothing.
-use Rattle.std.specs.Prelude.{ℕ, ◌≡◌, Bool, true, false, List, Option, Some, Result, Err}
+use Rattle.std.specs.Prelude.{ℕ, ◌≡◌, Bool, true, false, List, Option, Some, Result, Err, Ok}
 use Rattle.std.proofs.Common.{arith, sym, ap, ◌∙◌, ne_eqb}
 use Rattle.std.proofs.Math.Path.{refl}
 use Rattle.base.specs.PickLaws.{by_test}
@@ -18,7 +18,6 @@ use Rattle.utf8.specs.Encode.{WellFormed}
 use Rattle.property.specs.Table.{properties_at}
 use Rattle.input.specs.Input.{input_check}
 use Rattle.input.specs.declared.Refusal.{Refusal}
-use Rattle.input.specs.declared.Input.TheVariants as input
 use Rattle.pool_rows.specs.Rows.{fit_pool}
 use Rattle.pool.specs.Pool.{added, is_new, bytes_after, entries_after, AddsString}
 use Rattle.pool.specs.PoolLaws.{old_bytes, old_entries, grows, added_again}
@@ -188,14 +187,14 @@ module _ {format table : List ℕ} {edition : ℕ} {bytes entries : List ℕ} {c
       }
 
   -- refusals 1, 2, 3
-  pub parses_refused : {x : Refusal} → input_check format_most format table edition ≡ input.Refused x
+  pub parses_refused : {x : Refusal} → input_check format_most format table edition ≡ Err x
       → Parses format table edition bytes entries counts bytes entries (record { answer = Err (Refused x); counts = counts })
   unfolding call
   parses_refused {x} e =
       let c : call format table edition (lent bytes entries counts) ≡ comes (Err (Refused x)) (lent bytes entries counts) = rw e in
       parses_by {x = comes (Err (Refused x)) (lent bytes entries counts)} c refl refl refl refl
 
-  module _ (e : input_check format_most format table edition ≡ input.Fine) where
+  module _ (e : input_check format_most format table edition ≡ Ok tt) where
     -- refusal 8
     pub parses_unfit : fit_pool bytes entries counts ≡ false
         → Parses format table edition bytes entries counts bytes entries (record { answer = Err BadState; counts = counts })
@@ -205,7 +204,7 @@ module _ {format table : List ℕ} {edition : ℕ} {bytes entries : List ℕ} {c
         parses_by {x = comes (Err BadState) (lent bytes entries counts)} c refl refl refl refl
 
 -- none of them
-pub called : (format table : List ℕ) (edition : ℕ) (bytes entries : List ℕ) (counts : Counts) → input_check format_most format table edition ≡ input.Fine → fit_pool bytes entries counts ≡ true
+pub called : (format table : List ℕ) (edition : ℕ) (bytes entries : List ℕ) (counts : Counts) → input_check format_most format table edition ≡ Ok tt → fit_pool bytes entries counts ≡ true
     → call format table edition (lent bytes entries counts)
     ≡ comes (answer (parsed format table edition (lent bytes entries counts))) (parsed format table edition (lent bytes entries counts)).pool
 unfolding call

@@ -18,8 +18,6 @@ use Rattle.property.specs.Table.{properties_at}
 use Rattle.input.specs.Input.{input_check, on_input}
 use Rattle.input.specs.InputLaws.{fine_of}
 use Rattle.input.specs.declared.Refusal.{Refusal}
-use Rattle.input.specs.declared.Input.{Input}
-use Rattle.input.specs.declared.Input.TheVariants as check
 use Rattle.pool_rows.specs.Rows.{fit_pool}
 use Rattle.pool.specs.Pool.{AddsToFit}
 use Rattle.pool.specs.PoolLaws.{adds_fine}
@@ -95,31 +93,31 @@ module _ (format : List ℕ) where
 
 -- a format string that `read` has read: it is well formed, this is its reading, and the pool is fit
 pub record Reads (format table : List ℕ) (edition : ℕ) (fit : Bool) (r : FormatRead) : Type 0 where
-  pub checked : input_check format_most format table edition ≡ check.Fine
+  pub checked : input_check format_most format table edition ≡ Ok tt
   pub well : WellFormed format
   pub is : r ≡ read_of format table edition
   pub is_fit_lem : fit ≡ true
 
 module _ (format table : List ℕ) (edition : ℕ) where
   -- what `input_of` is, by what the checks answer
-  abbrev by_input : Input → Bool → Result FormatRead ParseError
+  abbrev by_input : Result (Unit {0}) Refusal → Bool → Result FormatRead ParseError
   by_input c fit = on_input (λ (x : Refusal). Err (said.Refused x)) c (pick fit (Ok (read_of format table edition)) (Err said.BadState))
 
-  reads_by : {r : FormatRead} (c : Input) (fit : Bool) → input_check format_most format table edition ≡ c → by_input c fit ≡ Ok r → Reads format table edition fit r
-  reads_by (check.Refused x) fit w e = absurd (let z : ◌≡◌ {A = ℕ} 0 1 = cc in omega arith)
-  reads_by check.Fine false w e = absurd (let z : ◌≡◌ {A = ℕ} 0 1 = cc in omega arith)
-  reads_by check.Fine true w e = record { checked = w; well = (fine_of format_most format table edition w).well; is = cc; is_fit_lem = refl }
+  reads_by : {r : FormatRead} (c : Result (Unit {0}) Refusal) (fit : Bool) → input_check format_most format table edition ≡ c → by_input c fit ≡ Ok r → Reads format table edition fit r
+  reads_by (Err x) fit w e = absurd (let z : ◌≡◌ {A = ℕ} 0 1 = cc in omega arith)
+  reads_by (Ok _) false w e = absurd (let z : ◌≡◌ {A = ℕ} 0 1 = cc in omega arith)
+  reads_by (Ok _) true w e = record { checked = w; well = (fine_of format_most format table edition w).well; is = cc; is_fit_lem = refl }
 
   module _ (fit : Bool) where
-    pub is_refused : {x : Refusal} → input_check format_most format table edition ≡ check.Refused x → input_of format table edition fit ≡ Err (said.Refused x)
+    pub is_refused : {x : Refusal} → input_check format_most format table edition ≡ Err x → input_of format table edition fit ≡ Err (said.Refused x)
     unfolding input_of
     is_refused e = rw e
 
-    pub is_unfit : input_check format_most format table edition ≡ check.Fine → fit ≡ false → input_of format table edition fit ≡ Err said.BadState
+    pub is_unfit : input_check format_most format table edition ≡ Ok tt → fit ≡ false → input_of format table edition fit ≡ Err said.BadState
     unfolding input_of
     is_unfit e f = rw (e, f)
 
-    pub is_read : input_check format_most format table edition ≡ check.Fine → fit ≡ true → {r : FormatRead} → r ≡ read_of format table edition → input_of format table edition fit ≡ Ok r
+    pub is_read : input_check format_most format table edition ≡ Ok tt → fit ≡ true → {r : FormatRead} → r ≡ read_of format table edition → input_of format table edition fit ≡ Ok r
     unfolding input_of
     is_read e f q = rw (e, f, q)
 
@@ -166,10 +164,10 @@ module _ (format table : List ℕ) (edition : ℕ) (bytes entries : List ℕ) (c
   Answered (Err x) = Keeps (Err x)
 
   -- what a call comes to that was refused so
-  refused : (c : Input) (b : Bool) → input_check format_most format table edition ≡ c → fit ≡ b → (x : ParseError) → by_input format table edition c b ≡ Err x → Keeps (Err x)
-  refused (check.Refused x) b w f a e = subst Answered e (parses_refused w)
-  refused check.Fine false w f a e = subst Answered e (parses_unfit w f)
-  refused check.Fine true w f a e = absurd (let z : ◌≡◌ {A = ℕ} 0 1 = cc in omega arith)
+  refused : (c : Result (Unit {0}) Refusal) (b : Bool) → input_check format_most format table edition ≡ c → fit ≡ b → (x : ParseError) → by_input format table edition c b ≡ Err x → Keeps (Err x)
+  refused (Err x) b w f a e = subst Answered e (parses_refused w)
+  refused (Ok _) false w f a e = subst Answered e (parses_unfit w f)
+  refused (Ok _) true w f a e = absurd (let z : ◌≡◌ {A = ℕ} 0 1 = cc in omega arith)
 
   module _ {new_bytes new_entries : List ℕ} {two : Adding} where
     -- the pool is as it was lent

@@ -15,7 +15,7 @@ ghost use Rattle.parse.specs.Plan.{input_of, plan_with, plan_of, CanAdd, is_addi
 
 use format::{FormatRead, read_format};
 use format_options::{FormatError, Options, Part};
-use input::{FORMAT_MOST, Input, Refusal};
+use input::{FORMAT_MOST, Refusal};
 use pool::Added;
 use pool_rows::Counts;
 
@@ -85,8 +85,8 @@ pub fn read(
 {
     let edition = terms.edition;
     match input::check_input(format, table, edition, FORMAT_MOST) {
-        Input::Refused(refusal) => Err(ParseError::Refused(refusal)),
-        Input::Fine => {
+        Err(refusal) => Err(ParseError::Refused(refusal)),
+        Ok(()) => {
             if fit {
                 return Ok(read_format(format, table, edition));
             }

@@ -6,6 +6,7 @@
 --     fine_fit                           where nothing is refused, the pool is fit
 --     settled_fine, settled_refused      a return: after the addition, or with a refusal
 -- Assumes nothing.
+use Rattle.std.specs.Prelude.{Result, Ok, Err}
 use Prim.Native.Nat.{ℕ, ◌<◌, ◌≤◌, ◌^◌}
 use native.Mathlib.Omega.{arith}
 use mathlib.Core.Path.{◌≡◌, refl, sym, ap, ◌∙◌}
@@ -15,8 +16,8 @@ use lib.ListN.{length, set}
 use Rattle.base.specs.Pick.{pick}
 use borrow.Author.Tests.{lt-ltb, le-ltb}
 use Rattle.utf8.specs.Chars.{check_from}
-use Rattle.utf8.specs.declared.Utf8Check.{Utf8Check}
-use Rattle.utf8.specs.declared.Utf8Check.TheVariants as utf8
+use Rattle.utf8.specs.declared.Utf8Error.{Utf8Error}
+use Rattle.utf8.specs.declared.Utf8Error.TheVariants as utf8
 use Rattle.pool_rows.specs.Rows.{index_of, strings_of, room_of, byte_room, entry_room, runs_to, fit_in, fit_pool}
 use Rattle.pool.specs.Pool.{on_utf8, placed, added_to_fit, added, refused_as, refusal_at}
 use Rattle.pool.specs.Pool.{is_new, bytes_after, AddsToFit, AddsString}
@@ -95,10 +96,9 @@ module _ (bytes : List ℕ) (es : List Entry) (counts : Counts) (fit : fit_pool 
 -- ---- for any string and pool
 
 module _ (string bytes : List ℕ) (es : List Entry) (counts : Counts) (fit : Bool) (fit-as : fit ≡ fit_pool bytes (numbers_of es) counts) where
-  all_fine : (u : Utf8Check) → fine_by u fit ≡ true → (u ≡ utf8.Fine) × (fit ≡ true)
-  all_fine utf8.Fine e = (refl, e)
-  all_fine (utf8.BadAt i) e = absurd (let z : ◌≡◌ {A = ℕ} 0 1 = cc in omega arith)
-  all_fine (utf8.CutAt i) e = absurd (let z : ◌≡◌ {A = ℕ} 0 1 = cc in omega arith)
+  all_fine : (u : Result (Unit {0}) Utf8Error) → fine_by u fit ≡ true → (u ≡ Ok tt) × (fit ≡ true)
+  all_fine (Ok _) e = (refl, e)
+  all_fine (Err _) e = absurd (let z : ◌≡◌ {A = ℕ} 0 1 = cc in omega arith)
 
   pub fine_fit : fine_at string fit ≡ true → fit_pool bytes (numbers_of es) counts ≡ true
   fine_fit e = sym fit-as ∙ (all_fine (check_from 0 string) e).1
@@ -108,11 +108,11 @@ module _ (string bytes : List ℕ) (es : List Entry) (counts : Counts) (fit : Bo
   settled_fine e a = adds_fine _ _ _ _ (all_fine (check_from 0 string) e).0 (fine_fit e) a
 
   -- a refusal is the answer
-  refuses : (u : Utf8Check) → fine_by u fit ≡ false
+  refuses : (u : Result (Unit {0}) Utf8Error) → fine_by u fit ≡ false
       → (Err (refused_as u) ≡ on_utf8 u (pick (fit_pool bytes (numbers_of es) counts) (added_to_fit string bytes (numbers_of es) counts) (Err BadState)))
-  refuses utf8.Fine e = rw (sym fit-as ∙ e)
-  refuses (utf8.BadAt i) e = refl
-  refuses (utf8.CutAt i) e = refl
+  refuses (Ok _) e = rw (sym fit-as ∙ e)
+  refuses (Err (utf8.BadAt i)) e = refl
+  refuses (Err (utf8.CutAt i)) e = refl
 
   pub settled_refused : fine_at string fit ≡ false → (e : AddError) → e ≡ refusal_at string
       → AddsString string counts bytes (numbers_of es) bytes (numbers_of es) (Err e)

@@ -58,9 +58,8 @@ fn is_fine(string: &[u8], fit: bool) -> bool
     ensures { result ≡ fine_at string.now fit }
 {
     match utf8::check_utf8(string) {
-        utf8::Utf8Check::BadAt(_) => false,
-        utf8::Utf8Check::CutAt(_) => false,
-        utf8::Utf8Check::Fine => fit,
+        Err(_) => false,
+        Ok(()) => fit,
     }
 }
 

@@ -6,6 +6,7 @@ use Prim.Native.Nat.{ℕ, zero, suc, ◌+◌, ◌-◌, ◌*◌, ◌<◌, ◌≤�
 use Rattle.std.proofs.Common.{arith, sym, inl, inr}
 use Rattle.std.proofs.Math.Path.{◌≡◌, refl, ap, subst}
 use Rattle.std.specs.Prelude.{true, ◌⊎◌, List, [], ◌∷◌, length, get_or, take}
+use Rattle.std.specs.declared.result.Result.TheVariants as result
 use Rattle.base.specs.PickLaws.{by_lt}
 use Rattle.base.specs.Refusal.{list_full, source_most}
 use Rattle.position.specs.declared.ByteOffset.{ByteOffset}
@@ -15,7 +16,6 @@ use Rattle.utf8.specs.Read.{is_tail}
 use Rattle.property.specs.Table.{properties_at}
 use Rattle.fitness.specs.Fit.{table_check, FitTable}
 use Rattle.fitness.specs.FitLaws.{fit_of}
-use Rattle.fitness.specs.declared.TableCheck.TheVariants.{Fit}
 use Rattle.input.specs.Input.{is_edition}
 use Rattle.input.specs.InputLaws.{is_fine_lem}
 use Rattle.rows.specs.declared.Row.{Row}
@@ -171,7 +171,7 @@ module _ (s : List ℕ) (n : ℕ) (r : Reading) (w : Whole s r) (h : most_record
   has_room =
       by_lt (λ (x : Scanned). number_of x ≡ list_full → ⊥) n (0 + length r.rows) (λ k q. omega (arith, w.few)) (λ _. stops_otherwise r.stop refl)
 
-pub never_full : (source table : List ℕ) (edition n : ℕ) → length source ≤ source_most → is_edition edition ≡ true → table_check table ≡ Fit → WellFormed source
+pub never_full : (source table : List ℕ) (edition n : ℕ) → length source ≤ source_most → is_edition edition ≡ true → table_check table ≡ result.Ok tt → WellFormed source
     → most_records (length source) ≤ n → number_of (scanned source table edition n) ≡ list_full → ⊥
 unfolding scanned
 never_full source table edition n h k fit w room e =

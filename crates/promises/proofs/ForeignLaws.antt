@@ -3,7 +3,7 @@
 --     scan_gets_yes      what a scan that ended leaves, with its count and its status, gets a yes
 --     yes_hands_out      a yes means that `next` over that list hands out the reading, and that the Rust says the same
 -- Assumes nothing.
-use Rattle.std.specs.Prelude.{ℕ, ◌+◌, ◌-◌, ◌<◌, ◌≤◌, ◌≡◌, refl, true, false, List, ltb, length, get_or}
+use Rattle.std.specs.Prelude.{ℕ, ◌+◌, ◌-◌, ◌<◌, ◌≤◌, ◌≡◌, refl, true, false, List, ltb, length, get_or, Result, Ok, Err}
 use Rattle.std.proofs.Common.{arith, sym, ap, subst, ◌∙◌, lt-ltb, le-ltb}
 use Rattle.base.specs.CasesLaws.{and_yes, and_no}
 use Rattle.base.specs.Pick.{pick}
@@ -13,8 +13,6 @@ use Rattle.utf8.specs.Meaning.{Arriving, Damaged}
 use Rattle.input.specs.Input as input
 use Rattle.input.specs.Input.{input_check}
 use Rattle.input.specs.InputLaws.{is_long, is_none, is_table, is_bad, is_cut, is_fine_lem, fine_of, only_bad, only_cut}
-use Rattle.input.specs.declared.Input.{Input}
-use Rattle.input.specs.declared.Input.TheVariants as asked
 use Rattle.input.specs.declared.Refusal.{Refusal}
 use Rattle.input.specs.declared.Refusal.TheVariants.{TooLong, BadEdition, BadTable, BadUtf8, CutUtf8}
 use Rattle.rows.specs.Row.{room, put_rows}
@@ -121,7 +119,7 @@ module _ (source table : List ℕ) (edition : ℕ) (list : List ℕ) (count stat
         answered : Same ≡ list_checked source table edition list count status
         answered = sym e ∙ p
 
-        all_right : input_check source_most source table edition ≡ asked.Fine → count ≤ room list → Right source table edition list count status
+        all_right : input_check source_most source table edition ≡ Ok tt → count ≤ room list → Right source table edition list count status
         all_right f h =
             let all = is_same count status n apart (end_of 0 (rows source table edition)) (stop source table edition)
             (is_compared source table edition list count status f h refl ∙ sym answered) in
@@ -136,13 +134,13 @@ module _ (source table : List ℕ) (edition : ℕ) (list : List ℕ) (count stat
               ends = all.2;
             }
 
-        by_input_lem : (c : Input) → input_check source_most source table edition ≡ c → Right source table edition list count status
-        by_input_lem asked.Fine f =
+        by_input_lem : (c : Result (Unit {0}) Refusal) → input_check source_most source table edition ≡ c → Right source table edition list count status
+        by_input_lem (Ok _) f =
             split_lt (room list) count
             (λ h. let q : Same ≡ BadState = answered ∙ sym (is_short source table edition list count status f h) in
             let z : ◌≡◌ {A = ℕ} 0 1 = cc in absurd (omega arith))
             (all_right f)
-        by_input_lem (asked.Refused x) f =
+        by_input_lem (Err x) f =
             let q : Same ≡ Refused x = answered ∙ sym (is_refused source table edition list count status f) in
             let z : ◌≡◌ {A = ℕ} 0 1 = cc in absurd (omega arith)
 

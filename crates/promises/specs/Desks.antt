@@ -1,12 +1,11 @@
 -- Document 02, C-12, "Two desks, one pool": what `desk_add::add_string` and `desk_parse::parse` promise, in the documents' numbers.
 -- Assumes nothing.
-use Rattle.std.specs.Prelude.{ℕ, ◌+◌, ◌<◌, ◌≤◌, ◌≡◌, List, [], ◌∷◌, true, false, length, set, Err}
+use Rattle.std.specs.Prelude.{ℕ, ◌+◌, ◌<◌, ◌≤◌, ◌≡◌, List, [], ◌∷◌, true, false, length, set, Err, Ok}
 use Rattle.base.specs.Refusal.{none, bad_utf8, cut_utf8, bad_state, pool_full, format_most}
 use Rattle.utf8.specs.Encode.{WellFormed}
 use Rattle.utf8.specs.Meaning.{Arriving, Damaged}
 use Rattle.input.specs.Input.{input_check}
 use Rattle.input.specs.declared.Refusal.{Refusal}
-use Rattle.input.specs.declared.Input.TheVariants as input
 use Rattle.pool_rows.specs.Rows.{string_at}
 use Rattle.pool.specs.Pool.{one_more, written, entered, number_of, added_index}
 use Rattle.pool.specs.declared.Added.TheVariants as added
@@ -73,10 +72,10 @@ pub record DeskAddPromise (string : List ℕ) (which : Which) (s t : Shared) (r 
 
 pub record DeskParsePromise (format table : List ℕ) (edition : ℕ) (which : Which) (s t : Shared) (r : ParsedFor) : Type 0 where
   -- refusals 1, 17, 2, 3 or 15, and then 8
-  pub refused : (x : Refusal) → input_check format_most format table edition ≡ input.Refused x → (r.answer ≡ Err (said.Refused x)) × Stays s t
-  pub bad_state_lem : input_check format_most format table edition ≡ input.Fine → fit_desks s ≡ false → (r.answer ≡ Err said.BadState) × Stays s t
+  pub refused : (x : Refusal) → input_check format_most format table edition ≡ Err x → (r.answer ≡ Err (said.Refused x)) × Stays s t
+  pub bad_state_lem : input_check format_most format table edition ≡ Ok tt → fit_desks s ≡ false → (r.answer ≡ Err said.BadState) × Stays s t
   -- else the one pass of the parse, in which each addition is one for the desk, one after the other
-  pub reads : input_check format_most format table edition ≡ input.Fine → Fits s
+  pub reads : input_check format_most format table edition ≡ Ok tt → Fits s
       → (r.answer ≡ (ended (parsed format table edition which s)).answer) × Stays (ended (parsed format table edition which s)).state t
   pub fits : Fits s → Fits t
   pub others : Fits s → desk_of (other which) t.desks ≡ desk_of (other which) s.desks

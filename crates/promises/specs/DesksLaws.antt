@@ -10,7 +10,7 @@ use Rattle.base.specs.Refusal.{none}
 use Rattle.utf8.specs.Chars.{check_from}
 use Rattle.utf8.specs.CharsLaws.{fine_of_well}
 use Rattle.utf8.specs.MeaningLaws.{is_check}
-use Rattle.utf8.specs.declared.Utf8Check.TheVariants as utf8
+use Rattle.utf8.specs.declared.Utf8Error.TheVariants as utf8
 use Rattle.pool_rows.specs.Rows.{strings_of, index_of}
 use Rattle.pool_rows.specs.declared.Counts.{Counts}
 use Rattle.pool.specs.Pool.{one_more, added, is_new, number_of, added_index, counts_after}
@@ -103,8 +103,8 @@ module _ (string : List ℕ) (which : Which) (s : Shared) where
       promised : DeskAddPromise string which s (add_for which s string) r
       promised =
           record {
-            bad_utf8_lem = λ n w. says_so (add.wrong s which string n (is_check string (utf8.BadAt n) w));
-            cut_utf8_lem = λ n w. says_so (add.cut s which string n (is_check string (utf8.CutAt n) w));
+            bad_utf8_lem = λ n w. says_so (add.wrong s which string n (is_check string (Err (utf8.BadAt n)) w));
+            cut_utf8_lem = λ n w. says_so (add.cut s which string n (is_check string (Err (utf8.CutAt n)) w));
             bad_state_lem = λ w e. says_so {a = BadState} (add.unfit s which string e ∙ rw (fine_of_well 0 string w));
             no_entry = λ t a h. says_so (no_entry t a h);
             few_bytes = λ t a h k. says_so (few_bytes t a h k);

@@ -1,11 +1,11 @@
 -- The promise of `foreign::check_list`, case by case in document 02's order: 1, 17, 2, 3 or 15, then 8, then 5, and then yes, or the first record that
 -- differs. What is right is told by what a scan writes: the records of the source's reading, their count and their status.
 -- Assumes nothing.
-use Rattle.std.specs.Prelude.{ℕ, ◌<◌, ◌≤◌, ◌≡◌, true, false, List, length, get_or}
+use Rattle.std.specs.Prelude.{ℕ, ◌<◌, ◌≤◌, ◌≡◌, true, false, List, length, get_or, Ok, Err}
 use Rattle.base.specs.Refusal.{too_long, bad_edition, bad_table, bad_utf8, cut_utf8, modes_full, bad_state, source_most}
 use Rattle.utf8.specs.Meaning.{Arriving, Damaged}
 use Rattle.fitness.specs.Fit.{table_check}
-use Rattle.fitness.specs.declared.TableCheck.TheVariants.{Fit, BadTable}
+use Rattle.fitness.specs.declared.TableError.TheVariants.{BadTable}
 use Rattle.input.specs.Input as input
 use Rattle.rows.specs.Row.{room, put_rows}
 use Rattle.held.specs.Held.{is_row}
@@ -57,11 +57,11 @@ module _ (source table : List ℕ) (edition : ℕ) (list : List ℕ) (count stat
     -- 1, 17, 2, 3, 15
     pub too_long_lem : source_most < length source → check_says r ≡ says too_long 0
     pub bad_edition_lem : length source ≤ source_most → input.is_edition edition ≡ false → check_says r ≡ says bad_edition 0
-    pub bad_table_lem : length source ≤ source_most → input.is_edition edition ≡ true → (i : ℕ) → table_check table ≡ BadTable i
+    pub bad_table_lem : length source ≤ source_most → input.is_edition edition ≡ true → (i : ℕ) → table_check table ≡ Err (BadTable i)
         → check_says r ≡ says bad_table i
-    pub bad_utf8_lem : length source ≤ source_most → input.is_edition edition ≡ true → table_check table ≡ Fit → (n : ℕ) → Damaged source n
+    pub bad_utf8_lem : length source ≤ source_most → input.is_edition edition ≡ true → table_check table ≡ Ok tt → (n : ℕ) → Damaged source n
         → check_says r ≡ says bad_utf8 n
-    pub cut_utf8_lem : length source ≤ source_most → input.is_edition edition ≡ true → table_check table ≡ Fit → (n : ℕ) → Arriving source n
+    pub cut_utf8_lem : length source ≤ source_most → input.is_edition edition ≡ true → table_check table ≡ Ok tt → (n : ℕ) → Arriving source n
         → check_says r ≡ says cut_utf8 n
     -- 8: the list is shorter than its count
     pub list_short : Readable source table edition → room list < count → check_says r ≡ says bad_state 0

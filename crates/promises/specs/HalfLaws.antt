@@ -1,6 +1,7 @@
 -- The promise of `Half`, proved: `half_promise`.
 -- Assumes nothing.
-use Rattle.std.specs.Prelude.{ℕ, ◌*◌, ◌≤◌, ◌<◌, ◌≡◌, refl, List, length, get_or, take, drop, Option, Some}
+use Rattle.std.specs.Prelude.{ℕ, ◌*◌, ◌≤◌, ◌<◌, ◌≡◌, refl, List, length, get_or, take, drop, Option, Some, Result, Err}
+use Rattle.std.specs.declared.result.Result.TheVariants as result
 use Rattle.std.proofs.Common.{arith, sym, ap, subst, ◌∙◌, take_all, length-take-le}
 use Rattle.base.specs.PickLaws.{split_lt}
 use Rattle.base.specs.Refusal.{source_most}
@@ -8,8 +9,6 @@ use Rattle.fitness.specs.FitLaws.{fit_of}
 use Rattle.input.specs.Input.{input_check}
 use Rattle.input.specs.InputLaws.{fine_of}
 use Rattle.input.specs.declared.Refusal.{Refusal}
-use Rattle.input.specs.declared.Input.{Input}
-use Rattle.input.specs.declared.Input.TheVariants as input
 use Rattle.rows.specs.declared.Row.{Row}
 use Rattle.layout.specs.Layout.{words_in, room_in, row_in, shown_in}
 use Rattle.layout.specs.declared.Layout.{Layout}
@@ -87,7 +86,7 @@ module _ (source table : List ℕ) (edition : ℕ) (g : Readable source table ed
 -- ---- both scans
 
 -- what is written where no refusal comes before the work
-written_fine : (source table : List ℕ) (edition n : ℕ) → input_check source_most source table edition ≡ input.Fine
+written_fine : (source table : List ℕ) (edition n : ℕ) → input_check source_most source table edition ≡ result.Ok tt
     → written source table edition n ≡ take n (reading_of source table edition).rows
 unfolding written scanned
 written_fine source table edition n e = rw e (room_writes n 0 0 (reading_of source table edition) (take n (reading_of source table edition).rows))
@@ -102,7 +101,7 @@ module _ {source table : List ℕ} {edition : ℕ} {old half : List ℕ} {r q : 
     stays : drop (words_in Half * count_of r) other ≡ drop (words_in Half * count_of r) half
 
   -- a refusal before any work
-  lists_refused : {x : Refusal} → input_check source_most source table edition ≡ input.Refused x → Lists
+  lists_refused : {x : Refusal} → input_check source_most source table edition ≡ Err x → Lists
   lists_refused {x} e =
       let one = one_answer source table edition old r (Refused x) new old b.whole (scans_refused e) in
       let two = one_answer source table edition half q (Refused x) other half b.halves (scans_refused e) in
@@ -113,7 +112,7 @@ module _ {source table : List ℕ} {edition : ℕ} {old half : List ℕ} {r q : 
       }
 
   -- and none
-  lists_read : input_check source_most source table edition ≡ input.Fine → Lists
+  lists_read : input_check source_most source table edition ≡ result.Ok tt → Lists
   lists_read e =
       let g : Readable source table edition = fine_of source_most source table edition e in
       let n = room_in Whole old in
@@ -135,9 +134,9 @@ module _ {source table : List ℕ} {edition : ℕ} {old half : List ℕ} {r q : 
   lists : Lists
   lists = go (input_check source_most source table edition) refl
     where
-      go : (c : Input) → input_check source_most source table edition ≡ c → Lists
-      go input.Fine e = lists_read e
-      go (input.Refused x) e = lists_refused e
+      go : (c : Result (Unit {0}) Refusal) → input_check source_most source table edition ≡ c → Lists
+      go (result.Ok _) e = lists_read e
+      go (Err x) e = lists_refused e
 
   -- a cursor that counts as many
   module _ (c : Cursor) (e : c.count ≡ count_of r) where

@@ -1,13 +1,13 @@
 -- The promise of `pad::pad`, case by case in document 02's order: 1, 17, 2, 3 or 15 of the text, 3 or 15 of the fill, 18, 19, and then the
 -- padded text. What `check_from` and `table_check` answer is promised of `check_utf8` and `check_table`.
 -- Assumes nothing.
-use Rattle.std.specs.Prelude.{ℕ, ◌+◌, ◌<◌, ◌≤◌, ◌≡◌, Bool, true, List, [], length, get_or}
+use Rattle.std.specs.Prelude.{ℕ, ◌+◌, ◌<◌, ◌≤◌, ◌≡◌, Bool, true, List, [], length, get_or, Ok, Err}
 use Rattle.base.specs.Refusal.{none, too_long, bad_table, bad_utf8, cut_utf8, bad_edition, no_such_format, no_room}
 use Rattle.utf8.specs.Chars.{chars, check_from}
-use Rattle.utf8.specs.declared.Utf8Check.TheVariants as utf8
+use Rattle.utf8.specs.declared.Utf8Error.TheVariants as utf8
 use Rattle.property.specs.Table.{properties_at}
 use Rattle.fitness.specs.Fit.{table_check}
-use Rattle.fitness.specs.declared.TableCheck.TheVariants.{Fit, BadTable}
+use Rattle.fitness.specs.declared.TableError.TheVariants.{BadTable}
 use Rattle.cluster.specs.First.{break_after}
 use Rattle.cluster_count.specs.Count.{breaks, cluster_count, clusters_of, together}
 use Rattle.pool.specs.Pool.{written}
@@ -55,9 +55,9 @@ module _ (text : List ℕ) (alignment width : ℕ) (given : Bool) (fill table : 
   -- no refusal before 18 is given
   pub record Asked : Type 0 where
     pub begun : Begun text given fill edition
-    pub fit : table_check table ≡ Fit
-    pub well : check_from 0 text ≡ utf8.Fine
-    pub fill_well : given ≡ true → check_from 0 fill ≡ utf8.Fine
+    pub fit : table_check table ≡ Ok tt
+    pub well : check_from 0 text ≡ Ok tt
+    pub fill_well : given ≡ true → check_from 0 fill ≡ Ok tt
 
   -- nor before 19
   abbrev pub Taken : Type 0
@@ -72,17 +72,17 @@ module _ (text : List ℕ) (alignment width : ℕ) (given : Bool) (fill table : 
     pub long_text : text_most < length text → pad_says r ≡ says too_long 0
     pub long_fill_lem : length text ≤ text_most → given ≡ true → text_most < length fill → pad_says r ≡ says too_long 0
     pub bad_edition_lem : Short text given fill → (edition ≡ 1 → ⊥) → (edition ≡ 2 → ⊥) → pad_says r ≡ says bad_edition 0
-    pub bad_table_lem : Begun text given fill edition → (i : ℕ) → table_check table ≡ BadTable i → pad_says r ≡ says bad_table i
+    pub bad_table_lem : Begun text given fill edition → (i : ℕ) → table_check table ≡ Err (BadTable i) → pad_says r ≡ says bad_table i
     pub bad_text :
-        Begun text given fill edition → table_check table ≡ Fit → (i : ℕ) → check_from 0 text ≡ utf8.BadAt i → pad_says r ≡ says bad_utf8 i
+        Begun text given fill edition → table_check table ≡ Ok tt → (i : ℕ) → check_from 0 text ≡ Err (utf8.BadAt i) → pad_says r ≡ says bad_utf8 i
     pub cut_text :
-        Begun text given fill edition → table_check table ≡ Fit → (i : ℕ) → check_from 0 text ≡ utf8.CutAt i → pad_says r ≡ says cut_utf8 i
+        Begun text given fill edition → table_check table ≡ Ok tt → (i : ℕ) → check_from 0 text ≡ Err (utf8.CutAt i) → pad_says r ≡ says cut_utf8 i
     pub bad_fill :
-        Begun text given fill edition → table_check table ≡ Fit → check_from 0 text ≡ utf8.Fine → given ≡ true → (i : ℕ)
-        → check_from 0 fill ≡ utf8.BadAt i → pad_says r ≡ says bad_utf8 i
+        Begun text given fill edition → table_check table ≡ Ok tt → check_from 0 text ≡ Ok tt → given ≡ true → (i : ℕ)
+        → check_from 0 fill ≡ Err (utf8.BadAt i) → pad_says r ≡ says bad_utf8 i
     pub cut_fill :
-        Begun text given fill edition → table_check table ≡ Fit → check_from 0 text ≡ utf8.Fine → given ≡ true → (i : ℕ)
-        → check_from 0 fill ≡ utf8.CutAt i → pad_says r ≡ says cut_utf8 i
+        Begun text given fill edition → table_check table ≡ Ok tt → check_from 0 text ≡ Ok tt → given ≡ true → (i : ℕ)
+        → check_from 0 fill ≡ Err (utf8.CutAt i) → pad_says r ≡ says cut_utf8 i
     -- whether or not the fill is needed
     pub not_one_cluster : Asked → given ≡ true → (clusters_in fill ≡ 1 → ⊥) → pad_says r ≡ says no_such_format 0
     pub no_alignment : Asked → right < alignment → pad_says r ≡ says no_such_format 0

@@ -7,7 +7,7 @@ use Rattle.utf8.specs.Encode.{WellFormed}
 use Rattle.utf8.specs.Meaning.{Arriving, Damaged}
 use Rattle.fitness.specs.Fit.{table_check}
 use Rattle.input.specs.Input.{is_edition}
-use Rattle.fitness.specs.declared.TableCheck.TheVariants.{Fit, BadTable}
+use Rattle.fitness.specs.declared.TableError.TheVariants.{BadTable}
 use Rattle.pool_rows.specs.Rows.{fit_pool}
 use Rattle.pool_rows.specs.declared.Counts.{Counts}
 use Rattle.format_options.specs.declared.FormatError.TheVariants.{ExpectedNumber, TooLarge, UnexpectedToken}
@@ -22,7 +22,7 @@ parse_says r = says (number_of r.answer) (value_of r.answer)
 pub record Parsable (format table : List ℕ) (edition : ℕ) (bytes entries : List ℕ) (counts : Counts) : Type 0 where
   pub short : length format ≤ format_most
   pub known : is_edition edition ≡ true
-  pub fit : table_check table ≡ Fit
+  pub fit : table_check table ≡ Ok tt
   pub well : WellFormed format
   pub pool : fit_pool bytes entries counts ≡ true
 
@@ -30,11 +30,11 @@ pub record Parsable (format table : List ℕ) (edition : ℕ) (bytes entries : L
 pub record ParsePromise (format table : List ℕ) (edition : ℕ) (bytes entries : List ℕ) (counts : Counts) (new_bytes new_entries : List ℕ) (r : After) : Type 0 where
   pub too_long_lem : format_most < length format → parse_says r ≡ says too_long 0
   pub bad_edition_lem : length format ≤ format_most → is_edition edition ≡ false → parse_says r ≡ says bad_edition 0
-  pub bad_table_lem : length format ≤ format_most → is_edition edition ≡ true → (i : ℕ) → table_check table ≡ BadTable i → parse_says r ≡ says bad_table i
-  pub bad_utf8_lem : length format ≤ format_most → is_edition edition ≡ true → table_check table ≡ Fit → (n : ℕ) → Damaged format n → parse_says r ≡ says bad_utf8 n
-  pub cut_utf8_lem : length format ≤ format_most → is_edition edition ≡ true → table_check table ≡ Fit → (n : ℕ) → Arriving format n → parse_says r ≡ says cut_utf8 n
+  pub bad_table_lem : length format ≤ format_most → is_edition edition ≡ true → (i : ℕ) → table_check table ≡ Err (BadTable i) → parse_says r ≡ says bad_table i
+  pub bad_utf8_lem : length format ≤ format_most → is_edition edition ≡ true → table_check table ≡ Ok tt → (n : ℕ) → Damaged format n → parse_says r ≡ says bad_utf8 n
+  pub cut_utf8_lem : length format ≤ format_most → is_edition edition ≡ true → table_check table ≡ Ok tt → (n : ℕ) → Arriving format n → parse_says r ≡ says cut_utf8 n
   pub bad_state_lem :
-      length format ≤ format_most → is_edition edition ≡ true → table_check table ≡ Fit → WellFormed format → fit_pool bytes entries counts ≡ false
+      length format ≤ format_most → is_edition edition ≡ true → table_check table ≡ Ok tt → WellFormed format → fit_pool bytes entries counts ≡ false
       → parse_says r ≡ says bad_state 0
   -- 3 and 15 are given nowhere else
   pub only_bad : number_of r.answer ≡ bad_utf8 → Damaged format (value_of r.answer)

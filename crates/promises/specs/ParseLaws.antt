@@ -9,8 +9,7 @@ use Rattle.base.specs.Refusal.{bad_utf8, cut_utf8, format_most}
 use Rattle.utf8.specs.Meaning.{Arriving, Damaged}
 use Rattle.input.specs.Input.{input_check}
 use Rattle.input.specs.InputLaws.{is_long, is_none, is_table, is_bad, is_cut, is_fine_lem, fine_of, only_bad, only_cut}
-use Rattle.input.specs.declared.Input.{Input}
-use Rattle.input.specs.declared.Input.TheVariants.{Fine, Refused}
+use Rattle.input.specs.declared.Refusal.{Refusal}
 use Rattle.pool_rows.specs.Rows.{fit_pool}
 use Rattle.pool_rows.specs.declared.Counts.{Counts}
 use Rattle.format_options.specs.declared.Options.{Options}
@@ -85,16 +84,16 @@ module _ (format table : List ℕ) (edition : ℕ) (bytes entries : List ℕ) (c
     stays v = let o = one_answer p v in (ap (λ (y : After). y.counts) o.0, o.1, o.2)
 
     -- one of refusals 1, 2, 3, 8 is given, or none
-    by_pool : (b : Bool) → fit_pool bytes entries counts ≡ b → input_check format_most format table edition ≡ Fine
+    by_pool : (b : Bool) → fit_pool bytes entries counts ≡ b → input_check format_most format table edition ≡ Ok tt
         → (Parsable format table edition bytes entries counts → ⊥) → Kept new_bytes new_entries r
     by_pool true f e none =
         let g = fine_of format_most format table edition e in
         absurd (none (record { short = g.short; known = g.known; fit = g.fit; well = g.well; pool = f }))
     by_pool false f e none = stays (parses_unfit e f)
 
-    by_input_lem : (c : Input) → input_check format_most format table edition ≡ c → (Parsable format table edition bytes entries counts → ⊥) → Kept new_bytes new_entries r
-    by_input_lem Fine e none = by_pool (fit_pool bytes entries counts) refl e none
-    by_input_lem (Refused x) e none = stays (parses_refused e)
+    by_input_lem : (c : Result (Unit {0}) Refusal) → input_check format_most format table edition ≡ c → (Parsable format table edition bytes entries counts → ⊥) → Kept new_bytes new_entries r
+    by_input_lem (Ok _) e none = by_pool (fit_pool bytes entries counts) refl e none
+    by_input_lem (Err x) e none = stays (parses_refused e)
 
     -- none of them is given
     module _ (g : Parsable format table edition bytes entries counts) where

@@ -1,7 +1,7 @@
 -- The promise of `Pool`, proved, and that no second answer and no second rows fit.
 --     add_string_promise, add_string_has_one_answer
 -- Assumes nothing.
-use Rattle.std.specs.Prelude.{ℕ, ◌+◌, ◌<◌, ◌≤◌, ◌≡◌, List}
+use Rattle.std.specs.Prelude.{ℕ, ◌+◌, ◌<◌, ◌≤◌, ◌≡◌, List, Result, Ok, Err}
 use Rattle.std.proofs.Common.{arith, sym, ap, subst, ◌∙◌, eq-eqb}
 use Rattle.std.proofs.Math.Path.{refl}
 use Rattle.std.proofs.Math.ListN.{length}
@@ -12,8 +12,8 @@ use Rattle.utf8.specs.Chars.{check_from}
 use Rattle.utf8.specs.CharsLaws.{fine_of_well}
 use Rattle.utf8.specs.Meaning.{Arriving, Damaged}
 use Rattle.utf8.specs.MeaningLaws.{check_is, is_check}
-use Rattle.utf8.specs.declared.Utf8Check.{Utf8Check}
-use Rattle.utf8.specs.declared.Utf8Check.TheVariants as utf8
+use Rattle.utf8.specs.declared.Utf8Error.{Utf8Error}
+use Rattle.utf8.specs.declared.Utf8Error.TheVariants as utf8
 use Rattle.pool_rows.specs.Rows.{strings_of, index_of, byte_room, entry_room, fit_pool}
 use Rattle.pool.specs.Pool.{one_more, placed, added_to_fit, on_utf8, added, is_new}
 use Rattle.pool.specs.Pool.{AddsString, Grown, counts_after, number_of, place_of, added_index}
@@ -30,10 +30,10 @@ module _ (string bytes entries : List ℕ) (counts : Counts) where
   strings = strings_of bytes entries counts.entries
 
   is_bad : (n : ℕ) → Damaged string n → added string bytes entries counts ≡ BadUtf8 n
-  is_bad n w = wrong string bytes entries counts n (is_check string (utf8.BadAt n) w)
+  is_bad n w = wrong string bytes entries counts n (is_check string (Err (utf8.BadAt n)) w)
 
   is_cut : (n : ℕ) → Arriving string n → added string bytes entries counts ≡ CutUtf8 n
-  is_cut n w = cut string bytes entries counts n (is_check string (utf8.CutAt n) w)
+  is_cut n w = cut string bytes entries counts n (is_check string (Err (utf8.CutAt n)) w)
 
   -- 3 and 15 are those of the string
   abbrev Told : Added → Type 0
@@ -51,12 +51,12 @@ module _ (string bytes entries : List ℕ) (counts : Counts) where
   unfolding added
   told = go (check_from 0 string) refl
     where
-      go : (u : Utf8Check) → check_from 0 string ≡ u
+      go : (u : Result (Unit {0}) Utf8Error) → check_from 0 string ≡ u
           → Told (on_utf8 u (pick (fit_pool bytes entries counts) (added_to_fit string bytes entries counts) BadState))
-      go utf8.Fine e =
+      go (Ok _) e =
           by_test Told (fit_pool bytes entries counts) (λ _. told_fit) (λ _. (λ m. absurd (omega arith), λ m. absurd (omega arith)))
-      go (utf8.BadAt n) e = (λ m. check_is string (utf8.BadAt n) e, λ m. absurd (omega arith))
-      go (utf8.CutAt n) e = (λ m. absurd (omega arith), λ m. check_is string (utf8.CutAt n) e)
+      go (Err (utf8.BadAt n)) e = (λ m. check_is string (Err (utf8.BadAt n)) e, λ m. absurd (omega arith))
+      go (Err (utf8.CutAt n)) e = (λ m. absurd (omega arith), λ m. check_is string (Err (utf8.CutAt n)) e)
 
   taken : Taken string bytes entries counts → added string bytes entries counts ≡ added_to_fit string bytes entries counts
   taken t = unrefused string bytes entries counts (fine_of_well 0 string t.well) t.fit

@@ -3,7 +3,7 @@
 --     empty_is_fit        a pool with nothing in use is fit
 --     parse_has_room      with two entries and twice the bytes free, no addition of a parse finds no room
 -- Assumes nothing.
-use Rattle.std.specs.Prelude.{ℕ, ◌+◌, ◌*◌, ◌≤◌, ◌≡◌, refl, Bool, true, false, ltb, drop, set, Option, Some, None}
+use Rattle.std.specs.Prelude.{ℕ, ◌+◌, ◌*◌, ◌≤◌, ◌≡◌, refl, Bool, true, false, ltb, drop, set, Option, Some, None, Result, Ok, Err}
 use native.Mathlib.Omega.{arith}
 use Rattle.std.proofs.Common.{sym, ap, ◌∙◌, length-drop, length-take-le}
 use Rattle.std.proofs.Math.Path.{subst}
@@ -13,8 +13,8 @@ use Rattle.base.specs.Pick.{pick}
 use Rattle.base.specs.PickLaws.{by_test, by_lt}
 use Rattle.utf8.specs.Encode.{WellFormed}
 use Rattle.utf8.specs.Chars.{check_from}
-use Rattle.utf8.specs.declared.Utf8Check.{Utf8Check}
-use Rattle.utf8.specs.declared.Utf8Check.TheVariants as utf8
+use Rattle.utf8.specs.declared.Utf8Error.{Utf8Error}
+use Rattle.utf8.specs.declared.Utf8Error.TheVariants as utf8
 use Rattle.property.specs.Table.{properties_at}
 use Rattle.pool_rows.specs.Rows.{byte_room, entry_room, runs_to, fit_pool}
 use Rattle.pool_rows.specs.FitLaws.{room_within, fit_by_lem}
@@ -56,11 +56,11 @@ module _ (x : List ℕ) (counts : Counts) (forEntries forBytes : ℕ) (h : count
       (λ _. by_lt Few forEntries (counts.entries + 1) (λ l. omega arith)
       (λ _. by_lt Few forBytes (counts.bytes + length x) (λ l. omega arith) (λ _. (omega arith, omega arith))))
 
-  checked_few : (found : ℕ) (c : Utf8Check) (t : Bool) → Few (on_utf8 c (pick t (placed (length x) found counts forEntries forBytes) BadState))
-  checked_few found utf8.Fine true = placed_few found
-  checked_few found utf8.Fine false = tt
-  checked_few found (utf8.BadAt i) t = tt
-  checked_few found (utf8.CutAt i) t = tt
+  checked_few : (found : ℕ) (c : Result (Unit {0}) Utf8Error) (t : Bool) → Few (on_utf8 c (pick t (placed (length x) found counts forEntries forBytes) BadState))
+  checked_few found (Ok _) true = placed_few found
+  checked_few found (Ok _) false = tt
+  checked_few found (Err (utf8.BadAt i)) t = tt
+  checked_few found (Err (utf8.CutAt i)) t = tt
 
 module _ (p : Pool) (x : List ℕ) (n b : ℕ) (f : Free (n + 1) (b + length x) p) where
   one_entry : p.counts.entries + 1 ≤ entry_room p.entries

@@ -2,11 +2,11 @@
 -- as many as have room, with a status, or refusal 4 or 5. What they ensure is `ScansIn`, of a list with whole records and of one with records at half
 -- the size.
 -- Assumes nothing.
-use Rattle.std.specs.Prelude.{ℕ, ◌<◌, ◌≤◌, ◌≡◌, true, false, List, length, take}
+use Rattle.std.specs.Prelude.{ℕ, ◌<◌, ◌≤◌, ◌≡◌, true, false, List, length, take, Ok, Err}
 use Rattle.base.specs.Refusal.{none, too_long, bad_edition, bad_table, bad_utf8, cut_utf8, list_full, modes_full, source_most}
 use Rattle.utf8.specs.Meaning.{Arriving, Damaged}
 use Rattle.fitness.specs.Fit.{table_check}
-use Rattle.fitness.specs.declared.TableCheck.TheVariants.{Fit, BadTable}
+use Rattle.fitness.specs.declared.TableError.TheVariants.{BadTable}
 use Rattle.input.specs.Input as input
 use Rattle.rows.specs.declared.Row.{Row}
 use Rattle.layout.specs.Layout.{room_in}
@@ -68,11 +68,11 @@ pub record ScanPromise (layout : Layout) (source table : List ℕ) (edition : �
   -- 1, 17, 2, 3, 15: no record, and the list stays
   pub too_long_lem : source_most < length source → (scan_says r ≡ refuses too_long 0 0) × (new ≡ old)
   pub bad_edition_lem : length source ≤ source_most → input.is_edition edition ≡ false → (scan_says r ≡ refuses bad_edition 0 0) × (new ≡ old)
-  pub bad_table_lem : length source ≤ source_most → input.is_edition edition ≡ true → (i : ℕ) → table_check table ≡ BadTable i
+  pub bad_table_lem : length source ≤ source_most → input.is_edition edition ≡ true → (i : ℕ) → table_check table ≡ Err (BadTable i)
       → (scan_says r ≡ refuses bad_table i 0) × (new ≡ old)
-  pub bad_utf8_lem : length source ≤ source_most → input.is_edition edition ≡ true → table_check table ≡ Fit → (n : ℕ) → Damaged source n
+  pub bad_utf8_lem : length source ≤ source_most → input.is_edition edition ≡ true → table_check table ≡ Ok tt → (n : ℕ) → Damaged source n
       → (scan_says r ≡ refuses bad_utf8 n 0) × (new ≡ old)
-  pub cut_utf8_lem : length source ≤ source_most → input.is_edition edition ≡ true → table_check table ≡ Fit → (n : ℕ) → Arriving source n
+  pub cut_utf8_lem : length source ≤ source_most → input.is_edition edition ≡ true → table_check table ≡ Ok tt → (n : ℕ) → Arriving source n
       → (scan_says r ≡ refuses cut_utf8 n 0) × (new ≡ old)
   -- all records have room, and the Rust would answer None
   pub ended : Readable source table edition → stop source table edition ≡ reading.ended → length (rows source table edition) ≤ room_in layout old

@@ -1,12 +1,11 @@
 -- "Small tables are enough" (document 02, C-14): two fit tables that give every code point which occurs in some bytes the same properties
 -- answer alike, and leave the same words, in every call over these bytes and a table. An edition may be any number, one that is refused too.
 -- Assumes nothing.
-use Rattle.std.specs.Prelude.{ℕ, ◌<◌, ◌≡◌, Bool, true, List, length, get_or}
+use Rattle.std.specs.Prelude.{ℕ, ◌<◌, ◌≡◌, Bool, true, List, length, get_or, Result, Ok}
 use Rattle.utf8.specs.Chars.{chars}
 use Rattle.property.specs.Table.{properties_at}
 use Rattle.fitness.specs.Fit.{table_check}
-use Rattle.fitness.specs.declared.TableCheck.TheVariants.{Fit}
-use Rattle.cluster.specs.declared.Cluster.{Cluster}
+use Rattle.input.specs.declared.Refusal.{Refusal}
 use Rattle.layout.specs.declared.Layout.{Layout}
 use Rattle.reading.specs.Scan.{ScansIn}
 use Rattle.reading.specs.declared.Scanned.{Scanned}
@@ -31,11 +30,11 @@ SameOn bytes t u =
 
 -- both are fit
 abbrev pub BothFit : List ℕ → List ℕ → Type 0
-BothFit t u = (table_check t ≡ Fit) × (table_check u ≡ Fit)
+BothFit t u = (table_check t ≡ Ok tt) × (table_check u ≡ Ok tt)
 
 -- the bytes as a source, and as a format string
 pub record SmallTablesPromise (bytes t u : List ℕ) (edition : ℕ) : Type 0 where
-  pub same_cluster : (r q : Cluster) → FirstClusterEnsures bytes t edition r → FirstClusterEnsures bytes u edition q → r ≡ q
+  pub same_cluster : (r q : Result ℕ Refusal) → FirstClusterEnsures bytes t edition r → FirstClusterEnsures bytes u edition q → r ≡ q
   pub same_scan :
       (layout : Layout) (old new other : List ℕ) (r q : Scanned) → ScansIn layout bytes t edition old r new → ScansIn layout bytes u edition old q other
       → (r ≡ q) × (new ≡ other)

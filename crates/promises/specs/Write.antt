@@ -2,11 +2,11 @@
 -- promised of `check_table`; `ReadsBack`, `First` and `NoSuch` are the words of document 02 (`wanted/specs/Wanted`), and `ReadByCall` says what reading
 -- back has to do with the public call `parse`.
 -- Assumes nothing.
-use Rattle.std.specs.Prelude.{ℕ, ◌<◌, ◌≤◌, ◌≡◌, Bool, true, false, List, length, take, Option, Result, Ok}
+use Rattle.std.specs.Prelude.{ℕ, ◌<◌, ◌≤◌, ◌≡◌, Bool, true, false, List, length, take, Option, Result, Ok, Err}
 use Rattle.base.specs.Refusal.{none, bad_table, bad_edition, no_such_format, no_room}
 use Rattle.property.specs.Table.{properties_at}
 use Rattle.fitness.specs.Fit.{table_check}
-use Rattle.fitness.specs.declared.TableCheck.TheVariants.{Fit, BadTable}
+use Rattle.fitness.specs.declared.TableError.TheVariants.{BadTable}
 use Rattle.input.specs.Input.{is_edition}
 use Rattle.pool.specs.Pool.{written}
 use Rattle.parse.specs.Call.{Pool, call}
@@ -33,14 +33,14 @@ module _ (alignment width precision representation : ℕ) (given : Bool) (fill t
   -- what it ensures is `Writes`. The cases shut each other out, and leave nothing out
   pub record WritePromise (old new : List ℕ) (r : Result ℕ WriteError) : Type 0 where
     pub bad_edition_lem : is_edition edition ≡ false → write_says r ≡ says bad_edition 0
-    pub bad_table_lem : is_edition edition ≡ true → (i : ℕ) → table_check table ≡ BadTable i → write_says r ≡ says bad_table i
-    pub no_such : is_edition edition ≡ true → table_check table ≡ Fit → NoSuch (properties_at table) edition asked → write_says r ≡ says no_such_format 0
+    pub bad_table_lem : is_edition edition ≡ true → (i : ℕ) → table_check table ≡ Err (BadTable i) → write_says r ≡ says bad_table i
+    pub no_such : is_edition edition ≡ true → table_check table ≡ Ok tt → NoSuch (properties_at table) edition asked → write_says r ≡ says no_such_format 0
     pub no_room_lem :
-        is_edition edition ≡ true → table_check table ≡ Fit → (s : List ℕ) → First (properties_at table) edition asked s → length old < length s
+        is_edition edition ≡ true → table_check table ≡ Ok tt → (s : List ℕ) → First (properties_at table) edition asked s → length old < length s
         → write_says r ≡ says no_room 0
     -- every byte past the format string stays
     pub writes :
-        is_edition edition ≡ true → table_check table ≡ Fit → (s : List ℕ) → First (properties_at table) edition asked s → length s ≤ length old
+        is_edition edition ≡ true → table_check table ≡ Ok tt → (s : List ℕ) → First (properties_at table) edition asked s → length s ≤ length old
         → (write_says r ≡ says none 0) × (len_of r ≡ length s) × (new ≡ written old 0 s)
     -- 18 is given nowhere else
     pub only_none : number_of r ≡ no_such_format → NoSuch (properties_at table) edition asked

@@ -17,14 +17,11 @@ use Rattle.utf8.specs.Encode.{encode_all}
 use Rattle.utf8.specs.Chars.{chars}
 use Rattle.property.specs.Table.{properties_at}
 use Rattle.fitness.specs.Fit.{table_check}
-use Rattle.fitness.specs.declared.TableCheck.TheVariants.{Fit}
 use Rattle.input.specs.Input as input
 use Rattle.input.specs.Input.{is_edition, input_check, on_input}
 use Rattle.input.specs.InputLaws.{is_none, is_table, is_fine_lem, fine_of}
 use Rattle.input.specs.declared.Refusal.{Refusal}
 use Rattle.input.specs.declared.Refusal.TheVariants as refusal
-use Rattle.input.specs.declared.Input.{Input}
-use Rattle.input.specs.declared.Input.TheVariants as check
 use Rattle.pool.specs.Pool.{written}
 use Rattle.pool_rows.specs.Rows.{byte_room, entry_room, fit_pool}
 use Rattle.format.specs.Parse.{OnePass, parse, string_of}
@@ -51,10 +48,10 @@ use Rattle.promises.specs.Write.{write_says, ReadByCall, asked, WritePromise}
 -- ---- what is asked first, with no bytes
 
 module _ (table : List ℕ) (edition : ℕ) where
-  abbrev first_check : Input
+  abbrev first_check : Result (Unit {0}) Refusal
   first_check = input_check 0 [] table edition
 
-  fine_check : is_edition edition ≡ true → table_check table ≡ Fit → first_check ≡ check.Fine
+  fine_check : is_edition edition ≡ true → table_check table ≡ Ok tt → first_check ≡ Ok tt
   unfolding encode_all
   fine_check k f = is_fine_lem 0 [] table edition (record { short = omega arith; known = k; fit = f; well = record { points = []; scalars = tt; same = refl } })
 
@@ -83,14 +80,14 @@ module _ (table : List ℕ) (edition : ℕ) (p : Pool) (s : List ℕ) where
 
   module _ (fit : fit_pool p.bytes p.entries p.counts ≡ true) (room : (parsed s table edition p).pool.full ≡ false) where
     -- where no check refuses
-    called : input_check format_most s table edition ≡ check.Fine
+    called : input_check format_most s table edition ≡ Ok tt
         → (call s table edition p).answer ≡ on_outcome (parse look edition (chars s)).outcome (parse look edition (chars s)).options (parsed s table edition p).pool.index
     unfolding call
     called e =
         rw (e, fit, room)
         (λ i. on_outcome (same_parse.1 i) (same_parse.0 i) (parsed s table edition p).pool.index)
 
-    pub read_by_call : is_edition edition ≡ true → table_check table ≡ Fit → (a : Asked) → ReadsBack look edition a s → ReadByCall table edition p a s
+    pub read_by_call : is_edition edition ≡ true → table_check table ≡ Ok tt → (a : Asked) → ReadsBack look edition a s → ReadByCall table edition p a s
     read_by_call k f a v =
         let e = is_fine_lem format_most s table edition (record { short = v.small; known = k; fit = f; well = v.well }) in
         record {
@@ -109,18 +106,18 @@ module _ (table : List ℕ) (edition : ℕ) (p : Pool) (s : List ℕ) where
       go (input_check format_most s table edition) refl (fit_pool p.bytes p.entries p.counts) refl (parsed s table edition p).pool.full refl
       (parsed s table edition p).outcome refl
     where
-      go : (c : Input) → input_check format_most s table edition ≡ c → (t : Bool) → fit_pool p.bytes p.entries p.counts ≡ t
+      go : (c : Result (Unit {0}) Refusal) → input_check format_most s table edition ≡ c → (t : Bool) → fit_pool p.bytes p.entries p.counts ≡ t
           → (u : Bool) → (parsed s table edition p).pool.full ≡ u → (x : Result Unit FormatError) → (parsed s table edition p).outcome ≡ x → ReadsBack look edition a s
-      go (check.Refused y) e t f u g x h =
+      go (Err y) e t f u g x h =
           let w : Err (wrong.Refused y) ≡ read v.options v.index = rw e at v.answer in
           absurd (let z : ◌≡◌ {A = ℕ} 0 1 = cc in omega arith)
-      go check.Fine e false f u g x h =
+      go (Ok _) e false f u g x h =
           let w : Err wrong.BadState ≡ read v.options v.index = rw (e, f) at v.answer in
           absurd (let z : ◌≡◌ {A = ℕ} 0 1 = cc in omega arith)
-      go check.Fine e true f true g x h =
+      go (Ok _) e true f true g x h =
           let w : Err wrong.PoolFull ≡ read v.options v.index = rw (e, f, g) at v.answer in
           absurd (let z : ◌≡◌ {A = ℕ} 0 1 = cc in omega arith)
-      go check.Fine e true f false g (Ok u) h =
+      go (Ok _) e true f false g (Ok u) h =
           let w : read (parsed s table edition p).options (parsed s table edition p).pool.index ≡ read v.options v.index = rw (e, f, g, h) at v.answer in
           let q : (parsed s table edition p).options ≡ v.options = ap (options_in v.options) w in
           let b = fine_of format_most s table edition e in
@@ -130,18 +127,18 @@ module _ (table : List ℕ) (edition : ℕ) (p : Pool) (s : List ℕ) where
             fine = sym same_parse.1 ∙ h;
             same = ap (asked_of s) (sym same_parse.0 ∙ q) ∙ v.same;
           }
-      go check.Fine e true f false g (Err (ExpectedNumber c)) h =
+      go (Ok _) e true f false g (Err (ExpectedNumber c)) h =
           let w : Err (wrong.ExpectedNumber c) ≡ read v.options v.index = rw (e, f, g, h) at v.answer in
           absurd (let z : ◌≡◌ {A = ℕ} 0 1 = cc in omega arith)
-      go check.Fine e true f false g (Err (TooLarge n)) h =
+      go (Ok _) e true f false g (Err (TooLarge n)) h =
           let w : Err (wrong.FormatNumberIsTooLarge n) ≡ read v.options v.index = rw (e, f, g, h) at v.answer in
           absurd (let z : ◌≡◌ {A = ℕ} 0 1 = cc in omega arith)
-      go check.Fine e true f false g (Err (UnexpectedToken c)) h =
+      go (Ok _) e true f false g (Err (UnexpectedToken c)) h =
           let w : Err (wrong.UnexpectedToken c) ≡ read v.options v.index = rw (e, f, g, h) at v.answer in
           absurd (let z : ◌≡◌ {A = ℕ} 0 1 = cc in omega arith)
 
 -- with an empty pool that has room: two entries, and twice as many bytes as the string has
-pub read_with_empty_pool : (table : List ℕ) (edition : ℕ) (bytes entries s : List ℕ) (a : Asked) → is_edition edition ≡ true → table_check table ≡ Fit
+pub read_with_empty_pool : (table : List ℕ) (edition : ℕ) (bytes entries s : List ℕ) (a : Asked) → is_edition edition ≡ true → table_check table ≡ Ok tt
     → 2 ≤ entry_room entries → 2 * length s ≤ byte_room bytes → ReadsBack (properties_at table) edition a s
     → ReadByCall table edition (lent bytes entries nothing_used) a s
 read_with_empty_pool table edition bytes entries s a k f n b v =
@@ -180,7 +177,7 @@ module _ (alignment width precision representation : ℕ) (given : Bool) (fill t
       go false e = absurd (no_such lookup edition a e s v.reads_back)
 
   module _ (old new : List ℕ) (r : Result ℕ WriteError) (p : Writes alignment width precision representation given fill table edition old new r) where
-    answered : {c : Input} → first_check table edition ≡ c → {t : Bool} → can_write lookup edition a ≡ t → r ≡ on_input (λ (y : Refusal). Err (Refused y)) c (answer_if t (length old) format)
+    answered : {c : Result (Unit {0}) Refusal} → first_check table edition ≡ c → {t : Bool} → can_write lookup edition a ≡ t → r ≡ on_input (λ (y : Refusal). Err (Refused y)) c (answer_if t (length old) format)
     answered e f = p.answer ∙ (λ i. on_input (λ (y : Refusal). Err (Refused y)) (e i) (answer_if (f i) (length old) format))
 
     left : {x : Result ℕ WriteError} → r ≡ x → new ≡ buffer_after x format old
@@ -214,12 +211,12 @@ module _ (alignment width precision representation : ℕ) (given : Bool) (fill t
     only_first : number_of r ≡ none → First lookup edition a (take (len_of r) new)
     only_first n = go (first_check table edition) refl (can_write lookup edition a) refl
       where
-        go : (c : Input) → first_check table edition ≡ c → (t : Bool) → can_write lookup edition a ≡ t → First lookup edition a (take (len_of r) new)
-        go (check.Refused x) e t f = absurd ((not_first x).0 (sym (ap number_of (answered e f)) ∙ n))
-        go check.Fine e false f =
+        go : (c : Result (Unit {0}) Refusal) → first_check table edition ≡ c → (t : Bool) → can_write lookup edition a ≡ t → First lookup edition a (take (len_of r) new)
+        go (Err x) e t f = absurd ((not_first x).0 (sym (ap number_of (answered e f)) ∙ n))
+        go (Ok _) e false f =
             let m : no_such_format ≡ none = sym (ap number_of (answered e f)) ∙ n in
             absurd (omega arith)
-        go check.Fine e true f =
+        go (Ok _) e true f =
             let b = in_room_lem (ltb (length old) (length format)) refl (sym (ap number_of (answered e f)) ∙ n) in
             let w = full_room format refl (ltb-false (length old) (length format) b) (answered e f) in
             let q : take (len_of r) new ≡ format =
@@ -233,10 +230,10 @@ module _ (alignment width precision representation : ℕ) (given : Bool) (fill t
         room true m = omega arith
         room false m = omega arith
 
-        go : (c : Input) → first_check table edition ≡ c → (t : Bool) → can_write lookup edition a ≡ t → NoSuch lookup edition a
-        go (check.Refused x) e t f = absurd ((not_first x).1 (sym (ap number_of (answered e f)) ∙ n))
-        go check.Fine e true f = absurd (room (ltb (length old) (length format)) (sym (ap number_of (answered e f)) ∙ n))
-        go check.Fine e false f = no_such lookup edition a f
+        go : (c : Result (Unit {0}) Refusal) → first_check table edition ≡ c → (t : Bool) → can_write lookup edition a ≡ t → NoSuch lookup edition a
+        go (Err x) e t f = absurd ((not_first x).1 (sym (ap number_of (answered e f)) ∙ n))
+        go (Ok _) e true f = absurd (room (ltb (length old) (length format)) (sym (ap number_of (answered e f)) ∙ n))
+        go (Ok _) e false f = no_such lookup edition a f
 
     pub write_promise : WritePromise alignment width precision representation given fill table edition old new r
     write_promise =

@@ -3,7 +3,6 @@
 // Then a file with one wrong line, so that a difference is seen to be reported.
 #![tactic(auto)]
 
-use cluster::Cluster;
 use lines::Fields;
 use std::io;
 
@@ -12,8 +11,8 @@ fn agrees(line: &[u8], table: &[u32], edition: u32) -> bool {
     let mut fields = Fields::of(line);
     let mut buffer = lines::buffer();
     match cluster::first_cluster(fields.hex(&mut buffer), table, edition) {
-        Cluster::Length(length) => fields.same(length),
-        Cluster::Refused(_) => false,
+        Ok(length) => fields.same(length),
+        Err(_) => false,
     }
 }
 

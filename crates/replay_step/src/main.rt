@@ -12,7 +12,6 @@ use lexer::What;
 use lines::Fields;
 use state::{Lexer, State};
 use std::io;
-use utf8::Utf8Check;
 
 // Whether the next fields are the ten numbers of a record, of a token that was found at this depth.
 fn same_record(fields: &mut Fields, token: token::Token, depth: usize, lexer: Lexer) -> bool {
@@ -82,8 +81,8 @@ fn source_agrees(fields: Fields, source: &[u8], table: &[u32]) -> bool
         return false;
     }
     match utf8::check_utf8(source) {
-        Utf8Check::Fine => steps_agree(fields, source, table),
-        _ => false,
+        Ok(()) => steps_agree(fields, source, table),
+        Err(_) => false,
     }
 }
 

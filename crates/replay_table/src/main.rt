@@ -7,7 +7,7 @@ ghost use Rattle.std.specs.Prelude.{◌≡◌, length};
 
 use lines::Fields;
 use std::io;
-use table_file::{TableFile, answer};
+use table_file::{TableFileError, answer};
 
 // The row that each file is read into; no line has more room.
 const ROOM: usize = 8192;
@@ -64,12 +64,12 @@ fn row_of(file: &[u8], count: usize) -> [u32; ROOM]
 }
 
 // Reads the file into as much of the row as the line has room for.
-fn read_into(case: Case, file: &[u8], row: &mut [u32]) -> TableFile {
+fn read_into(case: Case, file: &[u8], row: &mut [u32]) -> Result<usize, TableFileError> {
     let room = lines::within(case.room, row);
     table_file::read_table(file, &mut row[..room])
 }
 
-fn file_agrees(case: Case, said: TableFile) -> bool {
+fn file_agrees(case: Case, said: Result<usize, TableFileError>) -> bool {
     case.number == answer::number_of(said) as usize
         && case.place == answer::place_of(said)
         && case.count == answer::count_of(said)
@@ -93,10 +93,10 @@ fn numbers_agree(case: Case, file: &[u8]) -> bool {
 }
 
 // The table by itself: a file that is refused before its table is looked at is not asked for one.
-fn table_agrees(case: Case, said: TableFile, file: &[u8]) -> bool {
+fn table_agrees(case: Case, said: Result<usize, TableFileError>, file: &[u8]) -> bool {
     match said {
-        TableFile::BadFile(_) => true,
-        TableFile::ListFull => true,
+        Err(TableFileError::BadFile(_)) => true,
+        Err(TableFileError::ListFull) => true,
         _ => numbers_agree(case, file),
     }
 }

@@ -4,14 +4,14 @@
 
 use lines::Fields;
 use std::io;
-use utf8::{Utf8Check, answer};
+use utf8::{Utf8Error, answer};
 
 // What the check says, as a line has it: 0 fine, 1 bad, 2 cut.
-fn said_by(check: Utf8Check) -> usize {
+fn said_by(check: Result<(), Utf8Error>) -> usize {
     match check {
-        Utf8Check::Fine => 0,
-        Utf8Check::BadAt(_) => 1,
-        Utf8Check::CutAt(_) => 2,
+        Ok(()) => 0,
+        Err(Utf8Error::BadAt(_)) => 1,
+        Err(Utf8Error::CutAt(_)) => 2,
     }
 }
 

@@ -5,7 +5,8 @@
 --     is_refused, is_readable                               the whole
 --     one_answer                                            no second answer and no second list
 -- Assumes nothing.
-use Rattle.std.specs.Prelude.{ℕ, zero, suc, ◌+◌, ◌-◌, ◌≤◌, ◌<◌, ◌≡◌, refl, true, false, List, length, take, drop}
+use Rattle.std.specs.Prelude.{ℕ, zero, suc, ◌+◌, ◌-◌, ◌≤◌, ◌<◌, ◌≡◌, refl, true, false, List, length, take, drop, Err}
+use Rattle.std.specs.declared.result.Result.TheVariants as result
 use Rattle.std.proofs.Common.{arith, sym, ap, subst, ◌∙◌, length-take-le, lt-ltb, le-ltb}
 use Rattle.base.specs.PickLaws.{by_lt}
 use Rattle.base.specs.Refusal.{source_most}
@@ -13,7 +14,6 @@ use Rattle.utf8.specs.Encode.{WellFormed}
 use Rattle.property.specs.Table.{properties_at}
 use Rattle.input.specs.Input.{input_check}
 use Rattle.input.specs.declared.Refusal.{Refusal}
-use Rattle.input.specs.declared.Input.TheVariants as input
 use Rattle.rows.specs.Row.{room, row_at, first_at, copy_rows, put_rows_at}
 use Rattle.rows.specs.RowLaws.{copy_room, puts_none}
 use Rattle.rows.specs.declared.Row.{Row}
@@ -143,10 +143,10 @@ module _ {s from : List ℕ} {count : ℕ} {e : Edit} {t table : List ℕ} {edit
             (take (x - kept s from count e t table edition) (rest s from count e t table edition).rows)) same);
       }
 
-  pub is_refused : {x : Refusal} → input_check source_most t table edition ≡ input.Refused x → Rescans s from count e t table edition list (AsScan (Refused x)) list
+  pub is_refused : {x : Refusal} → input_check source_most t table edition ≡ Err x → Rescans s from count e t table edition list (AsScan (Refused x)) list
   is_refused c = record { answer = rw c; words = rw c }
 
-  pub is_readable : {r : Rescanned} {new : List ℕ} → input_check source_most t table edition ≡ input.Fine
+  pub is_readable : {r : Rescanned} {new : List ℕ} → input_check source_most t table edition ≡ result.Ok tt
       → RescansReadable s from count e t table edition list r new → Rescans s from count e t table edition list r new
   is_readable c p = record { answer = rw c p.answer; words = rw c p.words }
 

@@ -20,7 +20,7 @@ ghost use Rattle.keep.specs.Keep.{row_before};
 ghost use Rattle.rescan.specs.Rescan.{ReadsBehind, Rescans, RescansReadable};
 
 use edit::{Edit, edit_fits, line_start};
-use input::{Input, SOURCE_MOST};
+use input::SOURCE_MOST;
 use keep::{kept_rows, row_before};
 use layout::Layout;
 use position::{ByteOffset, Column, Place, Position, Span};
@@ -148,8 +148,8 @@ pub fn rescan(
         list.old result list.new }
 {
     match input::check_input(source, table, edition, SOURCE_MOST) {
-        Input::Refused(refusal) => Rescanned::AsScan(Scanned::Refused(refusal)),
-        Input::Fine => rescan_readable(
+        Err(refusal) => Rescanned::AsScan(Scanned::Refused(refusal)),
+        Ok(()) => rescan_readable(
             old, old_list, old_count, edit, source, table, edition, list,
         ),
     }

@@ -2,7 +2,7 @@
 -- Assumes nothing.
 use Prim.Native.Nat.{ℕ, zero, suc, ◌+◌, ◌-◌, ◌≤◌, ◌<◌}
 use native.Mathlib.Omega.{arith}
-use Rattle.std.specs.Prelude.{◌≡◌, List, ◌++◌, get_or, take, drop}
+use Rattle.std.specs.Prelude.{◌≡◌, List, ◌++◌, get_or, take, drop, Result, Ok, Err}
 use Rattle.std.proofs.Math.Path.{refl, ap}
 use Rattle.std.proofs.Common.{sym, subst, ◌∙◌, length-take-le, take-take, get_or-take}
 use Rattle.std.proofs.Math.ListN.{length}
@@ -12,8 +12,7 @@ use Rattle.base.specs.Refusal.{source_most}
 use Rattle.property.specs.Table.{properties_at}
 use Rattle.input.specs.Input.{input_check, Readable}
 use Rattle.input.specs.InputLaws.{fine_of, is_fine_lem}
-use Rattle.input.specs.declared.Input.{Input}
-use Rattle.input.specs.declared.Input.TheVariants as input
+use Rattle.input.specs.declared.Refusal.{Refusal}
 use Rattle.token.specs.Kind.{new_line}
 use Rattle.rows.specs.First.{kind_in, depth_in}
 use Rattle.rows.specs.Row.{room, row_at, first_at, copy_rows, put_rows_at, rows_of}
@@ -228,14 +227,14 @@ module _ (s table : List ℕ) (edition : ℕ) (old from : List ℕ) (r : Scanned
   fresh : (list : List ℕ) (x : Rescanned) (new : List ℕ) → Rescans s from count e t table edition list x new → Fresh t table edition list x new
   fresh list x new q = go (input_check source_most t table edition) refl
     where
-      go : (c : Input) → input_check source_most t table edition ≡ c → Fresh t table edition list x new
-      go (input.Refused y) c =
+      go : (c : Result (Unit {0}) Refusal) → input_check source_most t table edition ≡ c → Fresh t table edition list x new
+      go (Err y) c =
           record {
             answer = Refused y;
             told = q.answer ∙ rw c;
             scans = subst (Scans t table edition list (Refused y)) (sym (q.words ∙ rw c)) (scans_refused c);
           }
-      go input.Fine c =
+      go (Ok _) c =
           let k = kept s from count e t table edition in
           let f = fits_of s e t edits in
           let n = le-ltb (room from) count counted in

@@ -7,7 +7,7 @@ use Prim.Native.Nat.{ℕ, zero, suc, ◌+◌, ◌-◌, ◌/◌, ◌%◌, ◌<◌
 use native.Mathlib.Omega.{arith}
 use Rattle.std.proofs.Math.Path.{◌≡◌, refl, ap}
 use Rattle.std.proofs.Common.{sym, subst, ◌∙◌, length-append, eqb-true, leb-true, ne_eqb, Option, Some, None, Ok}
-use Rattle.std.specs.Prelude.{Bool, not, ◌&&◌, ◌||◌, eqb, ltb, leb, take, drop}
+use Rattle.std.specs.Prelude.{Bool, not, ◌&&◌, ◌||◌, eqb, ltb, leb, take, drop, Result, Ok, Err}
 use Rattle.std.proofs.Math.Bool.{true, false}
 use mathlib.Core.List.{List, [], ◌∷◌, ◌++◌, append_assoc, append-nil}
 use Rattle.std.proofs.Math.ListN.{length}
@@ -21,8 +21,7 @@ use Rattle.utf8.specs.Encode.{Scalar, Scalars, encode, encode_all}
 use Rattle.utf8.specs.EncodeLaws.{encode1, all_append}
 use Rattle.utf8.specs.Chars.{chars, check_from}
 use Rattle.utf8.specs.CharsLaws.{well_of_fine, chars_well}
-use Rattle.utf8.specs.declared.Utf8Check.{Utf8Check}
-use Rattle.utf8.specs.declared.Utf8Check.TheVariants as utf8
+use Rattle.utf8.specs.declared.Utf8Error.{Utf8Error}
 use Rattle.uax29.specs.Uax29.{joined}
 use Rattle.cluster.specs.First.{go_on, first_size, first_end}
 use Rattle.format_options.specs.Options.{alignment_number, no_options, with_fill}
@@ -409,14 +408,11 @@ module _ (look : ℕ → ℕ) (edition : ℕ) where
       Q : List ℕ → List ℕ → Type 0
       Q fs l = chars_fit look edition (asked_for a w g x (Bytes l)) fs ≡ true → Back a w g x (Bytes l)
 
-      go : (k : Utf8Check) → check_from 0 f ≡ k → Back a w g x (Bytes f)
-      go utf8.Fine p =
+      go : (k : Result (Unit {0}) Utf8Error) → check_from 0 f ≡ k → Back a w g x (Bytes f)
+      go (Ok _) p =
           let v = chars_well f (well_of_fine 0 f p) in
           subst (Q (chars f)) (sym v.0) (fill_reads a w g x sw sg (chars f) v.1) (rw p at e)
-      go (utf8.BadAt i) p =
-          let y : false ≡ true = rw p at e in
-          absurd (let z : ◌≡◌ {A = ℕ} 0 1 = cc in omega arith)
-      go (utf8.CutAt i) p =
+      go (Err _) p =
           let y : false ≡ true = rw p at e in
           absurd (let z : ◌≡◌ {A = ℕ} 0 1 = cc in omega arith)
 

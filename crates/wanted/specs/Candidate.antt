@@ -2,12 +2,11 @@
 -- representation, each where there is one. If any string is read back as the options, this one is, and it is the first of them
 -- (`WriteLaws`). `writable` is whether it is.
 -- Assumes nothing.
-use Rattle.std.specs.Prelude.{ℕ, Bool, true, false, not, ◌&&◌, ◌||◌, List, [], ◌∷◌, ◌++◌, eqb, leb, length, Option, Some, None, is_some}
+use Rattle.std.specs.Prelude.{ℕ, Bool, true, false, not, ◌&&◌, ◌||◌, List, [], ◌∷◌, ◌++◌, eqb, leb, length, Option, Some, None, is_some, Result, Ok, Err}
 use Rattle.base.specs.Pick.{pick}
 use Rattle.base.specs.Refusal.{format_most}
 use Rattle.utf8.specs.Chars.{chars, check_from}
-use Rattle.utf8.specs.declared.Utf8Check.{Utf8Check}
-use Rattle.utf8.specs.declared.Utf8Check.TheVariants as utf8
+use Rattle.utf8.specs.declared.Utf8Error.{Utf8Error}
 use Rattle.cluster.specs.First.{first_size}
 use Rattle.format_options.specs.Letters.{less, caret, greater, zero_digit, is_sign, is_digit, representation_of}
 use Rattle.format_arms.specs.Arms.{dot}
@@ -102,10 +101,9 @@ abbrev pub is_taken : ℕ → Bool
 is_taken c = is_sign c || (is_digit c || is_shown (representation_of c))
 
 -- b, where the bytes are well formed
-abbrev pub on_fine : Utf8Check → Bool → Bool
-on_fine utf8.Fine b = b
-on_fine (utf8.BadAt i) b = false
-on_fine (utf8.CutAt i) b = false
+abbrev pub on_fine : Result (Unit {0}) Utf8Error → Bool → Bool
+on_fine (Ok _) b = b
+on_fine (Err _) b = false
 
 -- a fill of one character: before a sign, any; "0" before a width; alone, one that the arm of a cluster gets
 abbrev pub one_fits : Wanted → ℕ → Bool

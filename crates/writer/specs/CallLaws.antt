@@ -14,8 +14,6 @@ use Rattle.base.specs.Refusal.{none, format_most}
 use Rattle.property.specs.Table.{properties_at}
 use Rattle.input.specs.Input.{input_check}
 use Rattle.input.specs.declared.Refusal.{Refusal}
-use Rattle.input.specs.declared.Input.{Input}
-use Rattle.input.specs.declared.Input.TheVariants as input
 use Rattle.pool.specs.Pool.{written}
 use Rattle.pool.specs.WrittenLaws.{length_written, write_behind}
 use Rattle.asked.specs.Fields.{are_fields, fields_of}
@@ -95,7 +93,7 @@ module _ (look : ℕ → ℕ) (edition : ℕ) (fields : Fields) where
 -- ---- the call
 
 module _ (alignment width precision representation : ℕ) (given : Bool) (fill table : List ℕ) (edition : ℕ) (old : List ℕ) where
-  abbrev checked : Input
+  abbrev checked : Result (Unit {0}) Refusal
   checked = input_check 0 [] table edition
 
   abbrev answer : Result ℕ WriteError
@@ -104,11 +102,11 @@ module _ (alignment width precision representation : ℕ) (given : Bool) (fill t
   abbrev format : List ℕ
   format = format_for alignment width precision representation given fill table edition
 
-  pub refused : (x : Refusal) → checked ≡ input.Refused x
+  pub refused : (x : Refusal) → checked ≡ Err x
       → Writes alignment width precision representation given fill table edition old old (Err (Refused x))
   refused x e = record { answer = rw e refl; contents = rw e refl }
 
-  module _ (e : checked ≡ input.Fine) where
+  module _ (e : checked ≡ Ok tt) where
     pub no_options_lem : are_fields alignment width precision representation ≡ false
         → Writes alignment width precision representation given fill table edition old old (Err NoSuchFormat)
     unfolding can_write

@@ -17,7 +17,7 @@ ghost use Rattle.writer.specs.Call.{WritesIf, Writes};
 use asked::{Fields, are_fields, fields_of};
 use fill_fits::fill_fits;
 use format_parts::{parts_len, put_parts};
-use input::{FORMAT_MOST, Input, Refusal, check_input};
+use input::{FORMAT_MOST, Refusal, check_input};
 use pool::copy_in;
 
 // What `write_format` refuses, under document 02's names.
@@ -83,8 +83,8 @@ pub fn write_format(
         buffer.old buffer.new result }
 {
     match check_input(b"", table, edition, 0) {
-        Input::Refused(refusal) => Err(WriteError::Refused(refusal)),
-        Input::Fine => {
+        Err(refusal) => Err(WriteError::Refused(refusal)),
+        Ok(()) => {
             if !are_fields(alignment, width, precision, representation) {
                 return Err(WriteError::NoSuchFormat);
             }

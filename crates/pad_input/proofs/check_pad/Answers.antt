@@ -12,15 +12,15 @@ returns-then-is_long c = sym (search checks depth 14)
 
 pub check_fill-requires : goal.check_fill-requires
 check_fill-requires c =
-    fit_of _ (fine_of _ _ _ _ (sym c.check_input.ensures ∙ c.in-Fine.is)).fit
+    fit_of _ (fine_of _ _ _ _ (sym c.check_input.ensures ∙ c.in-Ok.is)).fit
 
 pub returns-then-filled : goal.returns-then-filled
 unfolding pad_check
 returns-then-filled c = sym (search hands depth 14)
 
-pub returns-in-Refused : goal.returns-in-Refused
+pub returns-in-Err : goal.returns-in-Err
 unfolding pad_check
-returns-in-Refused c = sym (search checks depth 14)
+returns-in-Err c = sym (search checks depth 14)
 
 pub returns-else-filled : goal.returns-else-filled
 unfolding pad_check

@@ -7,17 +7,17 @@ use Rattle.parse.proofs.read.Goals as goal
 
 pub read_format-requires : goal.read_format-requires
 read_format-requires c =
-    let g = fine_of _ _ _ _ (sym c.check_input.ensures ∙ c.in-Fine.is) in
+    let g = fine_of _ _ _ _ (sym c.check_input.ensures ∙ c.in-Ok.is) in
     (g.well, g.short, (fit_of _ g.fit).rises)
 
 pub returns-then-fit : goal.returns-then-fit
 returns-then-fit c =
-    sym (is_read _ _ _ _ (sym c.check_input.ensures ∙ c.in-Fine.is) c.if-fit.true c.read_format.ensures)
+    sym (is_read _ _ _ _ (sym c.check_input.ensures ∙ c.in-Ok.is) c.if-fit.true c.read_format.ensures)
 
-pub returns-in-Refused : goal.returns-in-Refused
-returns-in-Refused c =
-    sym (is_refused _ _ _ _ (sym c.check_input.ensures ∙ c.in-Refused.is))
+pub returns-in-Err : goal.returns-in-Err
+returns-in-Err c =
+    sym (is_refused _ _ _ _ (sym c.check_input.ensures ∙ c.in-Err.is))
 
 pub returns-else-fit : goal.returns-else-fit
 returns-else-fit c =
-    sym (is_unfit _ _ _ _ (sym c.check_input.ensures ∙ c.in-Fine.is) c.if-fit.false)
+    sym (is_unfit _ _ _ _ (sym c.check_input.ensures ∙ c.in-Ok.is) c.if-fit.false)

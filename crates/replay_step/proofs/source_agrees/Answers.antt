@@ -7,4 +7,4 @@ use Rattle.replay_step.proofs.source_agrees.Goals as goal
 
 pub steps_agree-requires : goal.steps_agree-requires
 steps_agree-requires c =
-    (c.requires, start_ok_lem _ c.if-source-gt1048576.false (well_of_fine 0 _ (sym c.check_utf8.ensures ∙ c.in-Fine.is)))
+    (c.requires, start_ok_lem _ c.if-source-gt1048576.false (well_of_fine 0 _ (sym c.check_utf8.ensures ∙ c.in-Ok.is)))

@@ -6,11 +6,11 @@ use Rattle.rescan.proofs.rescan.Goals as goal
 
 pub rescan_readable-requires : goal.rescan_readable-requires
 rescan_readable-requires c =
-    fine_of _ _ _ _ (sym c.check_input.ensures ∙ c.in-Fine.is)
+    fine_of _ _ _ _ (sym c.check_input.ensures ∙ c.in-Ok.is)
 
-pub returns-in-Refused : goal.returns-in-Refused
-returns-in-Refused c = is_refused (sym c.check_input.ensures ∙ c.in-Refused.is)
+pub returns-in-Err : goal.returns-in-Err
+returns-in-Err c = is_refused (sym c.check_input.ensures ∙ c.in-Err.is)
 
-pub returns-in-Fine : goal.returns-in-Fine
-returns-in-Fine c =
-    is_readable (sym c.check_input.ensures ∙ c.in-Fine.is) c.rescan_readable.ensures
+pub returns-in-Ok : goal.returns-in-Ok
+returns-in-Ok c =
+    is_readable (sym c.check_input.ensures ∙ c.in-Ok.is) c.rescan_readable.ensures

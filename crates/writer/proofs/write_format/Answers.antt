@@ -1,4 +1,5 @@
 -- `writer::write_format` meets its contract: by what was asked first, then by the numbers and the fill. Assumes nothing.
+use Rattle.std.specs.Prelude.{Ok}
 use mathlib.Core.Path.{◌≡◌, sym, ap, ◌∙◌}
 use mathlib.Core.Bool.{Bool, true}
 use mathlib.Core.List.{[]}
@@ -7,15 +8,14 @@ use Rattle.property.specs.Table.{properties_at}
 use Rattle.fitness.specs.FitLaws.{fit_of}
 use Rattle.input.specs.Input.{input_check}
 use Rattle.input.specs.InputLaws.{fine_of}
-use Rattle.input.specs.declared.Input.TheVariants.{Fine}
 use Rattle.asked.specs.Fields.{are_fields}
 use Rattle.wanted.specs.Wanted.{Bytes, Unfilled}
 use Rattle.writer.specs.CallLaws.{refused, no_options_lem, told, same_test, no_fill}
 use Rattle.writer.proofs.write_format.Goals as goal
 use Rattle.writer.proofs.write_format.Goals.{After-are_fields}
 
-checked : (a : After-are_fields) → input_check 0 [] a.args.table.now a.args.edition ≡ Fine
-checked a = sym a.check_input.ensures ∙ a.in-Fine.is
+checked : (a : After-are_fields) → input_check 0 [] a.args.table.now a.args.edition ≡ Ok tt
+checked a = sym a.check_input.ensures ∙ a.in-Ok.is
 
 some : (a : After-are_fields) → a.are_fields.result ≡ true
     → are_fields a.args.alignment a.args.width a.args.precision a.args.representation ≡ true
@@ -41,11 +41,11 @@ returns-then-filled c =
     (checked (goal.at.returns-then-filled c).After-are_fields) (some (goal.at.returns-then-filled c).After-are_fields c.if-not-are_fields.false) c.fields_of-fields.result c.fields_of-fields.ensures (Bytes b.fill.now)
     (ap (λ (x : Bool). pick x (Bytes b.fill.now) Unfilled) (sym c.if-filled.true)) c.write_filled.ensures
 
-pub returns-in-Refused : goal.returns-in-Refused
-returns-in-Refused c =
+pub returns-in-Err : goal.returns-in-Err
+returns-in-Err c =
     let b = c.args in
     refused b.alignment b.width b.precision b.representation b.filled b.fill.now b.table.now b.edition b.buffer.now _
-    (sym c.check_input.ensures ∙ c.in-Refused.is)
+    (sym c.check_input.ensures ∙ c.in-Err.is)
 
 pub returns-else-filled : goal.returns-else-filled
 returns-else-filled c =
