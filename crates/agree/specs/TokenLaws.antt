@@ -4,7 +4,7 @@
 --     comment_agrees, literal_agrees, raw_agrees, options_agrees, id_or_keyword_agrees, ignored_agrees     what a `consume_*` takes
 --     first_agrees                  the first cluster
 -- Assumes nothing.
-use Rattle.std.specs.Prelude.{ℕ, zero, suc, ◌+◌, ◌-◌, ◌≡◌, ◌&&◌, ◌||◌, eqb, get_or, take, drop}
+use Rattle.std.specs.Prelude.{ℕ, zero, suc, ◌+◌, ◌-◌, ◌≡◌, ◌&&◌, ◌||◌, eqb, get_or, take, drop, Bool}
 use Rattle.std.proofs.Math.Path.{refl}
 use Rattle.std.proofs.Math.Bool.{true, false}
 use mathlib.Core.List.{List, [], ◌∷◌}

@@ -7,7 +7,8 @@
 -- Assumes nothing.
 use Prim.Native.Nat.{ℕ, zero, suc, ◌+◌, ◌≤◌, ◌<◌}
 use Rattle.std.proofs.Common.{arith, sym, ◌∙◌, inl, inr}
-use Rattle.std.specs.Prelude.{◌≡◌, Bool, true, false, ◌⊎◌, List, [], ◌∷◌, eqb, drop, Option, Some, None}
+use Rattle.std.specs.Prelude.{◌≡◌, Bool, true, false, ◌⊎◌, List, [], ◌∷◌, eqb, drop}
+use Rattle.std.specs.Prelude as prelude
 use Rattle.std.proofs.Math.Path.{refl, ap}
 use Rattle.std.proofs.Math.ListN.{take}
 use Rattle.base.specs.Pick.{pick}
@@ -105,9 +106,9 @@ module _ (l : Lexer) where
   unfolding consume_raw_string_contents
   contents_again look delimiter cs = raw_token_lem delimiter (follow (raw_turn look delimiter) (reach_of l) cs)
 
-  options_token_lem : (b : Option ℕ) → Again l (options_token l b) (options_token m b)
-  options_token_lem (Some end) = Other (λ e. omega arith)
-  options_token_lem None = still
+  options_token_lem : (b : prelude.Option ℕ) → Again l (options_token l b) (options_token m b)
+  options_token_lem (prelude.Some end) = Other (λ e. omega arith)
+  options_token_lem prelude.None = still
 
   options_again : (look : ℕ → ℕ) (edition : ℕ) (cs : List ℕ) → Again l (consume_format_options look edition cs l) (consume_format_options look edition cs m)
   unfolding consume_format_options
@@ -130,9 +131,9 @@ module _ (l : Lexer) where
       by_test NoError (eqb l.previous_token dot) (λ _ e. omega arith)
       (λ _. by_test NoError (eqb (keyword_of word) id) (λ _ e. omega arith) (λ _. keyword_other (keyword_of word) (keyword_kind word)))
 
-  or_other : (r : Option ℕ) (t : Taken) → NoError t → NoError (or_else r l t)
-  or_other (Some delimiter) t n e = omega arith
-  or_other None t n e = n e
+  or_other : (r : prelude.Option ℕ) (t : Taken) → NoError t → NoError (or_else r l t)
+  or_other (prelude.Some delimiter) t n e = omega arith
+  or_other prelude.None t n e = n e
 
   raw_other : (cs : List ℕ) (end : Reach) → NoError (raw_or_name cs end l)
   unfolding raw_or_name
@@ -147,9 +148,9 @@ module _ (l : Lexer) where
 
   -- ---- the arms
 
-  symbol_again : (b : List ℕ) (x : Option Symbol) → symbol_of b ≡ x → {u : Taken} → Again l (symbol_token x l) u
-  symbol_again b (Some x) e = Other (λ q. omega (arith, (symbol_is b e).kind_from))
-  symbol_again b None e = On (omega arith)
+  symbol_again : (b : List ℕ) (x : prelude.Option Symbol) → symbol_of b ≡ x → {u : Taken} → Again l (symbol_token x l) u
+  symbol_again b (prelude.Some x) e = Other (λ q. omega (arith, (symbol_is b e).kind_from))
+  symbol_again b prelude.None e = On (omega arith)
 
   code_again : (look : ℕ → ℕ) (c : ℕ) (cs : List ℕ) → Again l (in_code look c cs l) (in_code look c cs m)
   unfolding in_code
