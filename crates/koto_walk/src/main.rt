@@ -8,19 +8,11 @@ ghost use Rattle.std.specs.Io.{ReadsAtMost};
 use std::io;
 use std::io::Read;
 
-// The first byte; 256 where there is none.
-fn first(bytes: &[u8]) -> u16 {
-    if bytes.len() == 0 {
-        return 256;
-    }
-    bytes[0] as u16
-}
-
-// The next byte of the input; 256 at its end.
-fn read_byte(input: &mut impl Read) -> io::Result<u16> {
+// The next byte of the input; `None` at its end.
+fn read_byte(input: &mut impl Read) -> io::Result<Option<u8>> {
     let mut byte = [0u8; 1];
     let n = lines::read_full(input, &mut byte)?;
-    Ok(first(&byte[..n]))
+    Ok(byte[..n].first().copied())
 }
 
 // Reads a line into the start of the row, and answers how many bytes it has; all of the row where no newline comes within so many bytes, or
@@ -30,14 +22,13 @@ fn read_line(input: &mut impl Read, line: &mut [u8]) -> io::Result<usize>
 {
     let mut n = 0;
     while n < line.len() {
-        let byte = read_byte(input)?;
-        if 256 <= byte {
+        let Some(byte) = read_byte(input)? else {
             return Ok(line.len());
-        }
-        if byte == 10 {
+        };
+        if byte == b'\n' {
             return Ok(n);
         }
-        line[n] = byte as u8;
+        line[n] = byte;
         n += 1;
     }
     Ok(n)

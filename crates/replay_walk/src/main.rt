@@ -5,9 +5,10 @@
 
 use cursor::{Cursor, Status};
 use reading::Scanned;
+use rows::Row;
 use std::io;
 use std::rt::Files;
-use walking::What;
+use walking::Refusal;
 
 // The place of a line's next field, or 0 where one before it differed; and the cursor after the calls before it.
 #[derive(Clone, Copy)]
@@ -26,31 +27,27 @@ fn next_field(text: &[u8], at: usize) -> usize {
 
 // What is said of a call: 1 and a record, 0 for nothing, or 2 and the number and place of a refusal. Answers the place after it, or 0 where it
 // differs.
-fn same_what(text: &[u8], at: usize, what: What) -> usize {
+fn same_what(text: &[u8], at: usize, what: Result<Option<Row>, Refusal>) -> usize {
     match what {
-        What::Token(row) => {
+        Ok(Some(row)) => {
             let at = lines::same(text, at, 1);
             replay_rows::same_fields(text, at, row)
         }
-        What::Nothing => lines::same(text, at, 0),
-        What::Refused { number, place } => {
+        Ok(None) => lines::same(text, at, 0),
+        Err(refused) => {
             let at = lines::same(text, at, 2);
-            let at = lines::same(text, at, number as usize);
-            lines::same(text, at, place)
+            let at = lines::same(text, at, refused.number as usize);
+            lines::same(text, at, refused.place)
         }
     }
 }
 
 // Makes the call at a place of the text, and compares what is said of it with what follows there.
 fn same_call(text: &[u8], list: &[u32], walked: Walked) -> Walked {
-    let before = walked.cursor;
-    let at = walked.at;
-    let told = walking::ask(list, before, walking::call_at(text, at));
-    let what = told.what;
-    let cursor = told.cursor;
+    let told = walking::ask(list, walked.cursor, walking::call_at(text, walked.at));
     Walked {
-        at: same_what(text, next_field(text, at), what),
-        cursor,
+        at: same_what(text, next_field(text, walked.at), told.what),
+        cursor: told.cursor,
     }
 }
 
