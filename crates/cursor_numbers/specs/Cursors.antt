@@ -1,7 +1,7 @@
 -- What `koto_next`, `koto_peek` and `koto_look_ahead` return and write, from the inner calls' answers. A cursor goes in as its numbers, with the status as
 -- `koto_scan` or `koto_scan_half` writes it, so that it tells the list's layout; any other number there is refusal 8, before the list is looked at.
 -- Assumes nothing.
-use Rattle.std.specs.Prelude.{ℕ, ◌≡◌, List, eqb, Err}
+use Rattle.std.specs.Prelude.{ℕ, ◌≡◌, List, eqb, Option, Some, None, Err}
 use Rattle.base.specs.Pick.{pick}
 use Rattle.reading.specs.Status.{end_number, stuck_number, end_half_number, stuck_half_number}
 use Rattle.lookahead.specs.Told.{record_numbers, given_told, peeked_told}
@@ -19,23 +19,21 @@ use Rattle.lookahead.specs.declared.LookError.TheVariants as peeked
 use Rattle.cursor.specs.declared.Status.{Status}
 use Rattle.cursor.specs.declared.Status.TheVariants.{End, Stuck}
 use Rattle.cursor.specs.declared.Cursor.{Cursor}
-use Rattle.cursor_numbers.specs.declared.Named.{Named}
-use Rattle.cursor_numbers.specs.declared.Named.TheVariants.{As, Nothing}
 
 -- ---- the numbers of a cursor
 
 -- the layout and the status that a number names, as the scans write it
-abbrev pub names : ℕ → Named
+abbrev pub names : ℕ → Option (Layout × Status)
 names number =
-    pick (eqb number end_number) (As Whole End)
-    (pick (eqb number stuck_number) (As Whole Stuck)
-    (pick (eqb number end_half_number) (As Half End)
-    (pick (eqb number stuck_half_number) (As Half Stuck) Nothing)))
+    pick (eqb number end_number) (Some (Whole, End))
+    (pick (eqb number stuck_number) (Some (Whole, Stuck))
+    (pick (eqb number end_half_number) (Some (Half, End))
+    (pick (eqb number stuck_half_number) (Some (Half, Stuck)) None)))
 
 -- by what is named; y is for every other number
-abbrev pub by_named : {A : Type 0} → (Layout → Status → A) → A → Named → A
-by_named f y (As layout status) = f layout status
-by_named f y Nothing = y
+abbrev pub by_named : {A : Type 0} → (Layout → Status → A) → A → Option (Layout × Status) → A
+by_named f y (Some named) = f named.0 named.1
+by_named f y None = y
 
 abbrev pub by_status : {A : Type 0} → (Layout → Status → A) → A → ℕ → A
 by_status f y number = by_named f y (names number)

@@ -14,47 +14,28 @@ use base::refusals::{BAD_RECORD, BAD_STATE, NO_REFUSAL, PEEK_TOO_FAR, QUEUE_FULL
 use cursor::{Cursor, Status};
 use layout::Layout;
 use lookahead::answer::put_record;
-use lookahead::{Given, Peeked};
+use lookahead::{Handed, Look, LookError, NextError};
 use reading::answer::{END, END_HALF, STUCK, STUCK_HALF};
 use rows::Row;
 
 // ---- the numbers of a cursor
 
-// What a status number names.
-#[derive(Clone, Copy)]
-pub enum Named {
-    As { layout: Layout, status: Status },
-    // It is none that a list is walked with.
-    Nothing,
-}
-
-// The layout is asked first, so that LLVM makes no table of the numbers.
-pub fn names(number: u32) -> Named
+// What a status number names; `None` where it is none that a list is walked with. The layout is asked first, so that LLVM makes no table of the
+// numbers.
+pub fn names(number: u32) -> Option<(Layout, Status)>
     ensures { result ≡ names number }
 {
     if number < END_HALF {
         return match number {
-            END => Named::As {
-                layout: Layout::Whole,
-                status: Status::End,
-            },
-            STUCK => Named::As {
-                layout: Layout::Whole,
-                status: Status::Stuck,
-            },
-            _ => Named::Nothing,
+            END => Some((Layout::Whole, Status::End)),
+            STUCK => Some((Layout::Whole, Status::Stuck)),
+            _ => None,
         };
     }
     match number {
-        END_HALF => Named::As {
-            layout: Layout::Half,
-            status: Status::End,
-        },
-        STUCK_HALF => Named::As {
-            layout: Layout::Half,
-            status: Status::Stuck,
-        },
-        _ => Named::Nothing,
+        END_HALF => Some((Layout::Half, Status::End)),
+        STUCK_HALF => Some((Layout::Half, Status::Stuck)),
+        _ => None,
     }
 }
 
@@ -102,7 +83,7 @@ fn tell_token(row: Row, shown: &mut u32, record: &mut [u32; 10], place: &mut usi
 
 // Writes the numbers of an answer of `next`, and hands its refusal on.
 pub fn tell_given(
-    given: Given,
+    given: Result<Option<Handed>, NextError>,
     taken: &mut usize,
     queued: &mut usize,
     shown: &mut u32,
@@ -113,20 +94,20 @@ pub fn tell_given(
         taken.new queued.new shown.new «record».new place.new result }
 {
     match given {
-        Given::Token { row, cursor } => {
-            *taken = cursor.taken;
-            *queued = cursor.queued;
-            tell_token(row, shown, record, place)
+        Ok(Some(handed)) => {
+            *taken = handed.cursor.taken;
+            *queued = handed.cursor.queued;
+            tell_token(handed.row, shown, record, place)
         }
-        Given::Nothing => tell_none(NO_REFUSAL, 0, shown, record, place),
-        Given::BadState => tell_none(BAD_STATE, 0, shown, record, place),
-        Given::BadRecord(i) => tell_none(BAD_RECORD, i, shown, record, place),
+        Ok(None) => tell_none(NO_REFUSAL, 0, shown, record, place),
+        Err(NextError::BadState) => tell_none(BAD_STATE, 0, shown, record, place),
+        Err(NextError::BadRecord(i)) => tell_none(BAD_RECORD, i, shown, record, place),
     }
 }
 
 // Writes the numbers of an answer of `peek` or `look_ahead`, whatever was taken before it, and hands its refusal on.
 pub fn tell_looked(
-    looked: Peeked,
+    looked: Result<Look, LookError>,
     queued: &mut usize,
     shown: &mut u32,
     record: &mut [u32; 10],
@@ -136,17 +117,16 @@ pub fn tell_looked(
         queued.new shown.new «record».new place.new result }
 {
     match looked {
-        Peeked::Token { row, cursor } => {
-            *queued = cursor.queued;
-            tell_token(row, shown, record, place)
+        Ok(look) => {
+            *queued = look.cursor.queued;
+            match look.row {
+                Some(row) => tell_token(row, shown, record, place),
+                None => tell_none(NO_REFUSAL, 0, shown, record, place),
+            }
         }
-        Peeked::Nothing { cursor } => {
-            *queued = cursor.queued;
-            tell_none(NO_REFUSAL, 0, shown, record, place)
-        }
-        Peeked::BadState => tell_none(BAD_STATE, 0, shown, record, place),
-        Peeked::PeekTooFar => tell_none(PEEK_TOO_FAR, 0, shown, record, place),
-        Peeked::QueueFull => tell_none(QUEUE_FULL, 0, shown, record, place),
-        Peeked::BadRecord(i) => tell_none(BAD_RECORD, i, shown, record, place),
+        Err(LookError::BadState) => tell_none(BAD_STATE, 0, shown, record, place),
+        Err(LookError::PeekTooFar) => tell_none(PEEK_TOO_FAR, 0, shown, record, place),
+        Err(LookError::QueueFull) => tell_none(QUEUE_FULL, 0, shown, record, place),
+        Err(LookError::BadRecord(i)) => tell_none(BAD_RECORD, i, shown, record, place),
     }
 }

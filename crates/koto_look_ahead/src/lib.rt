@@ -4,19 +4,24 @@
 ghost use Rattle.std.specs.Prelude.{◌≡◌};
 ghost use Rattle.cursor_numbers.specs.Cursors.{look_by, LookAheadIs};
 
-use cursor_numbers::{Named, cursor_of, names, tell_looked};
-use lookahead::Peeked;
+use cursor_numbers::{cursor_of, names, tell_looked};
+use lookahead::{Look, LookError};
 
 // The inner call's answer for a cursor of these numbers. The inner call stands once, for either layout, so that LLVM inlines it.
-fn look_by(list: &[u32], taken: usize, queued: usize, count: usize, number: u32, n: usize) -> Peeked
+fn look_by(
+    list: &[u32],
+    taken: usize,
+    queued: usize,
+    count: usize,
+    number: u32,
+    n: usize,
+) -> Result<Look, LookError>
     ensures { result ≡ look_by list.now taken queued count number n }
 {
-    match names(number) {
-        Named::As { layout, status } => {
-            lookahead::look_ahead(layout, list, cursor_of(taken, queued, count, status), n)
-        }
-        Named::Nothing => Peeked::BadState,
-    }
+    let Some((layout, status)) = names(number) else {
+        return Err(LookError::BadState);
+    };
+    lookahead::look_ahead(layout, list, cursor_of(taken, queued, count, status), n)
 }
 
 // Shows the token that the (n+1)th following `koto_next` would hand out, and queues what is lacking for it. Refused are a cursor that is unfit

@@ -6,9 +6,9 @@ ghost use Rattle.reading.specs.Status.{end_half_number};
 ghost use Rattle.cursor_numbers.specs.Cursors.{next_by, NextIs};
 
 use cursor::Status;
-use cursor_numbers::{Named, cursor_of, names, tell_given};
+use cursor_numbers::{cursor_of, names, tell_given};
 use layout::Layout;
-use lookahead::Given;
+use lookahead::{Handed, NextError};
 use reading::answer::{END, END_HALF, STUCK};
 
 // `koto_next` over whole records. It is called once a token, so each status has an arm that LLVM compiles for it alone.
@@ -43,21 +43,25 @@ fn next_whole(
             );
             tell_given(given, taken, queued, shown, record, place)
         }
-        _ => tell_given(Given::BadState, taken, queued, shown, record, place),
+        _ => tell_given(Err(NextError::BadState), taken, queued, shown, record, place),
     }
 }
 
 // The inner call's answer for a cursor of these numbers. A list at half the size comes here: its two statuses share one inner call, which LLVM inlines
 // as the last one that is left.
-fn next_by(list: &[u32], taken: usize, queued: usize, count: usize, number: u32) -> Given
+fn next_by(
+    list: &[u32],
+    taken: usize,
+    queued: usize,
+    count: usize,
+    number: u32,
+) -> Result<Option<Handed>, NextError>
     ensures { result ≡ next_by list.now taken queued count number }
 {
-    match names(number) {
-        Named::As { layout, status } => {
-            lookahead::next(layout, list, cursor_of(taken, queued, count, status))
-        }
-        Named::Nothing => Given::BadState,
-    }
+    let Some((layout, status)) = names(number) else {
+        return Err(NextError::BadState);
+    };
+    lookahead::next(layout, list, cursor_of(taken, queued, count, status))
 }
 
 // Hands out the next token, and moves the cursor on. Refused are a cursor that is unfit with 8, then a record that may not be shown with 9;

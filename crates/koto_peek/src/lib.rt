@@ -4,19 +4,24 @@
 ghost use Rattle.std.specs.Prelude.{◌≡◌};
 ghost use Rattle.cursor_numbers.specs.Cursors.{peek_by, PeekIs};
 
-use cursor_numbers::{Named, cursor_of, names, tell_looked};
-use lookahead::Peeked;
+use cursor_numbers::{cursor_of, names, tell_looked};
+use lookahead::{Look, LookError};
 
 // The inner call's answer for a cursor of these numbers. The inner call stands once, for either layout, so that LLVM inlines it.
-fn peek_by(list: &[u32], taken: usize, queued: usize, count: usize, number: u32, n: usize) -> Peeked
+fn peek_by(
+    list: &[u32],
+    taken: usize,
+    queued: usize,
+    count: usize,
+    number: u32,
+    n: usize,
+) -> Result<Look, LookError>
     ensures { result ≡ peek_by list.now taken queued count number n }
 {
-    match names(number) {
-        Named::As { layout, status } => {
-            lookahead::peek(layout, list, cursor_of(taken, queued, count, status), n)
-        }
-        Named::Nothing => Peeked::BadState,
-    }
+    let Some((layout, status)) = names(number) else {
+        return Err(LookError::BadState);
+    };
+    lookahead::peek(layout, list, cursor_of(taken, queued, count, status), n)
 }
 
 // Queues one more token, if there is one and n is at most what is queued, and shows queued token n. Refused are a cursor that is unfit with

@@ -7,7 +7,7 @@ ghost use Rattle.rows.specs.Row.{room};
 ghost use Rattle.reading.specs.Scan.{count_of};
 
 use reading::{Scanned, answer};
-use rows::{Row, RowAt};
+use rows::Row;
 use std::io;
 
 // Prints a number, and what stands after it.
@@ -56,8 +56,8 @@ fn print_row_at(rt: &impl Print, list: &[u32], i: usize) -> io::Result<()>
     requires { i < room list.now }
 {
     match rows::row_at(list, i) {
-        RowAt::Fit(row) => print_row(rt, row),
-        RowAt::Unfit => Ok(()),
+        Some(row) => print_row(rt, row),
+        None => Ok(()),
     }
 }
 

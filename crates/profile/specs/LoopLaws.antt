@@ -7,6 +7,7 @@ use native.Mathlib.Omega.{arith}
 use Rattle.std.proofs.Common.{add-one, ◌∙◌}
 use Rattle.std.proofs.Math.Path.{sym, ap}
 use Rattle.std.proofs.Math.Bool.{true, false}
+use Rattle.rows.specs.declared.Row.{Row}
 use Rattle.forbidden.specs.Pass.{forbidden_at, opener_at, pass_from}
 
 pub record Going (at : ℕ → Option Row) (count opener i : ℕ) : Type 0 where

@@ -12,7 +12,7 @@ ghost use Rattle.profile.specs.Profile.{judged, Profiles};
 ghost use Rattle.forbidden.specs.Pass.{is_inner, is_forbidden_by, opener_after, forbidden_at, opener_at, pass_from};
 
 use reading::{Scan, ScanError};
-use rows::{Row, RowAt};
+use rows::Row;
 use token::kinds::{CURLY_OPEN, STRING_START};
 
 // Why a scan by the profile is refused.
@@ -59,21 +59,21 @@ fn opener_after(opener: u32, row: Row) -> u32
 }
 
 // The same of what stands at an index of a list: a scan writes no record that may not be shown.
-fn forbidden_at(opener: u32, at: RowAt) -> bool
+fn forbidden_at(opener: u32, at: Option<Row>) -> bool
     ensures { result ≡ forbidden_at opener at }
 {
     match at {
-        RowAt::Fit(row) => is_forbidden(opener, row),
-        RowAt::Unfit => false,
+        Some(row) => is_forbidden(opener, row),
+        None => false,
     }
 }
 
-fn opener_at(opener: u32, at: RowAt) -> u32
+fn opener_at(opener: u32, at: Option<Row>) -> u32
     ensures { result ≡ opener_at opener at }
 {
     match at {
-        RowAt::Fit(row) => opener_after(opener, row),
-        RowAt::Unfit => opener,
+        Some(row) => opener_after(opener, row),
+        None => opener,
     }
 }
 

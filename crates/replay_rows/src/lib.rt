@@ -10,7 +10,7 @@ ghost use Rattle.reading.specs.Scan.{count_of};
 use lines::Fields;
 use reading::Scanned;
 use reading::answer::{count_of, number_of, place_of};
-use rows::{Row, RowAt};
+use rows::Row;
 
 // What stands in a list before a scan. As a record it would have kind 112, so no scan writes it.
 const MARK: u32 = 0xa5a5_a5f0;
@@ -46,8 +46,8 @@ fn same_row(fields: &mut Fields, list: &[u32], i: usize) -> bool
     requires { i < room list.now }
 {
     match rows::row_at(list, i) {
-        RowAt::Fit(row) => same_fields(fields, row),
-        RowAt::Unfit => false,
+        Some(row) => same_fields(fields, row),
+        None => false,
     }
 }
 

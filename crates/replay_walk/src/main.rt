@@ -6,16 +6,17 @@
 use cursor::{Cursor, Status};
 use lines::Fields;
 use reading::Scanned;
+use rows::Row;
 use std::io;
-use walking::What;
+use walking::Refusal;
 
 // Whether the next fields are what is said of a call: 1 and a record, 0 for nothing, or 2 and the number and place of a refusal.
-fn same_what(fields: &mut Fields, what: What) -> bool {
+fn same_what(fields: &mut Fields, what: Result<Option<Row>, Refusal>) -> bool {
     match what {
-        What::Token(row) => fields.same(1) && replay_rows::same_fields(fields, row),
-        What::Nothing => fields.same(0),
-        What::Refused { number, place } => {
-            fields.same(2) && fields.same(number as usize) && fields.same(place)
+        Ok(Some(row)) => fields.same(1) && replay_rows::same_fields(fields, row),
+        Ok(None) => fields.same(0),
+        Err(refused) => {
+            fields.same(2) && fields.same(refused.number as usize) && fields.same(refused.place)
         }
     }
 }

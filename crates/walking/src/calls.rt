@@ -1,22 +1,27 @@
 // A line of calls: `n` for `next`, `p3` for `peek(3)` and `l3` for `look_ahead(3)`, with one space between two of them. Decision 27 says which
 // lines are malformed.
 //
-// The line is tested whole, byte by byte, before anything is called; a number tells where in a call the test stands.
+// The line is tested whole, byte by byte, before anything is called.
 ghost use Rattle.std.specs.Prelude.{◌≡◌, true, ◌≤◌, length};
 
 // The most bytes of a line.
 const LINE_MOST: usize = 200_000;
 
-// The line is malformed.
-const BAD: u8 = 0;
-// A call must begin here.
-const BEGIN: u8 = 1;
-// After `n`.
-const NEXT: u8 = 2;
-// After `p` or `l`. With each digit the number rises by one.
-const LOOK: u8 = 3;
-// After `p` or `l` and 19 digits, so many as always fit 64 bits.
-const LONGEST: u8 = 22;
+// The most digits of a call's number: so many always fit 64 bits.
+const DIGITS_MOST: u8 = 19;
+
+// Where in a call the test of a line stands.
+#[derive(Clone, Copy)]
+enum Place {
+    // The line is malformed.
+    Bad,
+    // A call must begin here.
+    Begin,
+    // After `n`.
+    Past,
+    // After `p` or `l` and so many digits.
+    Digits(u8),
+}
 
 // One of the calls.
 #[derive(Clone, Copy)]
@@ -27,56 +32,43 @@ pub enum Call {
 }
 
 // Where the test stands after the first byte of a call.
-fn begun(b: u8) -> u8 {
-    if b == b'n' {
-        return NEXT;
+fn begun(b: u8) -> Place {
+    match b {
+        b'n' => Place::Past,
+        b'p' | b'l' => Place::Digits(0),
+        _ => Place::Bad,
     }
-    if b == b'p' {
-        return LOOK;
-    }
-    if b == b'l' {
-        return LOOK;
-    }
-    BAD
 }
 
 // Where it stands after a digit.
-fn gone_on(place: u8) -> u8 {
-    if place < LOOK {
-        return BAD;
+fn gone_on(place: Place) -> Place {
+    match place {
+        Place::Digits(n) if n < DIGITS_MOST => Place::Digits(n + 1),
+        _ => Place::Bad,
     }
-    if LONGEST <= place {
-        return BAD;
-    }
-    place + 1
 }
 
 // May a call end where the test stands?
-fn is_whole(place: u8) -> bool {
-    if place == LOOK {
-        return false;
+fn is_whole(place: Place) -> bool {
+    match place {
+        Place::Past => true,
+        Place::Digits(n) => 0 < n,
+        _ => false,
     }
-    NEXT <= place
 }
 
 // Where the test stands after one byte more.
-fn after(place: u8, b: u8) -> u8 {
-    if place == BEGIN {
+fn after(place: Place, b: u8) -> Place {
+    if matches!(place, Place::Begin) {
         return begun(b);
     }
-    if b == b' ' {
-        if is_whole(place) {
-            return BEGIN;
-        }
-        return BAD;
+    if b == b' ' && is_whole(place) {
+        return Place::Begin;
     }
-    if b < b'0' {
-        return BAD;
+    if b.is_ascii_digit() {
+        return gone_on(place);
     }
-    if b'9' < b {
-        return BAD;
-    }
-    gone_on(place)
+    Place::Bad
 }
 
 // Is this a line of calls? An empty line is: it has none.
@@ -86,14 +78,12 @@ pub fn are_calls(line: &[u8]) -> bool
     if LINE_MOST < line.len() {
         return false;
     }
-    if line.len() == 0 {
+    if line.is_empty() {
         return true;
     }
-    let mut place = BEGIN;
-    let mut i = 0;
-    while i < line.len() {
-        place = after(place, line[i]);
-        i += 1;
+    let mut place = Place::Begin;
+    for &b in line {
+        place = after(place, b);
     }
     is_whole(place)
 }

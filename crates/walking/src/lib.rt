@@ -12,24 +12,23 @@ ghost use Rattle.walking.specs.Told.{refused_at, told_given, told_peeked, told_o
 pub use calls::{Call, are_calls, call_at};
 use cursor::{Cursor, Status};
 use layout::Layout;
-use lookahead::{Given, Peeked, answer};
+use lookahead::{Handed, Look, LookError, NextError, answer};
 use reading::Scanned;
 use rows::Row;
 use std::io;
 
-// What is said of a call.
+// A refusal, by document 01's number and place.
 #[derive(Clone, Copy)]
-pub enum What {
-    // The token that it hands out or shows.
-    Token(Row),
-    Nothing,
-    Refused { number: u32, place: usize },
+pub struct Refusal {
+    pub number: u32,
+    pub place: usize,
 }
 
-// The same, and the cursor after the call: the one before it, where none is handed back.
+// What is said of a call: the token that it hands out or shows, none, or its refusal; and the cursor after it, which is the one before it where
+// none is handed back.
 #[derive(Clone, Copy)]
 pub struct Told {
-    pub what: What,
+    pub what: Result<Option<Row>, Refusal>,
     pub cursor: Cursor,
 }
 
@@ -50,25 +49,25 @@ fn refused(number: u32, place: usize, cursor: Cursor) -> Told
     ensures { result ≡ refused_at number place cursor }
 {
     Told {
-        what: What::Refused { number, place },
+        what: Err(Refusal { number, place }),
         cursor,
     }
 }
 
 // An answer of `next`, with document 01's number and place of a refusal.
-fn told_given(before: Cursor, given: Given) -> Told
+fn told_given(before: Cursor, given: Result<Option<Handed>, NextError>) -> Told
     ensures { result ≡ told_given before given }
 {
     match given {
-        Given::Token { row, cursor } => Told {
-            what: What::Token(row),
-            cursor,
+        Ok(Some(handed)) => Told {
+            what: Ok(Some(handed.row)),
+            cursor: handed.cursor,
         },
-        Given::Nothing => Told {
-            what: What::Nothing,
+        Ok(None) => Told {
+            what: Ok(None),
             cursor: before,
         },
-        _ => refused(
+        Err(_) => refused(
             answer::given_number(given),
             answer::given_place(given),
             before,
@@ -77,19 +76,15 @@ fn told_given(before: Cursor, given: Given) -> Told
 }
 
 // The same of `peek` and `look_ahead`.
-fn told_peeked(before: Cursor, peeked: Peeked) -> Told
+fn told_peeked(before: Cursor, peeked: Result<Look, LookError>) -> Told
     ensures { result ≡ told_peeked before peeked }
 {
     match peeked {
-        Peeked::Token { row, cursor } => Told {
-            what: What::Token(row),
-            cursor,
+        Ok(look) => Told {
+            what: Ok(look.row),
+            cursor: look.cursor,
         },
-        Peeked::Nothing { cursor } => Told {
-            what: What::Nothing,
-            cursor,
-        },
-        _ => refused(
+        Err(_) => refused(
             answer::peeked_number(peeked),
             answer::peeked_place(peeked),
             before,
@@ -112,19 +107,18 @@ pub fn ask(list: &[u32], cursor: Cursor, call: Call) -> Told
 }
 
 // Prints what is said of a call.
-fn print_what(rt: &impl Print, what: What) -> io::Result<()> {
+fn print_what(rt: &impl Print, what: Result<Option<Row>, Refusal>) -> io::Result<()> {
     match what {
-        What::Token(row) => printing::print_row(rt, row),
-        What::Nothing => rt.println("none"),
-        What::Refused { number, place } => printing::print_refused(rt, number, place),
+        Ok(Some(row)) => printing::print_row(rt, row),
+        Ok(None) => rt.println("none"),
+        Err(refused) => printing::print_refused(rt, refused.number, refused.place),
     }
 }
 
 // Makes a call, prints what is said of it, and answers the cursor after it.
 fn print_call(rt: &impl Print, list: &[u32], cursor: Cursor, call: Call) -> io::Result<Cursor> {
     let told = ask(list, cursor, call);
-    let what = told.what;
-    print_what(rt, what)?;
+    print_what(rt, told.what)?;
     Ok(told.cursor)
 }
 

@@ -2,9 +2,9 @@
 use mathlib.Core.Path.{sym, ◌∙◌}
 use Rattle.koto_next.proofs.next_by.Goals as goal
 
-pub returns-in-As : goal.returns-in-As
-returns-in-As c =
-    rw (c.next.ensures, c.cursor_of.ensures, sym c.names.ensures ∙ c.in-As.is)
+pub returns : goal.returns
+returns c =
+    rw (c.next.ensures, c.cursor_of.ensures, sym c.names.ensures ∙ c.in-Some.is)
 
-pub returns-in-Nothing : goal.returns-in-Nothing
-returns-in-Nothing c = rw (sym c.names.ensures ∙ c.in-Nothing.is)
+pub returns-in_default : goal.returns-in_default
+returns-in_default c = rw (sym c.names.ensures ∙ c.in_default.is)

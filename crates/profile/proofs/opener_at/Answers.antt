@@ -3,5 +3,5 @@ use mathlib.Core.Path.{sym, ap, ◌∙◌}
 use Rattle.forbidden.specs.Pass.{opener_at}
 use Rattle.profile.proofs.opener_at.Goals as goal
 
-pub returns-in-Fit : goal.returns-in-Fit
-returns-in-Fit c = c.opener_after.ensures ∙ sym (ap (opener_at c.args.opener) c.in-Fit.is)
+pub returns-in-Some : goal.returns-in-Some
+returns-in-Some c = c.opener_after.ensures ∙ sym (ap (opener_at c.args.opener) c.in-Some.is)
