@@ -1,7 +1,7 @@
 -- The promise of `foreign::check_list`, case by case in document 02's order: 1, 17, 2, 3 or 15, then 8, then 5, and then yes, or the first record that
 -- differs. What is right is told by what a scan writes: the records of the source's reading, their count and their status.
 -- Assumes nothing.
-use Rattle.std.specs.Prelude.{ℕ, ◌<◌, ◌≤◌, ◌≡◌, true, false, List, length, get_or}
+use Rattle.std.specs.Prelude.{ℕ, ◌<◌, ◌≤◌, ◌≡◌, true, false, List, Ok, length, get_or}
 use Rattle.base.specs.Refusal.{too_long, bad_edition, bad_table, bad_utf8, cut_utf8, modes_full, bad_state, source_most}
 use Rattle.utf8.specs.Meaning.{Arriving, Damaged}
 use Rattle.fitness.specs.Fit.{table_check}
@@ -18,8 +18,8 @@ use Rattle.cursor.specs.declared.Cursor.{Cursor}
 use Rattle.cursor.specs.declared.Status.TheVariants.{End, Stuck}
 use Rattle.foreign.specs.Check.{list_checked, number_of, place_of}
 use Rattle.foreign.specs.ApartLaws.{StatusIs}
-use Rattle.foreign.specs.declared.Checked.{Checked}
-use Rattle.foreign.specs.declared.Checked.TheVariants.{Same, Differs}
+use Rattle.foreign.specs.Check.{Checked}
+use Rattle.foreign.specs.declared.Comparison.TheVariants.{Same, Differs}
 use Rattle.promises.specs.Said.{Said, says}
 use Rattle.promises.specs.Scan.{Readable, rows, stop}
 
@@ -69,17 +69,17 @@ module _ (source table : List ℕ) (edition : ℕ) (list : List ℕ) (count stat
     pub modes_full_lem : Readable source table edition → count ≤ room list → stop source table edition ≡ reading.deep
         → check_says r ≡ says modes_full (end_of 0 (rows source table edition))
     -- yes, exactly where it is right
-    pub right : Right → r ≡ Same
-    pub only_right : r ≡ Same → Right
+    pub right : Right → r ≡ Ok Same
+    pub only_right : r ≡ Ok Same → Right
     -- no: the first record that differs
     pub first_record : Taken → (i : ℕ) → i < count → i < length (rows source table edition) → Agrees i
-        → ((d : Row) → is_row list i (get_or (rows source table edition) i d) ≡ false) → r ≡ Differs i
+        → ((d : Row) → is_row list i (get_or (rows source table edition) i d) ≡ false) → r ≡ Ok (Differs i)
     -- or the smaller count, where only length or status differ
-    pub fewer : Taken → Agrees count → count < length (rows source table edition) → r ≡ Differs count
+    pub fewer : Taken → Agrees count → count < length (rows source table edition) → r ≡ Ok (Differs count)
     pub more : Taken → Agrees (length (rows source table edition)) → length (rows source table edition) < count
-        → r ≡ Differs (length (rows source table edition))
+        → r ≡ Ok (Differs (length (rows source table edition)))
     pub other_status : Taken → Agrees count → count ≡ length (rows source table edition) → (StatusIs (stop source table edition) status → ⊥)
-        → r ≡ Differs count
+        → r ≡ Ok (Differs count)
     -- 3 and 15 are given nowhere else
     pub only_bad : number_of r ≡ bad_utf8 → Damaged source (place_of r)
     pub only_cut : number_of r ≡ cut_utf8 → Arriving source (place_of r)
