@@ -3,7 +3,7 @@
 // file with one wrong line, so that a difference is seen to be reported.
 #![tactic(auto)]
 
-use reading::Scanned;
+use reading::{Scan, ScanError};
 use std::io;
 use std::rt::Files;
 
@@ -11,7 +11,7 @@ use std::rt::Files;
 const LIST_WORDS: usize = 10_920;
 
 // The list program's scan, into the start of a list.
-fn scan_script(script: &[u8], list: &mut [u32]) -> Scanned {
+fn scan_script(script: &[u8], list: &mut [u32]) -> Result<Scan, ScanError> {
     let n = lines::within(LIST_WORDS, list);
     listing::scan_small(script, &mut list[..n])
 }

@@ -8,8 +8,8 @@ ghost use Rattle.rows.specs.Row.{room};
 ghost use Rattle.reading.specs.Scan.{count_of};
 
 use lines::same;
-use reading::Scanned;
 use reading::answer::{count_of, number_of, place_of};
+use reading::{Scan, ScanError};
 use rows::{Row, RowAt};
 
 // What stands in a list before a scan. As a record it would have kind 112, so no scan writes it.
@@ -24,22 +24,15 @@ pub fn list_buffer() -> [u32; 16384]
 
 // Are there marks alone from a place of the list on?
 fn stays(list: &[u32], from: usize) -> bool {
-    let mut i = from;
-    while i < list.len() {
-        if list[i] != MARK {
-            return false;
-        }
-        i += 1;
-    }
-    true
+    list.iter().skip(from).all(|word| *word == MARK)
 }
 
 // A line's status: 0 at the end, 1 where stuck, 100 and the refusal's number.
-fn status_of(said: Scanned) -> usize {
+fn status_of(said: Result<Scan, ScanError>) -> usize {
     match said {
-        Scanned::End { count: _, byte: _ } => 0,
-        Scanned::Stuck { count: _, byte: _ } => 1,
-        _ => 100 + number_of(said) as usize,
+        Ok(Scan::End { .. }) => 0,
+        Ok(Scan::Stuck { .. }) => 1,
+        Err(_) => 100 + number_of(said) as usize,
     }
 }
 
@@ -66,16 +59,14 @@ fn same_rows(text: &[u8], start: usize, list: &[u32], count: usize) -> usize
     requires { count ≤ room list.now }
 {
     let mut at = start;
-    let mut i = 0;
-    while i < count {
+    for i in 0..count {
         at = same_row(text, at, list, i);
-        i += 1;
     }
     at
 }
 
 // The status, the count and the byte of a line; answers the place after them, or 0 where one differs.
-fn same_answer(text: &[u8], at: usize, said: Scanned) -> usize {
+fn same_answer(text: &[u8], at: usize, said: Result<Scan, ScanError>) -> usize {
     let at = same(text, at, status_of(said));
     let at = same(text, at, count_of(said));
     same(text, at, place_of(said))
@@ -83,7 +74,7 @@ fn same_answer(text: &[u8], at: usize, said: Scanned) -> usize {
 
 // Whether the fields `STATUS COUNT BYTE RECORDS..` at a place of the text are what a scan said and wrote into a list of marks, and marks
 // stand behind the records. A list that has no room for the records counted agrees with nothing.
-pub fn agrees(text: &[u8], at: usize, said: Scanned, list: &[u32]) -> bool
+pub fn agrees(text: &[u8], at: usize, said: Result<Scan, ScanError>, list: &[u32]) -> bool
     ensures { result ≡ true → count_of said ≤ room list.now }
 {
     let count = count_of(said);

@@ -4,7 +4,7 @@
 #![tactic(auto)]
 
 use cursor::{Cursor, Status};
-use reading::Scanned;
+use reading::{Scan, ScanError};
 use std::io;
 use std::rt::Files;
 use walking::What;
@@ -77,15 +77,15 @@ fn walk_agrees(text: &[u8], at: usize, list: &[u32], cursor: Cursor) -> bool {
 }
 
 // The same over the list of a scan. No line has a source that a scan refuses.
-fn scan_agrees(text: &[u8], at: usize, list: &[u32], scanned: Scanned) -> bool {
+fn scan_agrees(text: &[u8], at: usize, list: &[u32], scanned: Result<Scan, ScanError>) -> bool {
     match scanned {
-        Scanned::End { count, byte: _ } => {
+        Ok(Scan::End { count, .. }) => {
             walk_agrees(text, at, list, walking::start(count, Status::End))
         }
-        Scanned::Stuck { count, byte: _ } => {
+        Ok(Scan::Stuck { count, .. }) => {
             walk_agrees(text, at, list, walking::start(count, Status::Stuck))
         }
-        _ => false,
+        Err(_) => false,
     }
 }
 
