@@ -5,7 +5,7 @@
 use Rattle.std.specs.Prelude.{ℕ, ◌≡◌, List}
 use Rattle.std.proofs.Common.{sym, ◌∙◌}
 use Rattle.reading.specs.Scan.{Scans}
-use Rattle.reading.specs.declared.Scanned.{Scanned}
+use Rattle.reading.specs.Scan.{Scanned}
 use Rattle.koto_lexer.specs.Scans.{ScanIs}
 use Rattle.koto_fast.specs.Fast.{ScanFastIs}
 

@@ -8,7 +8,7 @@
 use Prim.Native.Nat.{ℕ, zero, suc, ◌+◌, ◌≤◌, ◌<◌}
 use Rattle.std.proofs.Common.{add-zero, ◌∙◌, eq-eqb, eqb-true}
 use native.Mathlib.Omega.{arith}
-use Rattle.std.specs.Prelude.{◌≡◌, Bool, ◌&&◌, eqb, ltb, get_or}
+use Rattle.std.specs.Prelude.{◌≡◌, Bool, ◌&&◌, Ok, eqb, ltb, get_or}
 use Rattle.std.proofs.Math.Path.{refl, sym, ap}
 use Rattle.std.proofs.Math.Bool.{true, false, and-eq-true_iff}
 use mathlib.Core.List.{List, [], ◌∷◌}
@@ -18,8 +18,8 @@ use Rattle.held.specs.Held.{is_row}
 use Rattle.rows.specs.declared.Row.{Row}
 use Rattle.reading.specs.Reading.{Stop, ended, stuck, deep}
 use Rattle.reading.specs.Status.{end_number, stuck_number}
-use Rattle.foreign.specs.Check.{first_apart, is_right, by_stop}
-use Rattle.foreign.specs.declared.Checked.TheVariants.{Same, Differs}
+use Rattle.foreign.specs.Check.{Checked, first_apart, is_right, by_stop}
+use Rattle.foreign.specs.declared.Comparison.TheVariants.{Same, Differs}
 
 module _ (list : List ℕ) (count : ℕ) where
   -- record k of the list counts, and is this one
@@ -70,14 +70,14 @@ StatusIs stuck status = status ≡ stuck_number
 StatusIs deep status = ⊥
 
 module _ (count status n apart b : ℕ) where
-  pub same_is : (why : Stop) → apart ≡ n → count ≡ n → StatusIs why status → by_stop count status n apart b why ≡ Same
+  pub same_is : (why : Stop) → apart ≡ n → count ≡ n → StatusIs why status → by_stop count status n apart b why ≡ Ok Same
   same_is ended e f g = rw (eq-eqb apart n e, eq-eqb count n f, eq-eqb status end_number g)
   same_is stuck e f g = rw (eq-eqb apart n e, eq-eqb count n f, eq-eqb status stuck_number g)
   same_is deep e f g = absurd g
 
   -- by the test
   module _ (right : ℕ) where
-    yes_right : (t : Bool) → is_right count status n apart right ≡ t → pick t Same (Differs apart) ≡ Same → (apart ≡ n) × (count ≡ n) × (status ≡ right)
+    yes_right : (t : Bool) → is_right count status n apart right ≡ t → ◌≡◌ {A = Checked} (Ok (pick t Same (Differs apart))) (Ok Same) → (apart ≡ n) × (count ≡ n) × (status ≡ right)
     yes_right true e f =
         let one = (and-eq-true_iff (eqb apart n) (eqb count n && eqb status right)).0 e in
         let two = (and-eq-true_iff (eqb count n) (eqb status right)).0 one.1 in
@@ -85,17 +85,17 @@ module _ (count status n apart b : ℕ) where
     yes_right false e f = let z : ◌≡◌ {A = ℕ} 0 1 = cc in absurd (omega arith)
 
     no_right : (t : Bool) → is_right count status n apart right ≡ t → (apart ≡ n → count ≡ n → status ≡ right → ⊥)
-        → pick t Same (Differs apart) ≡ Differs apart
+        → ◌≡◌ {A = Checked} (Ok (pick t Same (Differs apart))) (Ok (Differs apart))
     no_right true e f = let all = yes_right true e refl in absurd (f all.0 all.1 all.2)
     no_right false e f = refl
 
-  pub is_same : (why : Stop) → by_stop count status n apart b why ≡ Same → (apart ≡ n) × (count ≡ n) × StatusIs why status
+  pub is_same : (why : Stop) → by_stop count status n apart b why ≡ Ok Same → (apart ≡ n) × (count ≡ n) × StatusIs why status
   is_same ended e = yes_right end_number (is_right count status n apart end_number) refl e
   is_same stuck e = yes_right stuck_number (is_right count status n apart stuck_number) refl e
   is_same deep e = let z : ◌≡◌ {A = ℕ} 0 1 = cc in absurd (omega arith)
 
   pub differs_is : (why : Stop) → (why ≡ deep → ⊥) → (apart ≡ n → count ≡ n → StatusIs why status → ⊥)
-      → by_stop count status n apart b why ≡ Differs apart
+      → by_stop count status n apart b why ≡ Ok (Differs apart)
   differs_is ended h f = no_right end_number (is_right count status n apart end_number) refl f
   differs_is stuck h f = no_right stuck_number (is_right count status n apart stuck_number) refl f
   differs_is deep h f = absurd (h refl)

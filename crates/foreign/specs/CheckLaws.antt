@@ -7,8 +7,8 @@
 -- and of the whole check:
 --     is_refused, is_short, is_compared    its answer, where it is given
 -- Assumes nothing.
+use Rattle.std.specs.Prelude as result
 use Rattle.std.specs.Prelude.{ℕ, ◌+◌, ◌*◌, ◌≤◌, ◌<◌, ◌≡◌, refl, Bool, true, false, List, [], ◌∷◌, ltb, leb, Err}
-use Rattle.std.specs.declared.result.Result.TheVariants as result
 use Rattle.std.proofs.Common.{add-zero, ap, subst, ◌∙◌}
 use native.Mathlib.Omega.{arith}
 use Rattle.std.proofs.Math.Path.{sym}
@@ -41,9 +41,9 @@ use Rattle.reading.specs.Reading.{row_of, stuck, Reading, onto, stopped, read_fr
 use Rattle.reading.specs.Scan.{end_of, reading_of}
 use Rattle.reading.specs.Status.{end_number, stuck_number}
 use Rattle.reading.specs.HeadLaws.{Head, left_is, left_token, left_stuck, byte_after, head_again, falls}
-use Rattle.foreign.specs.Check.{first_apart, apart_after, compared, by_stop, by_reading, list_checked}
-use Rattle.foreign.specs.declared.Checked.{Checked}
-use Rattle.foreign.specs.declared.Checked.TheVariants.{Refused, BadState, ModesFull}
+use Rattle.foreign.specs.Check.{Checked, first_apart, apart_after, compared, by_stop, by_reading, list_checked}
+use Rattle.foreign.specs.declared.Comparison.{Comparison}
+use Rattle.foreign.specs.declared.CheckError.TheVariants.{Refused, BadState, ModesFull}
 
 -- ---- where records first differ
 
@@ -141,29 +141,29 @@ module _ {s table : List ℕ} {edition : ℕ} {list : List ℕ} {count status : 
   comes : {r : Reading} → read_from (properties_at table) edition s st ≡ r → answer_on list count status k apart byte r ≡ right
   comes e = ap (answer_on list count status k apart byte) (sym e) ∙ g.rest
 
-  pub at_end : found.what ≡ what.End → {x : Checked} → x ≡ compared count status k apart end_number → x ≡ right
+  pub at_end : found.what ≡ what.End → {x : Comparison} → x ≡ compared count status k apart end_number → result.Ok x ≡ right
   at_end e q =
-      q
-      ∙ (λ i. compared count status (sym (add-zero k) i) (sym (on_none list count k apart g.below) i) end_number)
+      ap (λ (c : Comparison). result.Ok c) q
+      ∙ (λ i. result.Ok (compared count status (sym (add-zero k) i) (sym (on_none list count k apart g.below) i) end_number))
       ∙ comes (left_is g.head what.End e)
 
-  pub at_modes : found.what ≡ what.ModesFull → ModesFull byte ≡ right
+  pub at_modes : found.what ≡ what.ModesFull → result.Err (ModesFull byte) ≡ right
   unfolding end_of
   at_modes e = comes (left_is g.head what.ModesFull e)
 
   -- a record was made and compared
   module _ {row : Row} {after : ℕ} (a : after ≡ apart_after list count k apart row) where
-    pub at_stuck : found.what ≡ what.Stuck → {t : Token} → t ≡ token_of error → row ≡ row_of t st.lexer found.lexer → {x : Checked}
-        → x ≡ compared count status (k + 1) after stuck_number → x ≡ right
+    pub at_stuck : found.what ≡ what.Stuck → {t : Token} → t ≡ token_of error → row ≡ row_of t st.lexer found.lexer → {x : Comparison}
+        → x ≡ compared count status (k + 1) after stuck_number → result.Ok x ≡ right
     at_stuck e p q w =
         let last : Row = row_of (token_of error) st.lexer found.lexer in
         let told : after ≡ apart_after list count k apart last =
         a ∙ ap (apart_after list count k apart) (q ∙ ap (λ (u : Token). row_of u st.lexer found.lexer) p) in
         let none : apart_on list count (k + 1) after [] ≡ after =
         on_none list count (k + 1) after (subst (λ (i : ℕ). i ≤ k + 1) (sym a) (after_below list count k apart row g.below)) in
-        w
-        ∙ (λ i. compared count status (sym (add-zero (k + 1)) i) (sym none i) stuck_number)
-        ∙ ap (λ (j : ℕ). compared count status (k + 1 + 0) (apart_on list count (k + 1) j []) stuck_number) told
+        ap (λ (c : Comparison). result.Ok c) w
+        ∙ (λ i. result.Ok (compared count status (sym (add-zero (k + 1)) i) (sym none i) stuck_number))
+        ∙ ap (λ (j : ℕ). result.Ok (compared count status (k + 1 + 0) (apart_on list count (k + 1) j []) stuck_number)) told
         ∙ sym (on_turn list count status k apart byte last (stopped stuck) g.below)
         ∙ comes (left_stuck g.head e)
 
@@ -184,12 +184,12 @@ module _ {s table : List ℕ} {edition : ℕ} {list : List ℕ} {count status : 
 
 module _ (source table : List ℕ) (edition : ℕ) (list : List ℕ) (count status : ℕ) where
   pub is_refused : {x : Refusal} → input_check source_most source table edition ≡ Err x
-      → Refused x ≡ list_checked source table edition list count status
+      → result.Err (Refused x) ≡ list_checked source table edition list count status
   unfolding list_checked
   is_refused e = sym (rw e)
 
   module _ (e : input_check source_most source table edition ≡ result.Ok tt) where
-    pub is_short : room list < count → BadState ≡ list_checked source table edition list count status
+    pub is_short : room list < count → result.Err BadState ≡ list_checked source table edition list count status
     unfolding list_checked
     is_short h = sym (rw (e, lt-ltb (room list) count h))
 

@@ -30,13 +30,18 @@ use signs::signs;
 use state::{Change, State};
 use token::{kinds, token_of};
 
-// What the check answers.
-#[derive(Clone, Copy)]
-pub enum Checked {
+// What the check says, where nothing is refused: it answers `Result<Comparison, CheckError>`.
+#[derive(Clone, Copy, Debug, PartialEq, Eq)]
+pub enum Comparison {
     // Yes: the records, the count and the status are those of the reading.
     Same,
     // No: the index of the first record that differs, or the smaller of the two counts where only they or the status differ.
     Differs(usize),
+}
+
+// Why it is refused.
+#[derive(Clone, Copy)]
+pub enum CheckError {
     // One of refusals 1, 17, 2, 3 and 15, before any work.
     Refused(Refusal),
     // Refusal 8: the list has no room for so many records as its count says.
@@ -70,13 +75,13 @@ fn is_right(count: usize, status: u32, read: usize, apart: usize, right: u32) ->
 }
 
 // The answer, where all is read.
-fn compared(count: usize, status: u32, read: usize, apart: usize, right: u32) -> Checked
+fn compared(count: usize, status: u32, read: usize, apart: usize, right: u32) -> Comparison
     ensures { result ≡ compared count status read apart right }
 {
     if is_right(count, status, read, apart, right) {
-        return Checked::Same;
+        return Comparison::Same;
     }
-    Checked::Differs(apart)
+    Comparison::Differs(apart)
 }
 
 // Reads the source and compares as it goes, with the rows of the second engine at hand. It reads on where a record differs, since refusal 5 comes first.
@@ -89,7 +94,7 @@ fn compare_by(
     list: &[u32],
     count: usize,
     status: u32,
-) -> Checked
+) -> Result<Comparison, CheckError>
     requires source_len_bound { (length source.now ≤ source_most) × WellFormed source.now × FitTable table.now × (count ≤ room list.now) }
     requires class_table { ClassTable classes.now × SignTable signs.now }
     ensures { result ≡ by_reading list.now count status (reading_of source.now table.now edition) }
@@ -121,13 +126,13 @@ fn compare_by(
             What::Stuck => {
                 let last = row_of(token_of(kinds::ERROR), lexer, next);
                 apart = apart_after(list, count, read, apart, last);
-                return compared(count, status, read + 1, apart, STUCK);
+                return Ok(compared(count, status, read + 1, apart, STUCK));
             }
             What::ModesFull => {
-                return Checked::ModesFull(byte);
+                return Err(CheckError::ModesFull(byte));
             }
             What::End => {
-                return compared(count, status, read, apart, END);
+                return Ok(compared(count, status, read, apart, END));
             }
         }
     }
@@ -141,7 +146,7 @@ fn compare(
     list: &[u32],
     count: usize,
     status: u32,
-) -> Checked
+) -> Result<Comparison, CheckError>
     requires { (length source.now ≤ source_most) × WellFormed source.now × FitTable table.now × (count ≤ room list.now) }
     ensures { result ≡ by_reading list.now count status (reading_of source.now table.now edition) }
 {
@@ -162,14 +167,14 @@ pub fn check_list(
     list: &[u32],
     count: usize,
     status: u32,
-) -> Checked
+) -> Result<Comparison, CheckError>
     ensures { result ≡ list_checked source.now table.now edition list.now count status }
 {
     match input::check_input(source, table, edition, SOURCE_MOST) {
-        Err(refusal) => Checked::Refused(refusal),
+        Err(refusal) => Err(CheckError::Refused(refusal)),
         Ok(()) => {
             if rows::room(list) < count {
-                return Checked::BadState;
+                return Err(CheckError::BadState);
             }
             compare(source, table, edition, list, count, status)
         }

@@ -1,8 +1,7 @@
 -- What `koto_check_list` returns and writes, from the inner call's answer.
 -- Assumes nothing.
 use Rattle.std.specs.Prelude.{ℕ, ◌≡◌, List}
-use Rattle.foreign.specs.Check.{list_checked, number_of, place_of, same_of, differs_of}
-use Rattle.foreign.specs.declared.Checked.{Checked}
+use Rattle.foreign.specs.Check.{Checked, list_checked, number_of, place_of, same_of, differs_of}
 
 module _ (source table : List ℕ) (edition : ℕ) (list : List ℕ) (count status : ℕ) where
   -- the inner call's answer

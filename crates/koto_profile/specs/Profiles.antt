@@ -4,8 +4,7 @@ use Rattle.std.specs.Prelude.{ℕ, ◌≡◌, List}
 use Rattle.rows.specs.Row.{room, put_rows}
 use Rattle.reading.specs.Scan.{scanned, written}
 use Rattle.forbidden.specs.Forbidden.{first_forbidden}
-use Rattle.profile.specs.Profile.{profiled_by, number_of, place_of, count_of, status_of}
-use Rattle.profile.specs.declared.Profiled.{Profiled}
+use Rattle.profile.specs.Profile.{Profiled, profiled_by, number_of, place_of, count_of, status_of}
 
 module _ (source table : List ℕ) (edition : ℕ) where
   -- the inner call's answer for a list with room for so many records

@@ -4,7 +4,7 @@
 --     one_listing               no second answer and no second list fits
 --     long_stays                a source that is too long is told so, and leaves every word of the list
 -- Assumes nothing.
-use Rattle.std.specs.Prelude.{ℕ, ◌≤◌, ◌<◌, ◌≡◌, ltb, length}
+use Rattle.std.specs.Prelude.{ℕ, ◌≤◌, ◌<◌, ◌≡◌, Err, ltb, length}
 use Rattle.std.proofs.Common.{arith, sym, ◌∙◌, lt-ltb, le-ltb}
 use Rattle.std.proofs.Math.Path.{subst}
 use mathlib.Core.List.{List}
@@ -16,12 +16,12 @@ use Rattle.rows.specs.Row.{room}
 use Rattle.rows.specs.RowLaws.{same_room, rows_none}
 use Rattle.reading.specs.Scan.{Scans, count_of}
 use Rattle.reading.specs.ScanLaws.{count_room}
-use Rattle.reading.specs.declared.Scanned.{Scanned}
-use Rattle.reading.specs.declared.Scanned.TheVariants.{Refused}
+use Rattle.reading.specs.Scan.{Scanned}
+use Rattle.reading.specs.declared.ScanError.TheVariants.{Refused}
 use Rattle.listing.specs.Listing.{list_most, listed, listed_rows, Lists}
 
 module _ {source old : List ℕ} where
-  pub lists_long : list_most < length source → Lists source old (Refused TooLong) old
+  pub lists_long : list_most < length source → Lists source old (Err (Refused TooLong)) old
   unfolding listed listed_rows
   lists_long h =
       record { answer = rw (lt-ltb list_most (length source) h); words = rw (lt-ltb list_most (length source) h) (sym (rows_none old)) }
@@ -51,5 +51,5 @@ pub one_listing : (source old : List ℕ) (r q : Scanned) (new other : List ℕ)
 one_listing source old r q new other a b = (a.answer ∙ sym b.answer, a.words ∙ sym b.words)
 
 pub long_stays : (source old : List ℕ) (r : Scanned) (new : List ℕ) → list_most < length source → Lists source old r new
-    → (r ≡ Refused TooLong) × (new ≡ old)
-long_stays source old r new h f = one_listing source old r (Refused TooLong) new old f (lists_long h)
+    → (r ≡ Err (Refused TooLong)) × (new ≡ old)
+long_stays source old r new h f = one_listing source old r (Err (Refused TooLong)) new old f (lists_long h)

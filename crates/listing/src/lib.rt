@@ -8,7 +8,7 @@ ghost use Rattle.reading.specs.Scan.{count_of};
 ghost use Rattle.listing.specs.Listing.{Lists};
 
 use input::{Refusal, WITH_GB9C};
-use reading::Scanned;
+use reading::{Scan, ScanError};
 use std::io;
 
 // Sources over this many bytes are refused.
@@ -16,12 +16,12 @@ const LIST_MOST: usize = 1024;
 
 // Writes the records of a source at the start of the list, by the small table and edition 2. A source that is too long is refused first, and then the
 // list stays as it is.
-pub fn scan_small(source: &[u8], list: &mut [u32]) -> Scanned
+pub fn scan_small(source: &[u8], list: &mut [u32]) -> Result<Scan, ScanError>
     ensures lists { Lists source.now list.old result list.new }
     ensures result_bound { count_of result ≤ room list.new }
 {
     if LIST_MOST < source.len() {
-        return Scanned::Refused(Refusal::TooLong);
+        return Err(ScanError::Refused(Refusal::TooLong));
     }
     let table = fitness::small_table();
     scan::scan(source, &table, WITH_GB9C, list)

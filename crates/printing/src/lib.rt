@@ -6,7 +6,7 @@ ghost use Rattle.std.specs.Prelude.{◌≡◌, ◌∷◌, [], ◌<◌, ◌≤◌
 ghost use Rattle.rows.specs.Row.{room};
 ghost use Rattle.reading.specs.Scan.{count_of};
 
-use reading::{Scanned, answer};
+use reading::{Scan, ScanError, answer};
 use rows::Row;
 use std::io;
 
@@ -86,19 +86,19 @@ pub fn print_refused(rt: &impl Print, number: u32, place: usize) -> io::Result<(
 }
 
 // Prints how a scan ended: its status with the count of records and the current byte, or the number and the place of its refusal.
-pub fn print_end(rt: &impl Print, scanned: Scanned) -> io::Result<()>
+pub fn print_end(rt: &impl Print, scanned: Result<Scan, ScanError>) -> io::Result<()>
     ensures { IfOk result (λ r. r ≡ tt) }
 {
     let place = answer::place_of(scanned);
     match scanned {
-        Scanned::End { count, byte: _ } => print_last(rt, b"end ", count as u64, place),
-        Scanned::Stuck { count, byte: _ } => print_last(rt, b"stuck ", count as u64, place),
-        _ => print_refused(rt, answer::number_of(scanned), place),
+        Ok(Scan::End { count, .. }) => print_last(rt, b"end ", count as u64, place),
+        Ok(Scan::Stuck { count, .. }) => print_last(rt, b"stuck ", count as u64, place),
+        Err(_) => print_refused(rt, answer::number_of(scanned), place),
     }
 }
 
 // Prints what a scan left: each record written, and then how it ended.
-pub fn print_scan(rt: &impl Print, list: &[u32], scanned: Scanned) -> io::Result<()>
+pub fn print_scan(rt: &impl Print, list: &[u32], scanned: Result<Scan, ScanError>) -> io::Result<()>
     requires { count_of scanned ≤ room list.now }
     ensures { IfOk result (λ r. r ≡ tt) }
 {

@@ -35,7 +35,7 @@ use Rattle.reading.specs.Reading.{row_of, Stop, ended, stuck, deep, Reading, aft
 use Rattle.reading.specs.Potential.{potential, Nested}
 use Rattle.reading.proofs.PotentialLaws.{start_nested, start_potential, step_nested, step_pays, stop_pays}
 use Rattle.reading.specs.Scan.{end_of, whole, by_room, reading_of, scanned, number_of}
-use Rattle.reading.specs.declared.Scanned.{Scanned}
+use Rattle.reading.specs.Scan.{Scanned}
 use Rattle.promises.specs.Demand3.{most_records, Joined, Chained, without, moving, ClosesOnCut, Whole}
 
 -- ---- what holds of the reading from a state

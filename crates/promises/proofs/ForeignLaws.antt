@@ -25,14 +25,17 @@ use Rattle.reading.specs.Scan as scan
 use Rattle.reading.specs.Scan.{end_of, reading_of, Scans}
 use Rattle.reading.specs.Status.{end_number, stuck_number, status_of}
 use Rattle.reading.specs.WholeLaws.{ReadWhole, end_whole, stuck_whole}
-use Rattle.reading.specs.declared.Scanned.{Scanned}
-use Rattle.reading.specs.declared.Scanned.TheVariants as scanned
+use Rattle.reading.specs.Scan.{Scanned}
+use Rattle.reading.specs.declared.Scan.TheVariants as scanned
+use Rattle.reading.specs.declared.ScanError.TheVariants as error
 use Rattle.cursor.specs.declared.Cursor.{Cursor}
 use Rattle.foreign.specs.Check.{first_apart, is_right, compared, by_reading, by_stop, list_checked, number_of, place_of}
 use Rattle.foreign.specs.CheckLaws.{is_refused, is_short, is_compared}
 use Rattle.foreign.specs.ApartLaws.{has, apart_is, apart_all, StatusIs, same_is, is_same, differs_is}
-use Rattle.foreign.specs.declared.Checked.{Checked}
-use Rattle.foreign.specs.declared.Checked.TheVariants.{Same, Differs, Refused, BadState}
+use Rattle.foreign.specs.Check.{Checked}
+use Rattle.foreign.specs.declared.Comparison.{Comparison}
+use Rattle.foreign.specs.declared.Comparison.TheVariants.{Same, Differs}
+use Rattle.foreign.specs.declared.CheckError.TheVariants.{Refused, BadState}
 use Rattle.promises.specs.Scan.{Readable, rows, stop}
 use Rattle.promises.specs.Stream.{rust_stream}
 use Rattle.layout.specs.declared.Layout.TheVariants.{Whole}
@@ -64,7 +67,7 @@ module _ (source table : List ℕ) (edition : ℕ) (list : List ℕ) (count stat
 
   -- what is answered where no refusal comes before the work
   abbrev worked : Checked
-  worked = pick (ltb (room list) count) BadState (by_reading list count status (reading_of source table edition))
+  worked = pick (ltb (room list) count) (Err BadState) (by_reading list count status (reading_of source table edition))
 
   abbrev Works : Checked → Type 0
   Works x = (number_of x ≡ bad_utf8 → ⊥) × (number_of x ≡ cut_utf8 → ⊥)
@@ -73,23 +76,23 @@ module _ (source table : List ℕ) (edition : ℕ) (list : List ℕ) (count stat
   works =
       by_test Works (ltb (room list) count) (λ _. (λ m. omega arith, λ m. omega arith)) (λ _. stops (stop source table edition))
     where
-      told : (right : ℕ) → Works (compared count status n apart right)
-      told right = by_test Works (is_right count status n apart right) (λ _. (λ m. omega arith, λ m. omega arith)) (λ _. (λ m. omega arith, λ m. omega arith))
+      told : (c : Comparison) → Works (Ok c)
+      told c = (λ m. omega arith, λ m. omega arith)
 
       stops : (why : reading.Stop) → Works (by_stop count status n apart (end_of 0 (rows source table edition)) why)
-      stops reading.ended = told end_number
-      stops reading.stuck = told stuck_number
+      stops reading.ended = told (compared count status n apart end_number)
+      stops reading.stuck = told (compared count status n apart stuck_number)
       stops reading.deep = (λ m. omega arith, λ m. omega arith)
 
   bad_only : number_of (list_checked source table edition list count status) ≡ bad_utf8
       → Damaged source (place_of (list_checked source table edition list count status))
   unfolding list_checked
-  bad_only = only_bad source_most source table edition Refused number_of place_of worked (λ x. refl) (λ x. refl) works.0
+  bad_only = only_bad source_most source table edition (λ x. Err (Refused x)) number_of place_of worked (λ x. refl) (λ x. refl) works.0
 
   cut_only : number_of (list_checked source table edition list count status) ≡ cut_utf8
       → Arriving source (place_of (list_checked source table edition list count status))
   unfolding list_checked
-  cut_only = only_cut source_most source table edition Refused number_of place_of worked (λ x. refl) (λ x. refl) works.1
+  cut_only = only_cut source_most source table edition (λ x. Err (Refused x)) number_of place_of worked (λ x. refl) (λ x. refl) works.1
 
   -- ---- by what the checks say
 
@@ -99,13 +102,13 @@ module _ (source table : List ℕ) (edition : ℕ) (list : List ℕ) (count stat
     by_reading_lem g h = p ∙ sym (is_compared source table edition list count status (is_fine_lem source_most source table edition g) h refl)
 
     named : Taken source table edition list count status → {i : ℕ} → apart ≡ i
-        → (apart ≡ n → count ≡ n → StatusIs (stop source table edition) status → ⊥) → r ≡ Differs i
+        → (apart ≡ n → count ≡ n → StatusIs (stop source table edition) status → ⊥) → r ≡ Ok (Differs i)
     named t e f =
         by_reading_lem t.readable t.has_room
         ∙ differs_is count status n apart (end_of 0 (rows source table edition)) (stop source table edition) t.not_deep f
-        ∙ ap Differs e
+        ∙ ap (λ (j : ℕ). Ok (Differs j)) e
 
-    is_right_lem : Right source table edition list count status → r ≡ Same
+    is_right_lem : Right source table edition list count status → r ≡ Ok Same
     is_right_lem g =
         let a : Agrees source table edition list count status n =
         λ j d lt. subst (λ (l : List ℕ). is_row l j (get_or (rows source table edition) j d) ≡ true) g.records (rows_are list (rows source table edition) j d lt) in
@@ -113,10 +116,10 @@ module _ (source table : List ℕ) (edition : ℕ) (list : List ℕ) (count stat
         ∙ same_is count status n apart (end_of 0 (rows source table edition)) (stop source table edition)
         (apart_at n (omega (arith, g.counted)) (omega arith) a (λ lt. absurd (omega arith))) g.counted g.ends
 
-    only_right : r ≡ Same → Right source table edition list count status
+    only_right : r ≡ Ok Same → Right source table edition list count status
     only_right e = by_input_lem (input_check source_most source table edition) refl
       where
-        answered : Same ≡ list_checked source table edition list count status
+        answered : Ok Same ≡ list_checked source table edition list count status
         answered = sym e ∙ p
 
         all_right : input_check source_most source table edition ≡ Ok tt → count ≤ room list → Right source table edition list count status
@@ -137,11 +140,11 @@ module _ (source table : List ℕ) (edition : ℕ) (list : List ℕ) (count stat
         by_input_lem : (c : Result (Unit {0}) Refusal) → input_check source_most source table edition ≡ c → Right source table edition list count status
         by_input_lem (Ok _) f =
             split_lt (room list) count
-            (λ h. let q : Same ≡ BadState = answered ∙ sym (is_short source table edition list count status f h) in
+            (λ h. let q : ◌≡◌ {A = Checked} (Ok Same) (Err BadState) = answered ∙ sym (is_short source table edition list count status f h) in
             let z : ◌≡◌ {A = ℕ} 0 1 = cc in absurd (omega arith))
             (all_right f)
         by_input_lem (Err x) f =
-            let q : Same ≡ Refused x = answered ∙ sym (is_refused source table edition list count status f) in
+            let q : ◌≡◌ {A = Checked} (Ok Same) (Err (Refused x)) = answered ∙ sym (is_refused source table edition list count status f) in
             let z : ◌≡◌ {A = ℕ} 0 1 = cc in absurd (omega arith)
 
     -- a refusal before the work
@@ -194,14 +197,14 @@ module _ (source table : List ℕ) (edition : ℕ) (old new : List ℕ) where
       }
 
   pub scan_gets_yes : (r : Scanned) → Scans source table edition old r new → scan.number_of r ≡ none → (x : Checked)
-      → CheckEnsures source table edition new (scan.count_of r) (status_of r) x → x ≡ Same
-  scan_gets_yes (scanned.End m b) p e x q =
+      → CheckEnsures source table edition new (scan.count_of r) (status_of r) x → x ≡ Ok Same
+  scan_gets_yes (Ok (scanned.End m b)) p e x q =
       let w = end_whole source table edition old new m b p in
       is_right_lem source table edition new m end_number x q (left_right m end_number reading.ended w.0 w.1 refl)
-  scan_gets_yes (scanned.Stuck m b) p e x q =
+  scan_gets_yes (Ok (scanned.Stuck m b)) p e x q =
       let w = stuck_whole source table edition old new m b p in
       is_right_lem source table edition new m stuck_number x q (left_right m stuck_number reading.stuck w.0 w.1 refl)
-  scan_gets_yes (scanned.Refused y) p e x q = absurd (told y e)
+  scan_gets_yes (Err (error.Refused y)) p e x q = absurd (told y e)
     where
       told : (y : Refusal) → input.number_of y ≡ none → ⊥
       told TooLong e = omega arith
@@ -209,8 +212,8 @@ module _ (source table : List ℕ) (edition : ℕ) (old new : List ℕ) where
       told (BadTable i) e = omega arith
       told (BadUtf8 i) e = omega arith
       told (CutUtf8 i) e = omega arith
-  scan_gets_yes (scanned.ListFull m b) p e x q = absurd (omega arith)
-  scan_gets_yes (scanned.ModesFull m b) p e x q = absurd (omega arith)
+  scan_gets_yes (Err (error.ListFull m b)) p e x q = absurd (omega arith)
+  scan_gets_yes (Err (error.ModesFull m b)) p e x q = absurd (omega arith)
 
 -- ---- what a yes means
 
@@ -228,6 +231,6 @@ module _ (source table : List ℕ) (edition : ℕ) (list : List ℕ) (count stat
       by_stop_lem reading.stuck e s = stuck_hands source table edition list list count c (read e) (sym g.records) (k.at_stuck s)
       by_stop_lem reading.deep e s = absurd s
 
-  pub yes_hands_out : CheckEnsures source table edition list count status Same → (c : Cursor) → BeginsBy count status c
+  pub yes_hands_out : CheckEnsures source table edition list count status (Ok Same) → (c : Cursor) → BeginsBy count status c
       → HandsOut Whole list (rows source table edition) (rust_stream source table edition) c
-  yes_hands_out p = right_hands_out (only_right source table edition list count status Same p refl)
+  yes_hands_out p = right_hands_out (only_right source table edition list count status (Ok Same) p refl)

@@ -5,7 +5,7 @@
 --     after_a_scan    after an unrefused scan 8 and 9 are never given, the definition's tokens are handed out, and the Rust says the same:
 --                     its `KotoLexer` over its own stream of the source
 -- Assumes nothing.
-use Rattle.std.specs.Prelude.{ℕ, ◌+◌, ◌-◌, ◌<◌, ◌≤◌, ◌≡◌, Bool, true, List, length, get_or, Option, Some, None, Err}
+use Rattle.std.specs.Prelude.{ℕ, ◌+◌, ◌-◌, ◌<◌, ◌≤◌, ◌≡◌, Bool, true, List, length, get_or, Option, Some, None, Err, Ok}
 use Rattle.std.proofs.Common.{add-zero, ap, subst, ◌∙◌, ltb-true, leb-true, lt-ltb, le-leb}
 use native.Mathlib.Omega.{arith}
 use Rattle.std.proofs.Math.Path.{refl, sym}
@@ -25,8 +25,8 @@ use Rattle.reading.specs.Scan.{reading_of, firsts_in, holds_in, ScansIn}
 use Rattle.reading.specs.ShownLaws.{stuck_some}
 use Rattle.reading.specs.FirstsLaws.{firsts_all, firsts_room, firsts_shown}
 use Rattle.reading.specs.WholeLaws.{ReadWhole, end_whole, stuck_whole}
-use Rattle.reading.specs.declared.Scanned.{Scanned}
-use Rattle.reading.specs.declared.Scanned.TheVariants as scanned
+use Rattle.reading.specs.Scan.{Scanned}
+use Rattle.reading.specs.declared.Scan.TheVariants as scan
 use Rattle.cursor.specs.Cursor.{queue_most, fit_by, is_fit, start_cursor, record_at, ahead, moved_on, has_more, must_queue, queued_one}
 use Rattle.cursor.specs.CursorLaws as cursor
 use Rattle.cursor.specs.CursorLaws.{fits_of, fit_of, record_at_lem, record_in, start_fits, queued_fits, taken_held, queued_there}
@@ -347,8 +347,6 @@ module _ {layout : Layout} (source table : List ℕ) (edition : ℕ) (old new : 
 
   pub after_a_scan : (r : Scanned) → ScansIn layout source table edition old r new → (c : Cursor) → BeginsAt r c
       → HandsOut layout new (reading_of source table edition).rows (rust_stream source table edition) c
-  after_a_scan (scanned.End n b) p c e = let w = end_whole source table edition old new n b p in ended_hands n c w.0 w.1 e
-  after_a_scan (scanned.Stuck n b) p c e = let w = stuck_whole source table edition old new n b p in stuck_hands n c w.0 w.1 e
-  after_a_scan (scanned.Refused x) p c e = absurd e
-  after_a_scan (scanned.ListFull n b) p c e = absurd e
-  after_a_scan (scanned.ModesFull n b) p c e = absurd e
+  after_a_scan (Ok (scan.End n b)) p c e = let w = end_whole source table edition old new n b p in ended_hands n c w.0 w.1 e
+  after_a_scan (Ok (scan.Stuck n b)) p c e = let w = stuck_whole source table edition old new n b p in stuck_hands n c w.0 w.1 e
+  after_a_scan (Err x) p c e = absurd e

@@ -1,7 +1,7 @@
 -- The promise of `Profile`, proved, and that no second answer and no second list fits.
 --     scan_profile_promise, scan_profile_has_one_answer
 -- Assumes nothing.
-use Rattle.std.specs.Prelude.{ℕ, ◌<◌, ◌≡◌, refl, List, length}
+use Rattle.std.specs.Prelude.{ℕ, ◌<◌, ◌≡◌, refl, List, Ok, Err, length}
 use Rattle.std.proofs.Common.{arith, sym, subst}
 use Rattle.std.proofs.Math.Path.{ap}
 use Rattle.std.proofs.Math.Bool.{not}
@@ -16,13 +16,15 @@ use Rattle.rows.specs.Row.{room}
 use Rattle.reading.specs.Scan as scan
 use Rattle.reading.specs.Scan.{reading_of, scanned, Scans}
 use Rattle.reading.specs.WholeLaws.{end_whole, stuck_whole}
-use Rattle.reading.specs.declared.Scanned.{Scanned}
-use Rattle.reading.specs.declared.Scanned.TheVariants as answer
+use Rattle.reading.specs.Scan.{Scanned}
+use Rattle.reading.specs.declared.Scan.{Scan}
+use Rattle.reading.specs.declared.Scan.TheVariants.{End, Stuck}
+use Rattle.reading.specs.declared.ScanError.TheVariants.{Refused, ListFull, ModesFull}
 use Rattle.forbidden.specs.Forbidden.{is_allowed, first_forbidden}
 use Rattle.profile.specs.Profile.{judged, profiled_by, Profiles, number_of, place_of}
 use Rattle.profile.proofs.ProfileLaws.{one_answer}
-use Rattle.profile.specs.declared.Profiled.{Profiled}
-use Rattle.profile.specs.declared.Profiled.TheVariants.{Base, NotInProfile}
+use Rattle.profile.specs.Profile.{Profiled}
+use Rattle.profile.specs.declared.ProfileError.TheVariants.{NotInProfile}
 use Rattle.promises.specs.Profile.{Allowed, First, ProfilePromise}
 
 -- a refusal before any work is neither none nor 21
@@ -66,13 +68,13 @@ module _ (source table : List ℕ) (edition : ℕ) where
     none_is all =
         omega (arith, none_bad (is_allowed source table edition) 0 (length (reading_of source table edition).rows) (λ k _ h. ap not (all k (omega arith))))
 
-    judged_base : (s : Scanned) → ((i : ℕ) → i < n → Allowed source table edition i) → judged first n s ≡ Base s
+    judged_base : (s : Scan) → ((i : ℕ) → i < n → Allowed source table edition i) → judged first n s ≡ Ok s
     judged_base s all = rw (none_is all, le-ltb n n (omega arith))
 
-    judged_at : (s : Scanned) (i : ℕ) → First source table edition n i → judged first n s ≡ NotInProfile n i
+    judged_at : (s : Scan) (i : ℕ) → First source table edition n i → judged first n s ≡ Err (NotInProfile n i)
     judged_at s i f = rw (is_it i f, lt-ltb i n f.within)
 
-    judged_only : (s : Scanned) → scan.number_of s ≡ none → number_of (judged first n s) ≡ not_in_profile
+    judged_only : (s : Scan) → scan.number_of (Ok s) ≡ none → number_of (judged first n s) ≡ not_in_profile
         → First source table edition n (place_of (judged first n s))
     judged_only s z =
         by_lt (λ (r : Profiled). number_of r ≡ not_in_profile → First source table edition n (place_of r)) first n (λ h _. found h)
@@ -81,29 +83,29 @@ module _ (source table : List ℕ) (edition : ℕ) where
   module _ (old new : List ℕ) where
     -- by what the scan answers
     promised : (s : Scanned) → Scans source table edition old s new → ProfilePromise source table edition old s (profiled_by first s) new
-    promised (answer.End n b) p =
+    promised (Ok (End n b)) p =
         let c = (end_whole source table edition old new n b p).0.counted in
         record {
           whole = p;
           refused = λ z. absurd (z refl);
-          in_profile = judged_base n c (answer.End n b);
-          not_in_profile_lem = λ _. judged_at n c (answer.End n b);
-          only = λ m. (refl, judged_only n c (answer.End n b) refl m);
+          in_profile = judged_base n c (End n b);
+          not_in_profile_lem = λ _. judged_at n c (End n b);
+          only = λ m. (refl, judged_only n c (End n b) refl m);
         }
-    promised (answer.Stuck n b) p =
+    promised (Ok (Stuck n b)) p =
         let c = (stuck_whole source table edition old new n b p).0.counted in
         record {
           whole = p;
           refused = λ z. absurd (z refl);
-          in_profile = judged_base n c (answer.Stuck n b);
-          not_in_profile_lem = λ _. judged_at n c (answer.Stuck n b);
-          only = λ m. (refl, judged_only n c (answer.Stuck n b) refl m);
+          in_profile = judged_base n c (Stuck n b);
+          not_in_profile_lem = λ _. judged_at n c (Stuck n b);
+          only = λ m. (refl, judged_only n c (Stuck n b) refl m);
         }
-    promised (answer.Refused x) p =
+    promised (Err (Refused x)) p =
         record { whole = p; refused = λ _. refl; in_profile = λ _. refl; not_in_profile_lem = λ z. absurd (no x z); only = λ m. absurd (other x m) }
-    promised (answer.ListFull n b) p =
+    promised (Err (ListFull n b)) p =
         record { whole = p; refused = λ _. refl; in_profile = λ _. refl; not_in_profile_lem = λ z. absurd (omega arith); only = λ m. absurd (omega arith) }
-    promised (answer.ModesFull n b) p =
+    promised (Err (ModesFull n b)) p =
         record { whole = p; refused = λ _. refl; in_profile = λ _. refl; not_in_profile_lem = λ z. absurd (omega arith); only = λ m. absurd (omega arith) }
 
     -- s is what the scan of the same list answers, and the list is the one that it leaves

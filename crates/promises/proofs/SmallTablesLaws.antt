@@ -1,6 +1,6 @@
 -- The promise of `SmallTables`, proved: `small_tables_promise`, and `small_tables_pad` of padding.
 -- Assumes nothing.
-use Rattle.std.specs.Prelude.{ℕ, suc, ◌-◌, ◌<◌, ◌≡◌, refl, List, [], ◌∷◌, ltb, length, get_or, take}
+use Rattle.std.specs.Prelude.{ℕ, Err, suc, ◌-◌, ◌<◌, ◌≡◌, refl, List, [], ◌∷◌, ltb, length, get_or, take}
 use Rattle.std.proofs.Common.{arith, sym, ap, ◌∙◌}
 use Rattle.base.specs.Pick.{pick}
 use Rattle.utf8.specs.Chars.{chars}
@@ -11,24 +11,24 @@ use Rattle.rows.specs.Row.{room, copy_rows, put_rows_at}
 use Rattle.state.specs.declared.State.{State}
 use Rattle.reading.specs.Scan.{by_room, scanned, Scans}
 use Rattle.reading.specs.ScanLaws as scan
-use Rattle.reading.specs.declared.Scanned.TheVariants.{Refused}
+use Rattle.reading.specs.declared.ScanError.TheVariants.{Refused}
 use Rattle.forbidden.specs.Forbidden.{first_forbidden}
 use Rattle.profile.specs.Profile.{profiled_by, Profiles}
 use Rattle.profile.proofs.ProfileLaws as profile
 use Rattle.profile.proofs.ProfileLaws.{profiled_same}
-use Rattle.profile.specs.declared.Profiled.{Profiled}
+use Rattle.profile.specs.Profile.{Profiled}
 use Rattle.foreign.specs.Check.{by_reading, list_checked}
-use Rattle.foreign.specs.declared.Checked.TheVariants as checked
-use Rattle.foreign.specs.declared.Checked.TheVariants.{BadState}
+use Rattle.foreign.specs.declared.CheckError.TheVariants as check
+use Rattle.foreign.specs.declared.CheckError.TheVariants.{BadState}
 use Rattle.kept.specs.Kept.{resumed}
 use Rattle.edit.specs.Edit.{start_of_line}
 use Rattle.edit.specs.declared.Edit.{Edit}
 use Rattle.keep.specs.Keep.{row_before, kept_rows}
 use Rattle.rescan.specs.Rescan.{within, on_old, Rescans}
 use Rattle.rescan.proofs.RescanLaws as rescan
-use Rattle.rescan.specs.declared.Rescanned.{Rescanned}
-use Rattle.rescan.specs.declared.Rescanned.TheVariants as rescanned
-use Rattle.rescan.specs.declared.Rescanned.TheVariants.{AsScan, BadEdit}
+use Rattle.rescan.specs.Rescan.{Rescanned, as_scan}
+use Rattle.rescan.specs.declared.RescanError.TheVariants as error
+use Rattle.rescan.specs.declared.RescanError.TheVariants.{BadEdit}
 use Rattle.parse.specs.CallLaws as parse
 use Rattle.agree.specs.ScanLaws.{on_rest_agrees, on_reading_agrees, scan_agrees}
 use Rattle.agree_text.specs.ParseLaws.{parses_agree}
@@ -60,8 +60,8 @@ module _ (bytes t u : List ℕ) (edition : ℕ) (fit : BothFit t u) (same : Same
   check_agrees : (list : List ℕ) (count status : ℕ) → list_checked bytes t edition list count status ≡ list_checked bytes u edition list count status
   unfolding list_checked
   check_agrees list count status =
-      on_reading_agrees bytes t u edition fit.0 fit.1 agree checked.Refused
-      (λ reading. pick (ltb (room list) count) BadState (by_reading list count status reading))
+      on_reading_agrees bytes t u edition fit.0 fit.1 agree (λ x. Err (check.Refused x))
+      (λ reading. pick (ltb (room list) count) (Err BadState) (by_reading list count status reading))
 
   -- and a rescan, of what is left to read behind the kept records
   rescan_agrees : (source from : List ℕ) (count : ℕ) (e : Edit) (list new : List ℕ) (r : Rescanned)
@@ -71,9 +71,9 @@ module _ (bytes t u : List ℕ) (edition : ℕ) (fit : BothFit t u) (same : Same
       let behind : State = resumed (row_before from k) in
       record {
         answer = p.answer
-            ∙ on_rest_agrees bytes t u edition fit.0 fit.1 agree (λ x. AsScan (Refused x)) behind
-            (λ rest. on_old source from count e bytes t edition BadEdit rescanned.BadState
-            (AsScan (by_room (room list) k (row_before from (within list k)).end rest)));
+            ∙ on_rest_agrees bytes t u edition fit.0 fit.1 agree (λ x. Err (error.Scan (Refused x))) behind
+            (λ rest. on_old source from count e bytes t edition (Err BadEdit) (Err error.BadState)
+            (as_scan (by_room (room list) k (row_before from (within list k)).end rest)));
         words = p.words
             ∙ on_rest_agrees bytes t u edition fit.0 fit.1 agree (λ x. list) behind
             (λ rest. on_old source from count e bytes t edition list list (put_rows_at (copy_rows (within list k) from list) k (take (room list - k) rest.rows)));

@@ -17,8 +17,8 @@ use Rattle.parse.specs.declared.Parsed.{Parsed}
 use Rattle.parse.specs.declared.ParseError.{ParseError}
 use Rattle.parse.specs.declared.ParseError.TheVariants.{FormatNumberIsTooLarge, UnexpectedToken}
 use Rattle.reading.specs.Scan.{scanned, written}
-use Rattle.reading.specs.declared.Scanned.{Scanned}
-use Rattle.reading.specs.declared.Scanned.TheVariants.{End, Stuck}
+use Rattle.reading.specs.Scan.{Scanned}
+use Rattle.reading.specs.declared.Scan.TheVariants.{End, Stuck}
 
 -- ---- what a case is
 
@@ -106,21 +106,21 @@ row kind detail start end startLine startColumn endLine endColumn indent depth =
 abbrev pub cases : List Case
 cases =
     -- the empty source
-    scans [] (End 0 0) []
+    scans [] (Ok (End 0 0)) []
     -- "\r": an Error that stands still
-    ∷ scans (13 ∷ []) (Stuck 1 0) (row error 0 0 0 0 0 0 0 0 0 ∷ [])
-    ∷ scans (bytes "#-#") (End 1 3) (row comment_multi 0 0 3 0 0 0 3 0 0 ∷ [])
+    ∷ scans (13 ∷ []) (Ok (Stuck 1 0)) (row error 0 0 0 0 0 0 0 0 0 ∷ [])
+    ∷ scans (bytes "#-#") (Ok (End 1 3)) (row comment_multi 0 0 3 0 0 0 3 0 0 ∷ [])
     -- a raw string with no hashes has detail 2
-    ∷ scans (bytes "r\"\"") (End 3 3)
+    ∷ scans (bytes "r\"\"") (Ok (End 3 3))
     (row string_start 2 0 2 0 0 0 2 0 0 ∷ row string_literal 0 2 2 0 2 0 2 0 1 ∷ row string_end 0 2 3 0 2 0 3 0 1 ∷ [])
-    ∷ scans (bytes "else iffy") (End 2 9) (row else_if 0 0 7 0 0 0 7 0 0 ∷ row id 0 7 9 0 7 0 9 0 0 ∷ [])
+    ∷ scans (bytes "else iffy") (Ok (End 2 9)) (row else_if 0 0 7 0 0 0 7 0 0 ∷ row id 0 7 9 0 7 0 9 0 0 ∷ [])
     -- behind a dot "if" is a name, and "else" is not
-    ∷ scans (bytes "x.if") (End 3 4) (row id 0 0 1 0 0 0 1 0 0 ∷ row dot 0 1 2 0 1 0 2 0 0 ∷ row id 0 2 4 0 2 0 4 0 0 ∷ [])
-    ∷ scans (bytes "x.else") (End 3 6) (row id 0 0 1 0 0 0 1 0 0 ∷ row dot 0 1 2 0 1 0 2 0 0 ∷ row else 0 2 6 0 2 0 6 0 0 ∷ [])
+    ∷ scans (bytes "x.if") (Ok (End 3 4)) (row id 0 0 1 0 0 0 1 0 0 ∷ row dot 0 1 2 0 1 0 2 0 0 ∷ row id 0 2 4 0 2 0 4 0 0 ∷ [])
+    ∷ scans (bytes "x.else") (Ok (End 3 6)) (row id 0 0 1 0 0 0 1 0 0 ∷ row dot 0 1 2 0 1 0 2 0 0 ∷ row else 0 2 6 0 2 0 6 0 0 ∷ [])
     -- U+6F22 U+5B57: the first letter of a name counts one column, whatever its width
-    ∷ scans (0xe6 ∷ 0xbc ∷ 0xa2 ∷ 0xe5 ∷ 0xad ∷ 0x97 ∷ []) (End 1 6) (row id 0 0 6 0 0 0 3 0 0 ∷ [])
+    ∷ scans (0xe6 ∷ 0xbc ∷ 0xa2 ∷ 0xe5 ∷ 0xad ∷ 0x97 ∷ []) (Ok (End 1 6)) (row id 0 0 6 0 0 0 3 0 0 ∷ [])
     -- U+20AC: an unknown symbol advances one byte, and inside a character nothing is left to read
-    ∷ scans (0xe2 ∷ 0x82 ∷ 0xac ∷ []) (End 1 1) (row error 0 0 1 0 0 0 1 0 0 ∷ [])
+    ∷ scans (0xe2 ∷ 0x82 ∷ 0xac ∷ []) (Ok (End 1 1)) (row error 0 0 1 0 0 0 1 0 0 ∷ [])
     -- no format options: all defaults
     ∷ parses [] (plain None None None) []
     -- a dot with nothing after it is a fill

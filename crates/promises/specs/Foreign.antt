@@ -18,8 +18,8 @@ use Rattle.cursor.specs.declared.Cursor.{Cursor}
 use Rattle.cursor.specs.declared.Status.TheVariants.{End, Stuck}
 use Rattle.foreign.specs.Check.{list_checked, number_of, place_of}
 use Rattle.foreign.specs.ApartLaws.{StatusIs}
-use Rattle.foreign.specs.declared.Checked.{Checked}
-use Rattle.foreign.specs.declared.Checked.TheVariants.{Same, Differs}
+use Rattle.foreign.specs.Check.{Checked}
+use Rattle.foreign.specs.declared.Comparison.TheVariants.{Same, Differs}
 use Rattle.promises.specs.Said.{Said, says}
 use Rattle.promises.specs.Scan.{Readable, rows, stop}
 
@@ -69,17 +69,17 @@ module _ (source table : List ℕ) (edition : ℕ) (list : List ℕ) (count stat
     pub modes_full_lem : Readable source table edition → count ≤ room list → stop source table edition ≡ reading.deep
         → check_says r ≡ says modes_full (end_of 0 (rows source table edition))
     -- yes, exactly where it is right
-    pub right : Right → r ≡ Same
-    pub only_right : r ≡ Same → Right
+    pub right : Right → r ≡ Ok Same
+    pub only_right : r ≡ Ok Same → Right
     -- no: the first record that differs
     pub first_record : Taken → (i : ℕ) → i < count → i < length (rows source table edition) → Agrees i
-        → ((d : Row) → is_row list i (get_or (rows source table edition) i d) ≡ false) → r ≡ Differs i
+        → ((d : Row) → is_row list i (get_or (rows source table edition) i d) ≡ false) → r ≡ Ok (Differs i)
     -- or the smaller count, where only length or status differ
-    pub fewer : Taken → Agrees count → count < length (rows source table edition) → r ≡ Differs count
+    pub fewer : Taken → Agrees count → count < length (rows source table edition) → r ≡ Ok (Differs count)
     pub more : Taken → Agrees (length (rows source table edition)) → length (rows source table edition) < count
-        → r ≡ Differs (length (rows source table edition))
+        → r ≡ Ok (Differs (length (rows source table edition)))
     pub other_status : Taken → Agrees count → count ≡ length (rows source table edition) → (StatusIs (stop source table edition) status → ⊥)
-        → r ≡ Differs count
+        → r ≡ Ok (Differs count)
     -- 3 and 15 are given nowhere else
     pub only_bad : number_of r ≡ bad_utf8 → Damaged source (place_of r)
     pub only_cut : number_of r ≡ cut_utf8 → Arriving source (place_of r)

@@ -5,7 +5,7 @@ use Rattle.std.specs.Prelude.{ℕ, ◌*◌, ◌<◌, ◌≡◌, List, drop}
 use Rattle.layout.specs.Layout.{words_in, room_in, row_in}
 use Rattle.layout.specs.declared.Layout.TheVariants.{Whole, Half}
 use Rattle.reading.specs.Scan.{Scans, ScansIn, count_of}
-use Rattle.reading.specs.declared.Scanned.{Scanned}
+use Rattle.reading.specs.Scan.{Scanned}
 use Rattle.cursor.specs.declared.Cursor.{Cursor}
 use Rattle.promises.specs.Lookahead.{NextEnsures, PeekEnsures}
 use Rattle.promises.specs.Look.{LookAheadEnsures}

@@ -1,7 +1,7 @@
 -- The promise of `Half`, proved: `half_promise`.
 -- Assumes nothing.
-use Rattle.std.specs.Prelude.{ℕ, ◌*◌, ◌≤◌, ◌<◌, ◌≡◌, refl, List, length, get_or, take, drop, Option, Some, Result, Err}
 use Rattle.std.specs.declared.result.Result.TheVariants as result
+use Rattle.std.specs.Prelude.{ℕ, ◌*◌, ◌≤◌, ◌<◌, ◌≡◌, refl, List, length, get_or, take, drop, Option, Some, Result, Err}
 use Rattle.std.proofs.Common.{arith, sym, ap, subst, ◌∙◌, take_all, length-take-le}
 use Rattle.base.specs.PickLaws.{split_lt}
 use Rattle.base.specs.Refusal.{source_most}
@@ -20,8 +20,8 @@ use Rattle.reading.specs.Reading.{Reading}
 use Rattle.reading.specs.Scan.{reading_of, scanned, written, firsts_in, count_of}
 use Rattle.reading.specs.ScanLaws.{room_writes, scans_refused, one_answer}
 use Rattle.reading.specs.FirstsLaws.{firsts_room, firsts_rest, firsts_row, firsts_shown}
-use Rattle.reading.specs.declared.Scanned.{Scanned}
-use Rattle.reading.specs.declared.Scanned.TheVariants.{Refused}
+use Rattle.reading.specs.Scan.{Scanned}
+use Rattle.reading.specs.declared.ScanError.TheVariants.{Refused}
 use Rattle.lookahead.specs.Next.{next_of}
 use Rattle.lookahead.specs.Peek.{peek_of}
 use Rattle.lookahead.specs.LookAhead.{look_ahead_of}
@@ -103,8 +103,8 @@ module _ {source table : List ℕ} {edition : ℕ} {old half : List ℕ} {r q : 
   -- a refusal before any work
   lists_refused : {x : Refusal} → input_check source_most source table edition ≡ Err x → Lists
   lists_refused {x} e =
-      let one = one_answer source table edition old r (Refused x) new old b.whole (scans_refused e) in
-      let two = one_answer source table edition half q (Refused x) other half b.halves (scans_refused e) in
+      let one = one_answer source table edition old r (Err (Refused x)) new old b.whole (scans_refused e) in
+      let two = one_answer source table edition half q (Err (Refused x)) other half b.halves (scans_refused e) in
       let none : count_of r ≡ 0 = ap count_of one.0 in
       record {
         alike = subst (Alike new other) (sym none) (alike_none new other (ap (room_in Half) two.1 ∙ sym b.same_room ∙ ap (room_in Whole) (sym one.1)));

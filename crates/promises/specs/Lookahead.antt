@@ -1,13 +1,13 @@
 -- The promises of `lookahead::next` and `lookahead::peek` over a list in either layout, case by case in document 01's order, and what the two say
 -- after a scan.
 -- Assumes nothing.
-use Rattle.std.specs.Prelude.{ℕ, ◌+◌, ◌-◌, ◌<◌, ◌≤◌, ◌≡◌, true, false, List, length, get_or, Option, Some, None, Ok}
+use Rattle.std.specs.Prelude.{ℕ, ◌+◌, ◌-◌, ◌<◌, ◌≤◌, ◌≡◌, true, false, List, length, get_or, Option, Some, None, Ok, Err}
 use Rattle.base.specs.Refusal.{peek_too_far, queue_full, bad_state, bad_record}
 use Rattle.layout.specs.Layout.{room_in, row_in, fits_in, shown_in}
 use Rattle.layout.specs.declared.Layout.{Layout}
 use Rattle.rows.specs.declared.Row.{Row}
-use Rattle.reading.specs.declared.Scanned.{Scanned}
-use Rattle.reading.specs.declared.Scanned.TheVariants as scanned
+use Rattle.reading.specs.Scan.{Scanned}
+use Rattle.reading.specs.declared.Scan.TheVariants as scan
 use Rattle.cursor.specs.Cursor.{queue_most, start_cursor, ahead}
 use Rattle.lookahead.specs.Next as ofNext
 use Rattle.lookahead.specs.Next.{next_of, Given, handed}
@@ -120,11 +120,9 @@ UnrefusedOn layout list count = Unrefused (room_in layout list) (shown_in layout
 
 -- the cursor to begin with, where the scan was not refused
 abbrev pub BeginsAt : Scanned → Cursor → Type 0
-BeginsAt (scanned.End n b) c = c ≡ start_cursor n End
-BeginsAt (scanned.Stuck n b) c = c ≡ start_cursor n Stuck
-BeginsAt (scanned.Refused x) c = ⊥
-BeginsAt (scanned.ListFull n b) c = ⊥
-BeginsAt (scanned.ModesFull n b) c = ⊥
+BeginsAt (Ok (scan.End n b)) c = c ≡ start_cursor n End
+BeginsAt (Ok (scan.Stuck n b)) c = c ≡ start_cursor n Stuck
+BeginsAt (Err e) c = ⊥
 
 -- this number is 6 exactly where the Rust's subtraction underflows
 abbrev pub TooFarIs : ℕ → ℕ → KotoLexer → Type 0

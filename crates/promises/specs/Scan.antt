@@ -13,8 +13,8 @@ use Rattle.layout.specs.Layout.{room_in}
 use Rattle.layout.specs.declared.Layout.{Layout}
 use Rattle.reading.specs.Reading as reading
 use Rattle.reading.specs.Scan.{end_of, reading_of, firsts_in, number_of, place_of, count_of}
-use Rattle.reading.specs.declared.Scanned.{Scanned}
-use Rattle.reading.specs.declared.Scanned.TheVariants as answer
+use Rattle.reading.specs.Scan.{Scanned}
+use Rattle.reading.specs.declared.Scan.TheVariants as answer
 use Rattle.promises.specs.Said.{Said, says}
 
 -- ---- what a scan says
@@ -26,11 +26,9 @@ pub data Status : Type 0 where
   refused : Status
 
 abbrev pub status_of : Scanned → Status
-status_of (answer.End n b) = end
-status_of (answer.Stuck n b) = stuck
-status_of (answer.Refused x) = refused
-status_of (answer.ListFull n b) = refused
-status_of (answer.ModesFull n b) = refused
+status_of (Ok (answer.End n b)) = end
+status_of (Ok (answer.Stuck n b)) = stuck
+status_of (Err e) = refused
 
 -- the status, the count of records written, and the number and its place; the place is the current byte where there is no refusal
 pub record ScanSaid : Type 0 where

@@ -3,7 +3,7 @@
 --     scan_same_in_more_room    a list with more room gets the same records and the same answer, unless there was too little
 --     count_is_written          the count is that of the records written
 -- Assumes nothing.
-use Rattle.std.specs.Prelude.{ℕ, ◌+◌, ◌-◌, ◌<◌, ◌≤◌, ◌≡◌, refl, List, ltb, length, take}
+use Rattle.std.specs.Prelude.{ℕ, ◌+◌, ◌-◌, ◌<◌, ◌≤◌, ◌≡◌, refl, List, Err, ltb, length, take}
 use Rattle.std.proofs.Common.{arith, sym, ap, subst, ◌∙◌, take_all, length-take-le, lt-ltb, le-ltb}
 use Rattle.base.specs.PickLaws.{by_test, by_lt, split_lt}
 use Rattle.base.specs.Refusal.{bad_utf8, cut_utf8, list_full, source_most}
@@ -20,8 +20,8 @@ use Rattle.layout.specs.declared.Layout.TheVariants.{Whole, Half}
 use Rattle.reading.specs.Reading as reading
 use Rattle.reading.specs.Scan.{marked_rows, end_of, whole, by_room, puts_in, reading_of, scanned, written_by, written, firsts_in, Scans, ScansIn, number_of, place_of, count_of}
 use Rattle.reading.specs.ScanLaws.{scans_refused, scans_fine, one_answer}
-use Rattle.reading.specs.declared.Scanned.{Scanned}
-use Rattle.reading.specs.declared.Scanned.TheVariants as answer
+use Rattle.reading.specs.Scan.{Scanned}
+use Rattle.reading.specs.declared.ScanError.TheVariants as error
 use Rattle.promises.specs.Scan.{scan_says, Readable, rows, stop, ScanPromise}
 
 -- ---- by the room
@@ -34,15 +34,15 @@ module _ (n : ℕ) (q : reading.Reading) where
   all_fit : length q.rows ≤ n → by_room n 0 0 q ≡ whole n (length q.rows) (end_of 0 q.rows) q.stop
   all_fit h = rw (none_before (length q.rows), le-ltb n (length q.rows) h)
 
-  not_all_fit : n < length q.rows → by_room n 0 0 q ≡ answer.ListFull n (end_of 0 (take n q.rows))
+  not_all_fit : n < length q.rows → by_room n 0 0 q ≡ Err (error.ListFull n (end_of 0 (take n q.rows)))
   not_all_fit h = let z : n - 0 ≡ n = omega arith in rw (none_before (length q.rows), lt-ltb n (length q.rows) h, z)
 
 -- a token is left that would push a 65th mode: 4 where its record has no room, and else 5
 module _ (n k b : ℕ) where
-  no_room_lem : k ≡ n → whole n k b reading.deep ≡ answer.ListFull n b
+  no_room_lem : k ≡ n → whole n k b reading.deep ≡ Err (error.ListFull n b)
   no_room_lem e = rw (le-ltb k n (omega arith), e)
 
-  has_room : k < n → whole n k b reading.deep ≡ answer.ModesFull k b
+  has_room : k < n → whole n k b reading.deep ≡ Err (error.ModesFull k b)
   has_room h = rw (lt-ltb k n h)
 
 -- a reading gets no refusal but 4 and 5
@@ -64,13 +64,13 @@ module _ (source table : List ℕ) (edition n : ℕ) where
   bad_only : number_of (scanned source table edition n) ≡ bad_utf8 → Damaged source (place_of (scanned source table edition n))
   unfolding scanned
   bad_only =
-      only_bad source_most source table edition answer.Refused number_of place_of (by_room n 0 0 (reading_of source table edition)) (λ x. refl) (λ x. refl)
+      only_bad source_most source table edition (λ x. Err (error.Refused x)) number_of place_of (by_room n 0 0 (reading_of source table edition)) (λ x. refl) (λ x. refl)
       (works n (reading_of source table edition)).0
 
   cut_only : number_of (scanned source table edition n) ≡ cut_utf8 → Arriving source (place_of (scanned source table edition n))
   unfolding scanned
   cut_only =
-      only_cut source_most source table edition answer.Refused number_of place_of (by_room n 0 0 (reading_of source table edition)) (λ x. refl) (λ x. refl)
+      only_cut source_most source table edition (λ x. Err (error.Refused x)) number_of place_of (by_room n 0 0 (reading_of source table edition)) (λ x. refl) (λ x. refl)
       (works n (reading_of source table edition)).1
 
 -- ---- the promise
@@ -148,7 +148,7 @@ counted : (source table : List ℕ) (edition n : ℕ) → count_of (scanned sour
 unfolding scanned written
 counted source table edition n =
     let q : reading.Reading = reading_of source table edition in
-    by_input_lem answer.Refused (λ (g : Scanned → Scanned). Counts n q (g (by_room n 0 0 q))) (input_check source_most source table edition) (λ _. refl)
+    by_input_lem (λ x. Err (error.Refused x)) (λ (g : Scanned → Scanned). Counts n q (g (by_room n 0 0 q))) (input_check source_most source table edition) (λ _. refl)
     (room_counts n q)
 
 pub count_is_written : (source table : List ℕ) (edition : ℕ) (old : List ℕ) (r : Scanned) (new : List ℕ) → Scans source table edition old r new
@@ -175,14 +175,14 @@ module _ (m n : ℕ) (le : m ≤ n) (q : reading.Reading) where
       stops k b reading.stuck e = λ _. (refl, e)
       stops k b reading.deep e =
           by_lt (λ (x : Scanned). Agree x (whole n k b reading.deep)) k m
-          (λ h. subst (Agree (answer.ModesFull k b)) (sym (has_room n k b (omega arith))) (λ _. (refl, e))) (λ _ full. absurd (full refl))
+          (λ h. subst (Agree (Err (error.ModesFull k b))) (sym (has_room n k b (omega arith))) (λ _. (refl, e))) (λ _ full. absurd (full refl))
 
 module _ (source table : List ℕ) (edition m n : ℕ) (le : m ≤ n) where
   agree : Agree m n le (reading_of source table edition) (scanned source table edition m) (scanned source table edition n)
   unfolding scanned
   agree =
       let q : reading.Reading = reading_of source table edition in
-      by_input_lem answer.Refused (λ (g : Scanned → Scanned). Agree m n le q (g (by_room m 0 0 q)) (g (by_room n 0 0 q)))
+      by_input_lem (λ x. Err (error.Refused x)) (λ (g : Scanned → Scanned). Agree m n le q (g (by_room m 0 0 q)) (g (by_room n 0 0 q)))
       (input_check source_most source table edition) (λ x _. (refl, refl)) (room_agrees m n le q)
 
   same_rows : (number_of (scanned source table edition m) ≡ list_full → ⊥) → written source table edition n ≡ written source table edition m

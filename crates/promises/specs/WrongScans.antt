@@ -1,12 +1,12 @@
 -- Document 01, "One answer to each call": the wrong scans that the contract must shut out. Each is a property that a scan may have,
 -- whatever else it does; `WrongScansLaws` proves that none which meets the contract has it.
 -- Assumes nothing.
-use Rattle.std.specs.Prelude.{ℕ, ◌<◌, ◌≡◌, List, length}
+use Rattle.std.specs.Prelude.{ℕ, ◌<◌, ◌≡◌, List, Ok, length}
 use Rattle.base.specs.Refusal.{none}
 use Rattle.rows.specs.Row.{room}
 use Rattle.reading.specs.Scan.{written, Scans, number_of, place_of, count_of}
-use Rattle.reading.specs.declared.Scanned.{Scanned}
-use Rattle.reading.specs.declared.Scanned.TheVariants.{Stuck}
+use Rattle.reading.specs.Scan.{Scanned}
+use Rattle.reading.specs.declared.Scan.TheVariants.{Stuck}
 
 -- a scan: from a source, a table, an edition and a list, an answer and the list after it
 abbrev pub Scan : Type 0
@@ -32,7 +32,7 @@ WritesNothing f = (source table : List ℕ) (edition : ℕ) (old : List ℕ) →
 abbrev pub FirstTokenThenStuck : Scan → Type 0
 FirstTokenThenStuck f =
     (source table : List ℕ) (edition : ℕ) (old : List ℕ) → 1 < length (written source table edition (room old))
-    → (f source table edition old).0 ≡ Stuck 1 (place_of (f source table edition old).0)
+    → (f source table edition old).0 ≡ Ok (Stuck 1 (place_of (f source table edition old).0))
 
 -- a count of records not written, for some source, table, edition and list
 pub record CountsRecordsNotWritten (f : Scan) : Type 0 where

@@ -8,8 +8,8 @@ ghost use Rattle.rows.specs.Row.{room};
 ghost use Rattle.reading.specs.Scan.{count_of};
 
 use lines::Fields;
-use reading::Scanned;
 use reading::answer::{count_of, number_of, place_of};
+use reading::{Scan, ScanError};
 use rows::Row;
 
 // What stands in a list before a scan. As a record it would have kind 112, so no scan writes it.
@@ -28,11 +28,11 @@ fn stays(list: &[u32], from: usize) -> bool {
 }
 
 // A line's status: 0 at the end, 1 where stuck, 100 and the refusal's number.
-fn status_of(said: Scanned) -> usize {
+fn status_of(said: Result<Scan, ScanError>) -> usize {
     match said {
-        Scanned::End { count: _, byte: _ } => 0,
-        Scanned::Stuck { count: _, byte: _ } => 1,
-        _ => 100 + number_of(said) as usize,
+        Ok(Scan::End { .. }) => 0,
+        Ok(Scan::Stuck { .. }) => 1,
+        Err(_) => 100 + number_of(said) as usize,
     }
 }
 
@@ -64,13 +64,13 @@ fn same_rows(fields: &mut Fields, list: &[u32], count: usize) -> bool
 }
 
 // Whether the next fields are the status, the count and the byte of an answer.
-fn same_answer(fields: &mut Fields, said: Scanned) -> bool {
+fn same_answer(fields: &mut Fields, said: Result<Scan, ScanError>) -> bool {
     fields.same(status_of(said)) && fields.same(count_of(said)) && fields.same(place_of(said))
 }
 
 // Whether the fields `STATUS COUNT BYTE RECORDS..` are what a scan said and wrote into a list of marks, and marks stand behind the records. A
 // list that has no room for the records counted agrees with nothing.
-pub fn agrees(mut fields: Fields, said: Scanned, list: &[u32]) -> bool
+pub fn agrees(mut fields: Fields, said: Result<Scan, ScanError>, list: &[u32]) -> bool
     ensures { result ≡ true → count_of said ≤ room list.now }
 {
     let count = count_of(said);

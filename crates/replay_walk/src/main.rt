@@ -5,7 +5,7 @@
 
 use cursor::{Cursor, Status};
 use lines::Fields;
-use reading::Scanned;
+use reading::{Scan, ScanError};
 use rows::Row;
 use std::io;
 use walking::Refusal;
@@ -36,15 +36,15 @@ fn walk_agrees(mut fields: Fields, list: &[u32], start: Cursor) -> bool {
 }
 
 // The same over the list of a scan. No line has a source that a scan refuses.
-fn scan_agrees(fields: Fields, list: &[u32], scanned: Scanned) -> bool {
+fn scan_agrees(fields: Fields, list: &[u32], scanned: Result<Scan, ScanError>) -> bool {
     match scanned {
-        Scanned::End { count, byte: _ } => {
+        Ok(Scan::End { count, .. }) => {
             walk_agrees(fields, list, walking::start(count, Status::End))
         }
-        Scanned::Stuck { count, byte: _ } => {
+        Ok(Scan::Stuck { count, .. }) => {
             walk_agrees(fields, list, walking::start(count, Status::Stuck))
         }
-        _ => false,
+        Err(_) => false,
     }
 }
 

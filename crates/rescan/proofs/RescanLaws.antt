@@ -1,12 +1,12 @@
 -- What the code uses of a rescan, and that no second answer fits it.
 --     kept_ok                                               reading may go on behind the kept records, whoever made the list
 --     kind_low, behind_short, behind_long                   records that do not all have room, and records that have
---     is_bad_edit, is_bad_state, is_behind                  where the new source was not refused
+--     is_bad_edit, is_bad_state, is_behind, is_behind_by    where the new source was not refused
 --     is_refused, is_readable                               the whole
 --     one_answer                                            no second answer and no second list
 -- Assumes nothing.
+use Rattle.std.specs.Prelude as result
 use Rattle.std.specs.Prelude.{ℕ, zero, suc, ◌+◌, ◌-◌, ◌≤◌, ◌<◌, ◌≡◌, refl, true, false, List, length, take, drop, Err}
-use Rattle.std.specs.declared.result.Result.TheVariants as result
 use Rattle.std.proofs.Common.{arith, sym, ap, subst, ◌∙◌, length-take-le, lt-ltb, le-ltb}
 use Rattle.base.specs.PickLaws.{by_lt}
 use Rattle.base.specs.Refusal.{source_most}
@@ -23,8 +23,8 @@ use Rattle.stepping.specs.Invariant.{Ok}
 use Rattle.stepping.specs.InvariantLaws.{start_ok_lem}
 use Rattle.reading.specs.Reading.{Reading}
 use Rattle.reading.specs.Scan.{end_of, by_room, Fills, ReadsOn}
-use Rattle.reading.specs.declared.Scanned.{Scanned}
-use Rattle.reading.specs.declared.Scanned.TheVariants.{Refused, ListFull}
+use Rattle.reading.specs.Scan.{Scanned}
+use Rattle.reading.specs.declared.ScanError.TheVariants.{Refused, ListFull}
 use Rattle.line.specs.Line.{line}
 use Rattle.kept.specs.Kept.{resumed}
 use Rattle.kept.proofs.RescanLaws.{resumes_in, source_line}
@@ -34,8 +34,8 @@ use Rattle.edit.specs.declared.Edit.{Edit}
 use Rattle.keep.specs.Keep.{no_row, row_before, kept_rows, Keeps}
 use Rattle.keep.specs.KeepLaws.{keeps_of, keeps_within, last_is, over_some, link_forward}
 use Rattle.rescan.specs.Rescan.{within, read_behind, ReadsBehind, kept, rest, Rescans, RescansReadable}
-use Rattle.rescan.specs.declared.Rescanned.{Rescanned}
-use Rattle.rescan.specs.declared.Rescanned.TheVariants.{AsScan, BadEdit, BadState}
+use Rattle.rescan.specs.Rescan.{Rescanned, as_scan}
+use Rattle.rescan.specs.declared.RescanError.TheVariants.{BadEdit, BadState}
 
 -- before the first record, the state is the start
 from_start : resumed no_row ≡ start_state
@@ -85,23 +85,23 @@ within_room list k =
 
 -- a list that has no room for record k is not written to
 fills_over : (l : List ℕ) (k b : ℕ) (rd : Reading) → room l < k → {n c : ℕ} {new : List ℕ} → n ≡ room l → new ≡ l → c ≡ b
-    → Fills l k b rd (ListFull n c) new
+    → Fills l k b rd (result.Err (ListFull n c)) new
 unfolding end_of
 fills_over l k b rd h {n} {c} {new} m e d =
     let z : room l - k ≡ 0 = omega arith in
     record {
-      answer = rw (lt-ltb (room l) (k + length rd.rows) (omega arith), z) (λ i. ListFull (m i) (d i));
+      answer = rw (lt-ltb (room l) (k + length rd.rows) (omega arith), z) (λ i. result.Err (ListFull (m i) (d i)));
       words = e ∙ sym (ap (λ (x : ℕ). put_rows_at l k (take x rd.rows)) z ∙ puts_none l k);
     }
 
 module _ (look : ℕ → ℕ) (edition : ℕ) (t from : List ℕ) (k : ℕ) (list : List ℕ) where
   -- they do not all have room
   pub behind_short : k ≤ room from → room list < k → {n : ℕ} {row : Row} {new : List ℕ} → n ≡ room list → new ≡ copy_rows n from list
-      → row ≡ row_before from n → ReadsBehind look edition t from k list (ListFull n row.end) new
+      → row ≡ row_before from n → ReadsBehind look edition t from k list (result.Err (ListFull n row.end)) new
   behind_short h o {n} {row} {new} e c q =
       let w : within list k ≡ n = rw (lt-ltb (room list) k o) (sym e) in
       let same : room (copy_rows n from list) ≡ room list = copy_room n from list (omega arith) (omega arith) in
-      subst (λ (m : ℕ). Fills (copy_rows m from list) k (row_before from m).end (read_behind look edition t from k) (ListFull n row.end) new) (sym w)
+      subst (λ (m : ℕ). Fills (copy_rows m from list) k (row_before from m).end (read_behind look edition t from k) (result.Err (ListFull n row.end)) new) (sym w)
       (fills_over (copy_rows n from list) k (row_before from n).end (read_behind look edition t from k) (omega arith) (e ∙ sym same) c
       (ap (λ (r : Row). r.end) q))
 
@@ -117,15 +117,15 @@ module _ (look : ℕ → ℕ) (edition : ℕ) (t from : List ℕ) (k : ℕ) (lis
 -- ---- the call
 
 module _ {s from : List ℕ} {count : ℕ} {e : Edit} {t table : List ℕ} {edition : ℕ} {list : List ℕ} where
-  pub is_bad_edit : edit_fits s e t ≡ false → RescansReadable s from count e t table edition list BadEdit list
+  pub is_bad_edit : edit_fits s e t ≡ false → RescansReadable s from count e t table edition list (result.Err BadEdit) list
   is_bad_edit f = record { answer = rw f; words = rw f }
 
-  pub is_bad_state : edit_fits s e t ≡ true → room from < count → RescansReadable s from count e t table edition list BadState list
+  pub is_bad_state : edit_fits s e t ≡ true → room from < count → RescansReadable s from count e t table edition list (result.Err BadState) list
   is_bad_state f h = let n = lt-ltb (room from) count h in record { answer = rw (f, n); words = rw (f, n) }
 
   pub is_behind : edit_fits s e t ≡ true → count ≤ room from → {line k : ℕ} {r : Scanned} {new : List ℕ} → line ≡ start_of_line t e.place
       → k ≡ kept_rows t line from count → ReadsBehind (properties_at table) edition t from k list r new
-      → RescansReadable s from count e t table edition list (AsScan r) new
+      → RescansReadable s from count e t table edition list (as_scan r) new
   is_behind f h {line} {k} {r} {new} l q b =
       let n = le-ltb (room from) count h in
       let m : k ≡ kept s from count e t table edition = q ∙ ap (λ (x : ℕ). kept_rows t x from count) l in
@@ -136,14 +136,21 @@ module _ {s from : List ℕ} {count : ℕ} {e : Edit} {t table : List ℕ} {edit
       (omega (arith, w.1, keeps_within t (start_of_line t e.place) from count)) w.0 in
       record {
         answer = rw (f, n)
-            (ap AsScan (g.answer ∙ ap (λ (x : ℕ). by_room x (kept s from count e t table edition) (row_before from (within list (kept s from count e t table edition))).end (rest s from count e t table edition)) same));
+            (ap as_scan (g.answer ∙ ap (λ (x : ℕ). by_room x (kept s from count e t table edition) (row_before from (within list (kept s from count e t table edition))).end (rest s from count e t table edition)) same));
         words = rw (f, n)
             (g.words
             ∙ ap (λ (x : ℕ). put_rows_at (copy_rows (within list (kept s from count e t table edition)) from list) (kept s from count e t table edition)
             (take (x - kept s from count e t table edition) (rest s from count e t table edition).rows)) same);
       }
 
-  pub is_refused : {x : Refusal} → input_check source_most t table edition ≡ Err x → Rescans s from count e t table edition list (AsScan (Refused x)) list
+  -- by what the reading behind them answers
+  pub is_behind_by : edit_fits s e t ≡ true → count ≤ room from → {line k : ℕ} {r y : Scanned} {new : List ℕ} → line ≡ start_of_line t e.place
+      → k ≡ kept_rows t line from count → ReadsBehind (properties_at table) edition t from k list r new → r ≡ y
+      → RescansReadable s from count e t table edition list (as_scan y) new
+  is_behind_by f h {line} {k} {r} {y} {new} l q b i =
+      subst (λ (x : Scanned). RescansReadable s from count e t table edition list (as_scan x) new) i (is_behind f h l q b)
+
+  pub is_refused : {x : Refusal} → input_check source_most t table edition ≡ Err x → Rescans s from count e t table edition list (as_scan (result.Err (Refused x))) list
   is_refused c = record { answer = rw c; words = rw c }
 
   pub is_readable : {r : Rescanned} {new : List ℕ} → input_check source_most t table edition ≡ result.Ok tt

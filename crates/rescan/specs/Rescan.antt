@@ -2,7 +2,7 @@
 -- order, which write nothing; then the kept records, copied word for word, as many as have room, and behind them what is read from there,
 -- as in a scan. Where no record is kept, that is the whole reading.
 -- Assumes nothing.
-use Rattle.std.specs.Prelude.{ℕ, ◌-◌, ◌≡◌, List, ltb, take}
+use Rattle.std.specs.Prelude.{ℕ, ◌-◌, ◌≡◌, List, Result, Ok, Err, ltb, take}
 use Rattle.base.specs.Pick.{pick}
 use Rattle.base.specs.Refusal.{bad_state, bad_edit, source_most}
 use Rattle.property.specs.Table.{properties_at}
@@ -11,17 +11,27 @@ use Rattle.input.specs.declared.Refusal.{Refusal}
 use Rattle.rows.specs.Row.{room, copy_rows, put_rows_at}
 use Rattle.reading.specs.Reading.{Reading, read_from}
 use Rattle.reading.specs.Scan as scan
-use Rattle.reading.specs.Scan.{by_room, Fills}
+use Rattle.reading.specs.Scan.{Scanned, by_room, Fills}
 use Rattle.reading.specs.Status as status
 use Rattle.reading.specs.Status.{refused_number}
-use Rattle.reading.specs.declared.Scanned.{Scanned}
-use Rattle.reading.specs.declared.Scanned.TheVariants.{Refused}
+use Rattle.reading.specs.declared.Scan.{Scan}
+use Rattle.reading.specs.declared.ScanError.TheVariants.{Refused}
 use Rattle.kept.specs.Kept.{resumed}
 use Rattle.edit.specs.Edit.{edit_fits, start_of_line}
 use Rattle.edit.specs.declared.Edit.{Edit}
 use Rattle.keep.specs.Keep.{row_before, kept_rows}
-use Rattle.rescan.specs.declared.Rescanned.{Rescanned}
-use Rattle.rescan.specs.declared.Rescanned.TheVariants.{AsScan, BadEdit, BadState}
+use Rattle.rescan.specs.declared.RescanError.{RescanError}
+use Rattle.rescan.specs.declared.RescanError.TheVariants as error
+use Rattle.rescan.specs.declared.RescanError.TheVariants.{BadEdit, BadState}
+
+-- what a rescan answers
+abbrev pub Rescanned : Type 0
+Rescanned = Result Scan RescanError
+
+-- what a scan of the new source may answer, as it is
+abbrev pub as_scan : Scanned → Rescanned
+as_scan (Ok s) = Ok s
+as_scan (Err e) = Err (error.Scan e)
 
 -- ---- behind the kept records
 
@@ -61,7 +71,7 @@ module _ (s from : List ℕ) (count : ℕ) (e : Edit) (t table : List ℕ) (edit
   module _ (list : List ℕ) where
     -- the answer where nothing is refused before any work
     abbrev pub answer_behind : Rescanned
-    answer_behind = AsScan (by_room (room list) kept (row_before from (within list kept)).end rest)
+    answer_behind = as_scan (by_room (room list) kept (row_before from (within list kept)).end rest)
 
     -- and the words of the list then
     abbrev pub words_behind : List ℕ
@@ -69,35 +79,37 @@ module _ (s from : List ℕ) (count : ℕ) (e : Edit) (t table : List ℕ) (edit
 
     -- what a rescan ensures, of the list `new` that it leaves of `list`: its answer, and every word
     pub record Rescans (r : Rescanned) (new : List ℕ) : Type 0 where
-      pub answer : r ≡ on_all (λ x. AsScan (Refused x)) BadEdit BadState answer_behind
+      pub answer : r ≡ on_all (λ x. Err (error.Scan (Refused x))) (Err BadEdit) (Err BadState) answer_behind
       pub words : new ≡ on_all (λ x. list) list list words_behind
 
     -- the same, where the new source was not refused
     pub record RescansReadable (r : Rescanned) (new : List ℕ) : Type 0 where
-      pub answer : r ≡ on_old BadEdit BadState answer_behind
+      pub answer : r ≡ on_old (Err BadEdit) (Err BadState) answer_behind
       pub words : new ≡ on_old list list words_behind
 
 -- ---- the documents' numbers of an answer
 
 abbrev pub number_of : Rescanned → ℕ
-number_of (AsScan x) = scan.number_of x
-number_of BadEdit = bad_edit
-number_of BadState = bad_state
+number_of (Ok s) = scan.number_of (Ok s)
+number_of (Err (error.Scan e)) = scan.number_of (Err e)
+number_of (Err BadEdit) = bad_edit
+number_of (Err BadState) = bad_state
 
 -- the refusal's place; the current byte where there is no refusal
 abbrev pub place_of : Rescanned → ℕ
-place_of (AsScan x) = scan.place_of x
-place_of BadEdit = 0
-place_of BadState = 0
+place_of (Ok s) = scan.place_of (Ok s)
+place_of (Err (error.Scan e)) = scan.place_of (Err e)
+place_of (Err BadEdit) = 0
+place_of (Err BadState) = 0
 
 -- how many records were written
 abbrev pub count_of : Rescanned → ℕ
-count_of (AsScan x) = scan.count_of x
-count_of BadEdit = 0
-count_of BadState = 0
+count_of (Ok s) = scan.count_of (Ok s)
+count_of (Err (error.Scan e)) = scan.count_of (Err e)
+count_of (Err BadEdit) = 0
+count_of (Err BadState) = 0
 
 -- how it ended
 abbrev pub status_of : Rescanned → ℕ
-status_of (AsScan x) = status.status_of x
-status_of BadEdit = refused_number
-status_of BadState = refused_number
+status_of (Ok s) = status.status_of (Ok s)
+status_of (Err e) = refused_number

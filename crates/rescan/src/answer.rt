@@ -2,51 +2,55 @@
 ghost use Rattle.std.specs.Prelude.{◌≡◌};
 ghost use Rattle.rescan.specs.Rescan.{number_of, place_of, count_of, status_of};
 
-use crate::Rescanned;
+use crate::RescanError;
 use base::refusals::{BAD_EDIT, BAD_STATE};
-use reading::answer;
 use reading::answer::REFUSED;
+use reading::{Scan, answer};
 
 // The refusal's number; 0 where there is no refusal.
-pub fn number_of(rescanned: Rescanned) -> u32
+pub fn number_of(rescanned: Result<Scan, RescanError>) -> u32
     ensures { result ≡ number_of rescanned }
 {
     match rescanned {
-        Rescanned::AsScan(scanned) => answer::number_of(scanned),
-        Rescanned::BadEdit => BAD_EDIT,
-        Rescanned::BadState => BAD_STATE,
+        Ok(scan) => answer::number_of(Ok(scan)),
+        Err(RescanError::Scan(error)) => answer::number_of(Err(error)),
+        Err(RescanError::BadEdit) => BAD_EDIT,
+        Err(RescanError::BadState) => BAD_STATE,
     }
 }
 
 // The refusal's place; the current byte where there is no refusal.
-pub fn place_of(rescanned: Rescanned) -> usize
+pub fn place_of(rescanned: Result<Scan, RescanError>) -> usize
     ensures { result ≡ place_of rescanned }
 {
     match rescanned {
-        Rescanned::AsScan(scanned) => answer::place_of(scanned),
-        Rescanned::BadEdit => 0,
-        Rescanned::BadState => 0,
+        Ok(scan) => answer::place_of(Ok(scan)),
+        Err(RescanError::Scan(error)) => answer::place_of(Err(error)),
+        Err(RescanError::BadEdit) => 0,
+        Err(RescanError::BadState) => 0,
     }
 }
 
 // How many records were written.
-pub fn count_of(rescanned: Rescanned) -> usize
+pub fn count_of(rescanned: Result<Scan, RescanError>) -> usize
     ensures { result ≡ count_of rescanned }
 {
     match rescanned {
-        Rescanned::AsScan(scanned) => answer::count_of(scanned),
-        Rescanned::BadEdit => 0,
-        Rescanned::BadState => 0,
+        Ok(scan) => answer::count_of(Ok(scan)),
+        Err(RescanError::Scan(error)) => answer::count_of(Err(error)),
+        Err(RescanError::BadEdit) => 0,
+        Err(RescanError::BadState) => 0,
     }
 }
 
 // How it ended.
-pub fn status_of(rescanned: Rescanned) -> u32
+pub fn status_of(rescanned: Result<Scan, RescanError>) -> u32
     ensures { result ≡ status_of rescanned }
 {
     match rescanned {
-        Rescanned::AsScan(scanned) => answer::status_of(scanned),
-        Rescanned::BadEdit => REFUSED,
-        Rescanned::BadState => REFUSED,
+        Ok(scan) => answer::status_of(Ok(scan)),
+        Err(RescanError::Scan(error)) => answer::status_of(Err(error)),
+        Err(RescanError::BadEdit) => REFUSED,
+        Err(RescanError::BadState) => REFUSED,
     }
 }

@@ -24,15 +24,15 @@ use input::SOURCE_MOST;
 use keep::{kept_rows, row_before};
 use layout::Layout;
 use position::{ByteOffset, Column, Place, Position, Span};
-use reading::Scanned;
+use reading::{Scan, ScanError};
 use rows::Row;
 use state::{Lexer, State};
 
-// What a rescan answers.
+// Why a rescan is refused; where it is not, it answers as a scan of the new source.
 #[derive(Clone, Copy)]
-pub enum Rescanned {
-    // What a scan of the new source may answer: the end, an Error that stands still, one of refusals 1, 17, 2, 3 and 15, 4 or 5.
-    AsScan(Scanned),
+pub enum RescanError {
+    // As a scan of the new source: one of refusals 1, 17, 2, 3 and 15, 4 or 5.
+    Scan(ScanError),
     // Refusal 16: the edit does not lead from the old source to the new one. Its place is 0.
     BadEdit,
     // Refusal 8: the old list has no room for as many records as it should have. Its place is 0.
@@ -86,7 +86,7 @@ fn read_behind(
     table: &[u32],
     edition: u32,
     list: &mut [u32],
-) -> Scanned
+) -> Result<Scan, ScanError>
     requires { (kept ≤ room old_list.now) × Ok source.now (resumed (row_before old_list.now kept)) × FitTable table.now }
     ensures { ReadsBehind (properties_at table.now) edition source.now old_list.now kept
         list.old result list.new }
@@ -94,10 +94,10 @@ fn read_behind(
     let room = rows::room(list);
     if room < kept {
         rows::copy::copy_rows(old_list, list, room);
-        return Scanned::ListFull {
+        return Err(ScanError::ListFull {
             count: room,
             byte: row_before(old_list, room).end as usize,
-        };
+        });
     }
     rows::copy::copy_rows(old_list, list, kept);
     let start = resume(row_before(old_list, kept));
@@ -114,20 +114,23 @@ fn rescan_readable(
     table: &[u32],
     edition: u32,
     list: &mut [u32],
-) -> Rescanned
+) -> Result<Scan, RescanError>
     requires { Readable source_most source.now table.now edition }
     ensures { RescansReadable old.now old_list.now old_count edit source.now table.now edition
         list.old result list.new }
 {
     if !edit_fits(old, edit, source) {
-        return Rescanned::BadEdit;
+        return Err(RescanError::BadEdit);
     }
     if rows::room(old_list) < old_count {
-        return Rescanned::BadState;
+        return Err(RescanError::BadState);
     }
     let line = line_start(source, edit.place);
     let kept = kept_rows(source, line, old_list, old_count);
-    Rescanned::AsScan(read_behind(old_list, kept, source, table, edition, list))
+    match read_behind(old_list, kept, source, table, edition, list) {
+        Ok(scan) => Ok(scan),
+        Err(error) => Err(RescanError::Scan(error)),
+    }
 }
 
 // Writes the records of a source at the start of the list, after an edit that led to it from an old source, whose list has `old_count`
@@ -143,12 +146,12 @@ pub fn rescan(
     table: &[u32],
     edition: u32,
     list: &mut [u32],
-) -> Rescanned
+) -> Result<Scan, RescanError>
     ensures { Rescans old.now old_list.now old_count edit source.now table.now edition
         list.old result list.new }
 {
     match input::check_input(source, table, edition, SOURCE_MOST) {
-        Err(refusal) => Rescanned::AsScan(Scanned::Refused(refusal)),
+        Err(refusal) => Err(RescanError::Scan(ScanError::Refused(refusal))),
         Ok(()) => rescan_readable(
             old, old_list, old_count, edit, source, table, edition, list,
         ),

@@ -22,8 +22,8 @@ use Rattle.text.specs.Tests.{lf}
 use Rattle.state.specs.State.{start_state}
 use Rattle.reading.specs.Scan.{end_of, by_room, ReadsOn, reading_of, Scans, count_of}
 use Rattle.reading.specs.ScanLaws.{scans_refused, scans_fine, count_room}
-use Rattle.reading.specs.declared.Scanned.{Scanned}
-use Rattle.reading.specs.declared.Scanned.TheVariants.{Refused, ListFull}
+use Rattle.reading.specs.Scan.{Scanned}
+use Rattle.reading.specs.declared.ScanError.TheVariants.{Refused, ListFull}
 use Rattle.kept.specs.Kept.{last_of, resumed, Edited, KeptTo}
 use Rattle.kept.specs.OldListLaws.{old_list, old_words, old_kept}
 use Rattle.kept.proofs.RescanLaws.{rescan_is_scan, short_rescan_is_scan, last_kept, up_to}
@@ -34,7 +34,7 @@ use Rattle.keep.specs.Keep.{no_row, row_before, Keeps}
 use Rattle.keep.specs.KeepLaws.{keeps_of, kept_of, last_is, over_some}
 use Rattle.rescan.specs.Rescan.{within, read_behind, kept, Rescans}
 use Rattle.rescan.proofs.RescanLaws.{one_answer}
-use Rattle.rescan.specs.declared.Rescanned.{Rescanned}
+use Rattle.rescan.specs.Rescan.{Rescanned}
 use Rattle.rescan_promises.specs.Rescan.{Fresh, RescanPromise, RescanMeans}
 use Rattle.rescan_promises.proofs.UnalteredLaws.{take_begin, begins_too}
 use Rattle.rescan_promises.specs.OldWordsLaws.{rows_of_take, end_of_rows, copied_is}
@@ -160,7 +160,7 @@ module _ (s table : List ℕ) (edition : ℕ) (old from : List ℕ) (r : Scanned
           (subst (λ (l : List ℕ). ReadsOn (properties_at table) edition t (resumed (row_at from k)) (suc k) l y new) (sym (copied (suc k) list keeps.listed)) f)))
 
       -- some have none
-      short : (list : List ℕ) → room list < suc k → Scans t table edition list (ListFull (room list) (row_before from (room list)).end) (copy_rows (room list) from list)
+      short : (list : List ℕ) → room list < suc k → Scans t table edition list (Err (ListFull (room list) (row_before from (room list)).end)) (copy_rows (room list) from list)
       short list h =
           let n = room list in
           let few : take n kept_to ≡ take n records = take-take n (suc k) records (omega arith) in
@@ -168,8 +168,8 @@ module _ (s table : List ℕ) (edition : ℕ) (old from : List ℕ) (r : Scanned
           ap (end_of 0) few ∙ end_of_rows from count n no_row (omega (arith, keeps.listed)) in
           let words : put_rows_at list 0 (take n kept_to) ≡ copy_rows n from list =
           ap (put_rows_at list 0) few ∙ copied n list (omega (arith, keeps.listed)) in
-          subst (λ (b : ℕ). Scans t table edition list (ListFull n b) (copy_rows n from list)) ends
-          (subst (λ (l : List ℕ). Scans t table edition list (ListFull n (end_of 0 (take n kept_to))) l) words
+          subst (λ (b : ℕ). Scans t table edition list (Err (ListFull n b)) (copy_rows n from list)) ends
+          (subst (λ (l : List ℕ). Scans t table edition list (Err (ListFull n (end_of 0 (take n kept_to)))) l) words
           (short_rescan_is_scan table edition s old from r p no_row before.newline k keeps.listed before.kept_to_lem t before.edited good list
           (omega (arith, kept_long))))
 
@@ -197,14 +197,14 @@ module _ (s table : List ℕ) (edition : ℕ) (old from : List ℕ) (r : Scanned
 
   -- they have none
   over_is : (list : List ℕ) (k : ℕ) → room list < k
-      → (answer_at list k ≡ ListFull (room list) (row_before from (room list)).end) × (words_at list k ≡ copy_rows (room list) from list)
+      → (answer_at list k ≡ Err (ListFull (room list) (row_before from (room list)).end)) × (words_at list k ≡ copy_rows (room list) from list)
   unfolding end_of
   over_is list k h =
       let rows = (read_behind (properties_at table) edition t from k).rows in
       let w : within list k ≡ room list = rw (lt-ltb (room list) k h) in
       let z : room list - k ≡ 0 = omega arith in
       let full = lt-ltb (room list) (k + length rows) (omega arith) in (
-        rw (full, z) (ap (λ (n : ℕ). ListFull (room list) (row_before from n).end) w),
+        rw (full, z) (ap (λ (n : ℕ). Err (ListFull (room list) (row_before from n).end)) w),
         ap (λ (n : ℕ). put_rows_at (copy_rows (within list k) from list) k (take n rows)) z
             ∙ puts_none (copy_rows (within list k) from list) k
             ∙ ap (λ (n : ℕ). copy_rows n from list) w,
@@ -221,7 +221,7 @@ module _ (s table : List ℕ) (edition : ℕ) (old from : List ℕ) (r : Scanned
         split_lt (room list) (suc k)
         (λ h. let o = over_is list (suc k) h in
         subst (λ (x : Scanned). Scans t table edition list x (words_at list (suc k))) (sym o.0)
-        (subst (Scans t table edition list (ListFull (room list) (row_before from (room list)).end)) (sym o.1) (short k keeps good list h)))
+        (subst (Scans t table edition list (Err (ListFull (room list) (row_before from (room list)).end))) (sym o.1) (short k keeps good list h)))
         (λ h. long k keeps good list (words_at list (suc k)) (answer_at list (suc k)) h (filled list (suc k) (omega (arith, counted, keeps.listed)) h))
 
   fresh : (list : List ℕ) (x : Rescanned) (new : List ℕ) → Rescans s from count e t table edition list x new → Fresh t table edition list x new
@@ -230,9 +230,9 @@ module _ (s table : List ℕ) (edition : ℕ) (old from : List ℕ) (r : Scanned
       go : (c : Result (Unit {0}) Refusal) → input_check source_most t table edition ≡ c → Fresh t table edition list x new
       go (Err y) c =
           record {
-            answer = Refused y;
+            answer = Err (Refused y);
             told = q.answer ∙ rw c;
-            scans = subst (Scans t table edition list (Refused y)) (sym (q.words ∙ rw c)) (scans_refused c);
+            scans = subst (Scans t table edition list (Err (Refused y))) (sym (q.words ∙ rw c)) (scans_refused c);
           }
       go (Ok _) c =
           let k = kept s from count e t table edition in

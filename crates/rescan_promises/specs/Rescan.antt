@@ -6,20 +6,17 @@ use Rattle.base.specs.Refusal.{source_most}
 use Rattle.input.specs.Input.{Readable}
 use Rattle.rows.specs.Row.{rows_of}
 use Rattle.rows.specs.declared.Row.{Row}
-use Rattle.reading.specs.Scan.{reading_of, Scans, count_of}
-use Rattle.reading.specs.declared.Scanned.{Scanned}
+use Rattle.reading.specs.Scan.{Scanned, reading_of, Scans, count_of}
 use Rattle.kept.specs.Kept.{Edited, KeptTo}
 use Rattle.edit.specs.Edit.{Edits, edit_fits, start_of_line}
 use Rattle.edit.specs.declared.Edit.{Edit}
 use Rattle.keep.specs.Keep.{Keeps}
-use Rattle.rescan.specs.Rescan.{kept, Rescans}
-use Rattle.rescan.specs.declared.Rescanned.{Rescanned}
-use Rattle.rescan.specs.declared.Rescanned.TheVariants.{AsScan}
+use Rattle.rescan.specs.Rescan.{Rescanned, as_scan, kept, Rescans}
 
 -- an answer and a list that are those of a scan
 pub record Fresh (t table : List ℕ) (edition : ℕ) (list : List ℕ) (x : Rescanned) (new : List ℕ) : Type 0 where
   pub answer : Scanned
-  pub told : x ≡ AsScan answer
+  pub told : x ≡ as_scan answer
   pub scans : Scans t table edition list answer new
 
 -- s is a source, and a scan with this table and edition, refused by 4 or 5 or not, has answered r and left the list `from`; e leads from s

@@ -13,7 +13,7 @@ pub use calls::{Call, are_calls, call_at};
 use cursor::{Cursor, Status};
 use layout::Layout;
 use lookahead::{Handed, Look, LookError, NextError, answer};
-use reading::Scanned;
+use reading::{Scan, ScanError};
 use rows::Row;
 use std::io;
 
@@ -139,16 +139,16 @@ fn print_calls(rt: &impl Print, line: &[u8], list: &[u32], from: Cursor) -> io::
 }
 
 // There is nothing to walk over where a scan is refused, so its refusal is printed alone.
-fn print_scan(rt: &impl Print, line: &[u8], list: &[u32], scanned: Scanned) -> io::Result<()> {
+fn print_scan(rt: &impl Print, line: &[u8], list: &[u32], scanned: Result<Scan, ScanError>) -> io::Result<()> {
     match scanned {
-        Scanned::End { count, byte: _ } => print_calls(rt, line, list, start(count, Status::End)),
-        Scanned::Stuck { count, byte: _ } => print_calls(
+        Ok(Scan::End { count, .. }) => print_calls(rt, line, list, start(count, Status::End)),
+        Ok(Scan::Stuck { count, .. }) => print_calls(
             rt,
             line,
             list,
             start(count, Status::Stuck),
         ),
-        _ => printing::print_end(rt, scanned),
+        Err(_) => printing::print_end(rt, scanned),
     }
 }
 
@@ -161,7 +161,7 @@ pub fn line_buffer() -> [u8; 200001]
 
 // Prints a walk over the records of a scan: a line for each call and how many tokens are queued at the end, the refusal of the scan, or that
 // the line is malformed, which is told first.
-pub fn print_walk(rt: &impl Print, line: &[u8], list: &[u32], scanned: Scanned) -> io::Result<()>
+pub fn print_walk(rt: &impl Print, line: &[u8], list: &[u32], scanned: Result<Scan, ScanError>) -> io::Result<()>
     ensures { IfOk result (λ r. r ≡ tt) }
 {
     if !are_calls(line) {

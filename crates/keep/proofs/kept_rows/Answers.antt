@@ -1,5 +1,4 @@
 -- `keep::kept_rows` meets its contract: the loop's head is `Asked`, and each way out and each turn is a law of it. Assumes nothing.
-use Prim.Native.Nat.{◌-◌}
 use native.Mathlib.Omega.{arith}
 use Rattle.keep.proofs.Asking.{begins, at_end, is_unchained, is_backward, goes_on, is_last, not_last}
 use Rattle.keep.proofs.kept_rows.Goals as goal

@@ -15,9 +15,6 @@ pub returns-then-forbidden_at : goal.returns-then-forbidden_at
 returns-then-forbidden_at c =
     here _ _ _ _ c.loop-i.invariant c.loop-i-test.true c.row_at-at.ensures (sym c.forbidden_at.ensures ∙ c.if-forbidden_at.true)
 
-pub loop-i-smaller : goal.loop-i-smaller
-loop-i-smaller c = omega (arith, c.loop-i-test.true)
-
 pub loop-i-preserved : goal.loop-i-preserved
 loop-i-preserved c =
     rw c.opener_at-opener.ensures

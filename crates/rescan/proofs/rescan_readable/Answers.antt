@@ -12,7 +12,7 @@ use Rattle.edit.specs.Edit.{edit_fits}
 use Rattle.edit.specs.EditLaws.{edit_of_lem, edit_inside, line_within}
 use Rattle.keep.specs.Keep.{row_before, kept_rows}
 use Rattle.keep.specs.KeepLaws.{keeps_within}
-use Rattle.rescan.proofs.RescanLaws.{kept_ok, is_bad_edit, is_bad_state, is_behind}
+use Rattle.rescan.proofs.RescanLaws.{kept_ok, is_bad_edit, is_bad_state, is_behind_by}
 use Rattle.rescan.proofs.rescan_readable.Goals as goal
 use Rattle.rescan.proofs.rescan_readable.Goals.{Else-not-edit_fits}
 
@@ -52,7 +52,12 @@ read_behind-requires c =
       fit_of a.table.now c.requires.fit,
     )
 
-pub returns : goal.returns
-returns c =
-    is_behind (fits (goal.at.returns c).Else-not-edit_fits) (omega (arith, c.if-room-old_count.false, c.room.ensures))
-    c.line_start-line.ensures c.kept_rows-kept.ensures c.read_behind.ensures
+pub returns-in-Ok : goal.returns-in-Ok
+returns-in-Ok c =
+    is_behind_by (fits (goal.at.returns-in-Ok c).Else-not-edit_fits) (omega (arith, c.if-room-old_count.false, c.room.ensures))
+    c.line_start-line.ensures c.kept_rows-kept.ensures c.read_behind.ensures c.in-Ok.is
+
+pub returns-in-Err : goal.returns-in-Err
+returns-in-Err c =
+    is_behind_by (fits (goal.at.returns-in-Err c).Else-not-edit_fits) (omega (arith, c.if-room-old_count.false, c.room.ensures))
+    c.line_start-line.ensures c.kept_rows-kept.ensures c.read_behind.ensures c.in-Err.is
