@@ -12,6 +12,7 @@ use Rattle.utf8.specs.Encode.{encode_all}
 use Rattle.format_options.specs.Options.{with_width, with_precision}
 use Rattle.format_options.specs.Letters.{no_char, zero_digit, is_sign, is_digit, representation_of}
 use Rattle.format_options.specs.LettersLaws.{digit_is}
+use Rattle.format_number.specs.declared.Number.{Number}
 use Rattle.format_number.specs.Number.{peeked}
 use Rattle.format_arms.specs.declared.Position.{Position}
 use Rattle.format_arms.specs.Arms.{start, min_width, precision, type, dot, arm_of}

@@ -20,6 +20,7 @@ use Rattle.utf8.specs.Encode.{encode, encode_all}
 use Rattle.utf8.specs.EncodeLaws.{encode1}
 use Rattle.format_options.specs.Options.{with_width, with_precision, with_fill}
 use Rattle.format_options.specs.Letters.{no_char, zero_digit, is_sign, is_digit, representation_of}
+use Rattle.format_number.specs.declared.Number.{Number}
 use Rattle.format_number.specs.Number.{peeked, consume_u32}
 use Rattle.format_arms.specs.declared.Position.{Position}
 use Rattle.format_arms.specs.Arms.{start, alignment, min_width, precision, type, end, dot, letter_of, on_shown, last_arm, arm_of}

@@ -13,4 +13,4 @@ returns-then-is_digit c = sym (search cases depth 12 fits 4000)
 pub returns-else-is_digit : goal.returns-else-is_digit
 returns-else-is_digit c =
     sym (or_no _ _ _ (sym c.is_sign.ensures ∙ c.if-is_sign.false) (or_no _ _ _ (sym c.is_digit.ensures ∙ c.if-is_digit.false)
-    (ap is_some (sym c.representation_of.ensures) ∙ sym c.is_some.ensures.value)))
+    (ap is_some (sym c.representation_of.ensures) ∙ sym c.is_some.ensures)))
