@@ -2,7 +2,7 @@
 -- 01's refusals 1, 2, 3, 8 come before it, in this order, with document 02's 17 after 1 and 15 in the place of 3, and write nothing; 10 to 12
 -- are the Rust's errors, and 13 is an addition without room, which ends the parse. Strings added before stay.
 -- Assumes nothing.
-use Rattle.std.specs.Prelude.{ℕ, ◌≡◌, Bool, true, false, List}
+use Rattle.std.specs.Prelude.{ℕ, ◌≡◌, Bool, true, false, List, Result, Ok, Err}
 use Rattle.base.specs.Pick.{pick}
 use Rattle.base.specs.Refusal.{none, bad_state, expected_number, format_number_is_too_large, unexpected_token, pool_full, format_most}
 use Rattle.utf8.specs.Chars.{chars}
@@ -14,7 +14,8 @@ use Rattle.pool_rows.specs.Rows.{fit_pool}
 use Rattle.pool.specs.Pool.{added, bytes_after, entries_after}
 use Rattle.pool_rows.specs.declared.Counts.{Counts}
 use Rattle.pool.specs.declared.Added.{Added}
-use Rattle.pool.specs.declared.Added.TheVariants as pool
+use Rattle.pool.specs.declared.AddError.{AddError}
+use Rattle.pool.specs.declared.AddError.TheVariants as pool
 use Rattle.format.specs.Parse as form
 use Rattle.format.specs.Parse.{parse_with, string_of}
 use Rattle.format_options.specs.declared.OptionalNumber.{OptionalNumber}
@@ -41,27 +42,27 @@ abbrev pub pooled : List ℕ → List ℕ → Adding → Pool
 pooled bytes entries a = record { bytes = bytes; entries = entries; counts = a.counts; index = a.index; full = a.full }
 
 -- what has been added, after an addition that answered so; a refusal of the string or of the pool leaves it
-abbrev pub adding_after : Adding → Added → Adding
-adding_after a (pool.Index i counts) = record { counts = counts; index = Number i; full = false }
-adding_after a pool.PoolFull = record { counts = a.counts; index = a.index; full = true }
-adding_after a (pool.BadUtf8 place) = a
-adding_after a (pool.CutUtf8 place) = a
-adding_after a pool.BadState = a
+abbrev pub adding_after : Adding → Result Added AddError → Adding
+adding_after a (Ok added) = record { counts = added.counts; index = Number added.index; full = false }
+adding_after a (Err pool.PoolFull) = record { counts = a.counts; index = a.index; full = true }
+adding_after a (Err (pool.BadUtf8 place)) = a
+adding_after a (Err (pool.CutUtf8 place)) = a
+adding_after a (Err pool.BadState) = a
 
 -- what an addition of the string x makes of the pool
-abbrev pub on_added : Pool → List ℕ → Added → Pool
-on_added p x (pool.Index i counts) =
+abbrev pub on_added : Pool → List ℕ → Result Added AddError → Pool
+on_added p x (Ok added) =
     record {
-      bytes = bytes_after x p.counts (pool.Index i counts) p.bytes;
-      entries = entries_after x p.counts (pool.Index i counts) p.entries;
-      counts = counts;
-      index = Number i;
+      bytes = bytes_after x p.counts (Ok added) p.bytes;
+      entries = entries_after x p.counts (Ok added) p.entries;
+      counts = added.counts;
+      index = Number added.index;
       full = false;
     }
-on_added p x pool.PoolFull = record { bytes = p.bytes; entries = p.entries; counts = p.counts; index = p.index; full = true }
-on_added p x (pool.BadUtf8 place) = p
-on_added p x (pool.CutUtf8 place) = p
-on_added p x pool.BadState = p
+on_added p x (Err pool.PoolFull) = record { bytes = p.bytes; entries = p.entries; counts = p.counts; index = p.index; full = true }
+on_added p x (Err (pool.BadUtf8 place)) = p
+on_added p x (Err (pool.CutUtf8 place)) = p
+on_added p x (Err pool.BadState) = p
 
 -- `add_string_constant(..)?`: the first addition without room ends the parse, so nothing is added after it
 unfoldable pub add_to : Pool → List ℕ → Pool

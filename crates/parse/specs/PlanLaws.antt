@@ -7,7 +7,7 @@
 --     can_plan                     both strings of a plan can be added
 --     parses_planned               a call, from its plan and the additions
 -- Assumes nothing.
-use Rattle.std.specs.Prelude.{ℕ, ◌+◌, ◌-◌, ◌≤◌, ◌≡◌, Bool, true, false, not, List, length, take, drop}
+use Rattle.std.specs.Prelude.{ℕ, ◌+◌, ◌-◌, ◌≤◌, ◌≡◌, Bool, true, false, not, List, length, take, drop, Result}
 use Rattle.std.proofs.Common.{arith, sym, subst, ◌∙◌}
 use Rattle.std.proofs.Math.Path.{refl, ap}
 use Rattle.base.specs.Pick.{pick}
@@ -25,6 +25,7 @@ use Rattle.pool.specs.Pool.{AddsToFit}
 use Rattle.pool.specs.PoolLaws.{adds_fine}
 use Rattle.pool_rows.specs.declared.Counts.{Counts}
 use Rattle.pool.specs.declared.Added.{Added}
+use Rattle.pool.specs.declared.AddError.{AddError}
 use Rattle.format.specs.Parse as form
 use Rattle.format.specs.Parse.{add_fill}
 use Rattle.format.specs.Parse.{PartIn}
@@ -79,7 +80,7 @@ module _ (format : List ℕ) where
     adds_nothing NoFill e = refl
 
     pub adds_string : (fill : Fill) → CanAdd format (pooled bytes entries a) fill → is_adding fill a ≡ true
-        → {x new_bytes new_entries : List ℕ} {r : Added} {b : Adding} → x ≡ fill_string format fill
+        → {x new_bytes new_entries : List ℕ} {r : Result Added AddError} {b : Adding} → x ≡ fill_string format fill
         → AddsToFit x a.counts bytes entries new_bytes new_entries r → b ≡ adding_after a r
         → pooled new_bytes new_entries b ≡ add_fill (add_part format add_to) (pooled bytes entries a) fill
     adds_string (Is part) v e {x} {new_bytes} {new_entries} {r} y s q =

@@ -16,7 +16,7 @@ ghost use Rattle.parse.specs.Plan.{input_of, plan_with, plan_of, CanAdd, is_addi
 use format::{FormatRead, read_format};
 use format_options::{Fill, OptionalNumber, Options, Outcome};
 use input::{FORMAT_MOST, Input, Refusal};
-use pool::Added;
+use pool::{AddError, Added};
 use pool_rows::Counts;
 
 // What a parse answers (document 01, "Refusal numbers"; document 02, C-3 and C-8).
@@ -152,26 +152,33 @@ pub fn string_of<'a>(format: &'a [u8], fill: Fill) -> &'a [u8]
     }
 }
 
-// What has been added, after an addition that answered so.
-pub fn after_added(adding: Adding, added: Added) -> Adding
-    ensures { result ≡ adding_after adding added }
+// What has been added, after an addition that was refused: only that there was no room is kept.
+fn after_error(adding: Adding, error: AddError) -> Adding
+    ensures { result ≡ adding_after adding (Err error) }
 {
-    let had = adding.counts;
-    let last = adding.index;
-    match added {
-        Added::Index { index, counts } => Adding {
-            counts,
-            index: OptionalNumber::Number(index),
-            full: false,
-        },
-        Added::PoolFull => Adding {
-            counts: had,
-            index: last,
+    match error {
+        AddError::PoolFull => Adding {
+            counts: adding.counts,
+            index: adding.index,
             full: true,
         },
-        Added::BadUtf8(_) => adding,
-        Added::CutUtf8(_) => adding,
-        Added::BadState => adding,
+        AddError::BadUtf8(_) => adding,
+        AddError::CutUtf8(_) => adding,
+        AddError::BadState => adding,
+    }
+}
+
+// What has been added, after an addition that answered so.
+pub fn after_added(adding: Adding, added: Result<Added, AddError>) -> Adding
+    ensures { result ≡ adding_after adding added }
+{
+    match added {
+        Ok(added) => Adding {
+            counts: added.counts,
+            index: OptionalNumber::Number(added.index),
+            full: false,
+        },
+        Err(error) => after_error(adding, error),
     }
 }
 

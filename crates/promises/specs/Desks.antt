@@ -1,6 +1,6 @@
 -- Document 02, C-12, "Two desks, one pool": what `desk_add::add_string` and `desk_parse::parse` promise, in the documents' numbers.
 -- Assumes nothing.
-use Rattle.std.specs.Prelude.{ℕ, ◌+◌, ◌<◌, ◌≤◌, ◌≡◌, List, [], ◌∷◌, true, false, length, set}
+use Rattle.std.specs.Prelude.{ℕ, ◌+◌, ◌<◌, ◌≤◌, ◌≡◌, List, [], ◌∷◌, true, false, length, set, Err}
 use Rattle.base.specs.Refusal.{none, bad_utf8, cut_utf8, bad_state, pool_full, format_most}
 use Rattle.utf8.specs.Encode.{WellFormed}
 use Rattle.utf8.specs.Meaning.{Arriving, Damaged}
@@ -9,7 +9,7 @@ use Rattle.input.specs.declared.Refusal.{Refusal}
 use Rattle.input.specs.declared.Input.TheVariants as input
 use Rattle.pool_rows.specs.Rows.{string_at}
 use Rattle.pool.specs.Pool.{one_more, written, entered, number_of, added_index}
-use Rattle.pool.specs.declared.Added.TheVariants as added
+use Rattle.pool.specs.declared.AddError.TheVariants as added
 use Rattle.parse.specs.declared.Parsed.TheVariants as said
 use Rattle.desks.specs.Desks.{Shared, desk_of, other, owner_of, fit_desks, Fits}
 use Rattle.desks.specs.declared.Which.{Which}
@@ -104,4 +104,4 @@ Guarantee =
     (which : Which) (s : Shared) → Fits s → (acts : List Act) (string : List ℕ)
     → (desk_of which s.desks).charged.entries + 1 ≤ (desk_of which s.desks).guaranteed.entries
     → (desk_of which s.desks).charged.bytes + length string ≤ (desk_of which s.desks).guaranteed.bytes
-    → added_for which (act_all (other which) s acts) string ≡ added.PoolFull → ⊥
+    → added_for which (act_all (other which) s acts) string ≡ Err added.PoolFull → ⊥
