@@ -14,10 +14,9 @@ use input::{Input, Refusal, check_input};
 // A text, and a fill, has at most this many bytes.
 const TEXT_MOST: usize = 65535;
 
-// What the checks answer.
+// What the checks refuse.
 #[derive(Clone, Copy)]
-pub enum Check {
-    Fine,
+pub enum PadRefusal {
     // 1 of the text or of a fill that is given, 17, 2, 3 and 15 of the text.
     Refused(Refusal),
     // 3 and 15 of the fill, with the offset in its own bytes.
@@ -40,28 +39,28 @@ fn is_format(alignment: u64, width: u64) -> bool
     alignment <= RIGHT && is_width(width)
 }
 
-fn check_format(alignment: u64, width: u64) -> Check
+fn check_format(alignment: u64, width: u64) -> Result<(), PadRefusal>
     ensures { result ≡ format_check alignment width }
 {
     if is_format(alignment, width) {
-        return Check::Fine;
+        return Ok(());
     }
-    Check::NoSuchFormat
+    Err(PadRefusal::NoSuchFormat)
 }
 
 // The questions after those about the text, where a fill is given.
-fn check_fill(alignment: u64, width: u64, fill: &[u8], table: &[u32], edition: u32) -> Check
+fn check_fill(alignment: u64, width: u64, fill: &[u8], table: &[u32], edition: u32) -> Result<(), PadRefusal>
     requires { FitTable table.now }
     ensures { result ≡ fill_check (properties_at table.now) edition alignment width fill.now }
 {
     match utf8::check_utf8(fill) {
-        utf8::Utf8Check::BadAt(i) => Check::FillRefused(Refusal::BadUtf8(i)),
-        utf8::Utf8Check::CutAt(i) => Check::FillRefused(Refusal::CutUtf8(i)),
+        utf8::Utf8Check::BadAt(i) => Err(PadRefusal::FillRefused(Refusal::BadUtf8(i))),
+        utf8::Utf8Check::CutAt(i) => Err(PadRefusal::FillRefused(Refusal::CutUtf8(i))),
         utf8::Utf8Check::Fine => {
             if count_clusters(fill, table, edition) == 1 {
                 return check_format(alignment, width);
             }
-            Check::NoSuchFormat
+            Err(PadRefusal::NoSuchFormat)
         }
     }
 }
@@ -76,14 +75,14 @@ pub fn check_pad(
     fill: &[u8],
     table: &[u32],
     edition: u32,
-) -> Check
+) -> Result<(), PadRefusal>
     ensures { result ≡ pad_check text.now alignment width filled fill.now table.now edition }
 {
     if is_long(filled, fill) {
-        return Check::Refused(Refusal::TooLong);
+        return Err(PadRefusal::Refused(Refusal::TooLong));
     }
     match check_input(text, table, edition, TEXT_MOST) {
-        Input::Refused(refusal) => Check::Refused(refusal),
+        Input::Refused(refusal) => Err(PadRefusal::Refused(refusal)),
         Input::Fine => {
             if filled {
                 return check_fill(alignment, width, fill, table, edition);

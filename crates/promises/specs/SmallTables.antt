@@ -1,7 +1,7 @@
 -- "Small tables are enough" (document 02, C-14): two fit tables that give every code point which occurs in some bytes the same properties
 -- answer alike, and leave the same words, in every call over these bytes and a table. An edition may be any number, one that is refused too.
 -- Assumes nothing.
-use Rattle.std.specs.Prelude.{ℕ, ◌<◌, ◌≡◌, Bool, true, List, length, get_or}
+use Rattle.std.specs.Prelude.{ℕ, ◌<◌, ◌≡◌, Bool, true, List, length, get_or, Result}
 use Rattle.utf8.specs.Chars.{chars}
 use Rattle.property.specs.Table.{properties_at}
 use Rattle.fitness.specs.Fit.{table_check}
@@ -21,7 +21,7 @@ use Rattle.pool_rows.specs.declared.Counts.{Counts}
 use Rattle.parse.specs.Call.{Parses}
 use Rattle.parse.specs.declared.After.{After}
 use Rattle.pad.specs.Call.{Pads}
-use Rattle.pad.specs.declared.Padded.{Padded}
+use Rattle.pad.specs.declared.PadError.{PadError}
 use Rattle.promises.specs.Cluster.{FirstClusterEnsures}
 
 -- the tables t and u say the same of each code point of these bytes
@@ -56,6 +56,6 @@ pub record SmallTablesPromise (bytes t u : List ℕ) (edition : ℕ) : Type 0 wh
 -- the bytes as a text that is padded: a fill that is given is asked too
 abbrev pub SamePad : List ℕ → List ℕ → List ℕ → ℕ → Type 0
 SamePad text t u edition =
-    (alignment width : ℕ) (given : Bool) (fill : List ℕ) → (given ≡ true → SameOn fill t u) → (old new other : List ℕ) (r q : Padded)
+    (alignment width : ℕ) (given : Bool) (fill : List ℕ) → (given ≡ true → SameOn fill t u) → (old new other : List ℕ) (r q : Result ℕ PadError)
     → Pads text alignment width given fill t edition old new r → Pads text alignment width given fill u edition old other q
     → (r ≡ q) × (new ≡ other)

@@ -2,7 +2,7 @@
 // and every byte of the buffer. Then a file with one wrong line, so that a difference is seen to be reported.
 #![tactic(auto)]
 
-use pad::answer;
+use pad::{PadError, answer};
 use std::io;
 use std::rt::Files;
 
@@ -30,7 +30,7 @@ fn bytes_agree(text: &[u8], at: usize, buffer: &[u8]) -> bool {
 }
 
 // Whether the fields `NUMBER LENGTH PLACE BYTES` at a place of the text are what was said and written.
-fn said_agrees(text: &[u8], at: usize, said: pad::Padded, buffer: &[u8]) -> bool {
+fn said_agrees(text: &[u8], at: usize, said: Result<usize, PadError>, buffer: &[u8]) -> bool {
     let length_at = lines::same(text, at, answer::number_of(said) as usize);
     let place_at = lines::same(text, length_at, answer::len_of(said));
     let bytes_at = lines::same(text, place_at, answer::place_of(said));
