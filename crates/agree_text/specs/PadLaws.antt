@@ -3,7 +3,7 @@
 --     check_agrees, pads_agree      the refusals before any work, and the call with its answer and the buffer after it
 -- Assumes nothing.
 use Prim.Native.Nat.{ℕ, suc, ◌+◌}
-use Rattle.std.specs.Prelude.{◌≡◌, Bool, true, false, eqb, length, Ok}
+use Rattle.std.specs.Prelude.{◌≡◌, Bool, true, false, eqb, length, Ok, Result, Err}
 use Rattle.std.proofs.Math.Path.{refl, sym}
 use Rattle.std.proofs.Common.{◌∙◌}
 use mathlib.Core.List.{List, [], ◌∷◌}
@@ -18,11 +18,11 @@ use Rattle.cluster.specs.FirstLaws.{Agree}
 use Rattle.cluster_count.specs.Count.{breaks_from, cluster_count, begun_in}
 use Rattle.cluster_count.specs.CountLaws.{count_begun}
 use Rattle.fills.specs.Pad.{padded}
-use Rattle.pad_input.specs.Check.{text_most, long_fill, format_check, fill_check, pad_check}
-use Rattle.pad_input.specs.declared.Check.TheVariants.{Refused, FillRefused, NoSuchFormat}
+use Rattle.pad_input.specs.Check.{of_text, of_fill, text_most, long_fill, format_check, fill_check, pad_check}
+use Rattle.pad_input.specs.declared.PadRefusal.TheVariants.{NoSuchFormat}
 use Rattle.agree.specs.ScanLaws.{inputs_agree}
 use Rattle.pad.specs.Call.{in_room, buffer_after, fill_of, on_check, padded_text, pad_answer, Pads}
-use Rattle.pad.specs.declared.Padded.{Padded}
+use Rattle.pad.specs.declared.PadError.{PadError}
 
 -- ---- counting
 
@@ -44,8 +44,8 @@ module _ (f g : ℕ → ℕ) (alignment width : ℕ) (fill : List ℕ) (edition 
   fill_agrees : Agree f g (chars fill) → fill_check f edition alignment width fill ≡ fill_check g edition alignment width fill
   unfolding fill_check
   fill_agrees a =
-      λ i. on_input FillRefused (on_utf8 (check_from 0 fill))
-      (pick (eqb (count_agrees f g edition (chars fill) a i) 1) (format_check alignment width) NoSuchFormat)
+      λ i. on_input of_fill (on_utf8 (check_from 0 fill))
+      (pick (eqb (count_agrees f g edition (chars fill) a i) 1) (format_check alignment width) (Err NoSuchFormat))
 
   given_agrees : (b : Bool) → (b ≡ true → Agree f g (chars fill)) → pick b (fill_check f edition alignment width fill) (format_check alignment width)
       ≡ pick b (fill_check g edition alignment width fill) (format_check alignment width)
@@ -58,8 +58,8 @@ checks_agree : (text : List ℕ) (alignment width : ℕ) (given : Bool) (fill t 
     → pad_check text alignment width given fill t edition ≡ pad_check text alignment width given fill u edition
 unfolding pad_check
 checks_agree text alignment width given fill t u edition fit also a =
-    λ i. pick (long_fill given fill) (Refused TooLong)
-    (on_input Refused (inputs_agree text_most text t u edition fit also i)
+    λ i. pick (long_fill given fill) (of_text TooLong)
+    (on_input of_text (inputs_agree text_most text t u edition fit also i)
     (given_agrees (properties_at t) (properties_at u) alignment width fill edition given a i))
 
 module _ (text : List ℕ) (alignment width : ℕ) (given : Bool) (fill t u : List ℕ) (edition : ℕ) (fit : table_check t ≡ Ok tt)
@@ -72,7 +72,7 @@ module _ (text : List ℕ) (alignment width : ℕ) (given : Bool) (fill t u : Li
   text_agrees =
       λ i. padded alignment width (fill_of given fill) text (count_agrees (properties_at t) (properties_at u) edition (chars text) agree i)
 
-  pub pads_agree : {old new : List ℕ} {r : Padded} → Pads text alignment width given fill t edition old new r
+  pub pads_agree : {old new : List ℕ} {r : Result ℕ PadError} → Pads text alignment width given fill t edition old new r
       → Pads text alignment width given fill u edition old new r
   pads_agree {old} {new} p =
       let same : pad_answer text alignment width given fill t edition (length old) ≡ pad_answer text alignment width given fill u edition (length old) =

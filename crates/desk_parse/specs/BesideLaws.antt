@@ -4,7 +4,7 @@
 --     same_answer         an addition to the part answers as one for the desk
 --     beside_after        and after it the two stand beside each other again
 -- Assumes nothing.
-use Rattle.std.specs.Prelude.{ℕ, ◌+◌, ◌*◌, ◌-◌, ◌/◌, ◌<◌, ◌≤◌, ◌≡◌, refl, Bool, true, false, List, length, set, take, drop}
+use Rattle.std.specs.Prelude.{ℕ, ◌+◌, ◌*◌, ◌-◌, ◌/◌, ◌<◌, ◌≤◌, ◌≡◌, refl, Bool, true, false, List, length, set, take, drop, Result}
 use Rattle.std.proofs.Common.{arith, sym, ap, ◌∙◌, length-set, length-take-le, take_at, drop_at}
 use Rattle.pool_rows.specs.Rows.{string_at, room_of, byte_room, entry_room}
 use Rattle.pool_rows.specs.FitLaws.{room_within}
@@ -13,6 +13,7 @@ use Rattle.pool_rows.specs.declared.Counts.{Counts}
 use Rattle.pool.specs.Pool.{one_more, added, is_new, bytes_after, entries_after, counts_after}
 use Rattle.pool.specs.PoolLaws.{old_bytes, old_entries, new_bytes_lem, new_entries_lem}
 use Rattle.pool.specs.declared.Added.{Added}
+use Rattle.pool.specs.declared.AddError.{AddError}
 use Rattle.desks.specs.Desks.{Shared, owner_of, desk_of, other, Fits, entries_for, bytes_for}
 use Rattle.desks.specs.FitLaws.{fit_of, fit_by_lem}
 use Rattle.desks.specs.declared.Desks.{Desks}
@@ -63,7 +64,7 @@ desks_more Second desks before c long h k =
 -- ---- what an answer does to the rows
 
 -- a row that a new string is written into keeps its length
-bytes_long : (x : List ℕ) (counts : Counts) (r : Added) (row : List ℕ) → (is_new counts r ≡ true → counts.bytes + length x ≤ length row)
+bytes_long : (x : List ℕ) (counts : Counts) (r : Result Added AddError) (row : List ℕ) → (is_new counts r ≡ true → counts.bytes + length x ≤ length row)
     → length (bytes_after x counts r row) ≡ length row
 bytes_long x counts r row h = go (is_new counts r) refl
   where
@@ -71,7 +72,7 @@ bytes_long x counts r row h = go (is_new counts r) refl
     go true e = ap length (new_bytes_lem x counts r e row) ∙ written_long row x counts.bytes (h e)
     go false e = ap length (old_bytes x counts r e row)
 
-entries_long : (x : List ℕ) (counts : Counts) (r : Added) (row : List ℕ) → length (entries_after x counts r row) ≡ length row
+entries_long : (x : List ℕ) (counts : Counts) (r : Result Added AddError) (row : List ℕ) → length (entries_after x counts r row) ≡ length row
 entries_long x counts r row = go (is_new counts r) refl
   where
     go : (t : Bool) → is_new counts r ≡ t → length (entries_after x counts r row) ≡ length row
@@ -118,7 +119,7 @@ module _ (which : Which) (s : Shared) (b e : ℕ) where
     abbrev some_entries : List ℕ
     some_entries = take (2 * e) t.entries
 
-    abbrev said : Added
+    abbrev said : Result Added AddError
     said = added x some_bytes some_entries t.counts
 
     parts : OnParts x which t b e (bytes_after x t.counts said some_bytes) (entries_after x t.counts said some_entries) said

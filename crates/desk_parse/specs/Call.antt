@@ -1,7 +1,7 @@
 -- Document 02, C-12: a format parse for a desk. It is the parse of `parse/specs/Call` in which each addition is one for the desk, one after the
 -- other. Refusals 1, 17, 2, 3 or 15, 8 come first, in this order, and leave everything; strings added before 10 to 13 stay.
 -- Assumes nothing.
-use Rattle.std.specs.Prelude.{ℕ, ◌≡◌, List, Bool, true, false, Option, Some, None, Result, Err}
+use Rattle.std.specs.Prelude.{ℕ, ◌≡◌, List, Bool, true, false, Option, Some, None, Result, Err, Ok}
 use Rattle.base.specs.Pick.{pick}
 use Rattle.base.specs.Refusal.{format_most}
 use Rattle.utf8.specs.Chars.{chars}
@@ -9,7 +9,8 @@ use Rattle.property.specs.Table.{properties_at}
 use Rattle.input.specs.Input.{input_check, on_input}
 use Rattle.input.specs.declared.Refusal.{Refusal}
 use Rattle.pool.specs.declared.Added.{Added}
-use Rattle.pool.specs.declared.Added.TheVariants as pool
+use Rattle.pool.specs.declared.AddError.{AddError}
+use Rattle.pool.specs.declared.AddError.TheVariants as pool
 use Rattle.format.specs.Parse.{OnePass, parse_with, string_of}
 use Rattle.parse.specs.Call.{answer_of}
 use Rattle.parse.specs.declared.Parsed.{Parsed}
@@ -31,13 +32,13 @@ abbrev pub lent : Shared → Pool
 lent s = record { state = s; index = None; full = false }
 
 -- what an addition of the string x makes of it
-abbrev pub on_added : Which → Pool → List ℕ → Added → Pool
-on_added which p x (pool.Index i counts) =
-    record { state = shared_after which p.state x (pool.Index i counts); index = Some i; full = false }
-on_added which p x pool.PoolFull = record { state = p.state; index = p.index; full = true }
-on_added which p x (pool.BadUtf8 place) = p
-on_added which p x (pool.CutUtf8 place) = p
-on_added which p x pool.BadState = p
+abbrev pub on_added : Which → Pool → List ℕ → Result Added AddError → Pool
+on_added which p x (Ok added) =
+    record { state = shared_after which p.state x (Ok added); index = Some added.index; full = false }
+on_added which p x (Err pool.PoolFull) = record { state = p.state; index = p.index; full = true }
+on_added which p x (Err (pool.BadUtf8 place)) = p
+on_added which p x (Err (pool.CutUtf8 place)) = p
+on_added which p x (Err pool.BadState) = p
 
 -- the first addition without room ends the parse, so nothing is added after it
 unfoldable pub add_to : Which → Pool → List ℕ → Pool

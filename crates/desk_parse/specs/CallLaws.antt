@@ -22,7 +22,8 @@ use Rattle.pool_rows.specs.FitLaws as rows
 use Rattle.pool_rows.specs.declared.Counts.{Counts}
 use Rattle.pool.specs.Pool.{added, bytes_after, entries_after}
 use Rattle.pool.specs.declared.Added.{Added}
-use Rattle.pool.specs.declared.Added.TheVariants as pool
+use Rattle.pool.specs.declared.AddError.{AddError}
+use Rattle.pool.specs.declared.AddError.TheVariants as pool
 use Rattle.format.specs.Parse.{string_of}
 use Rattle.format_options.specs.declared.Part.{Part}
 use Rattle.parse.specs.Call as parse
@@ -116,30 +117,30 @@ module _ (format table : List ℕ) (edition : ℕ) (which : Which) (s : Shared) 
       abbrev t : Shared
       t = p.state
 
-      abbrev answered : Added
+      abbrev answered : Result Added AddError
       answered = added x (take b t.bytes) (take (2 * e) t.entries) t.counts
 
       same : added x q.bytes q.entries q.counts ≡ answered
       same = rw (n.bytes_are, n.entries_are, n.counts_are)
 
-      by_answer : (r : Added) → answered ≡ r → Pooled (on_added which p x r) (parse.on_added q x r)
-      by_answer (pool.Index i counts) a =
+      by_answer : (r : Result Added AddError) → answered ≡ r → Pooled (on_added which p x r) (parse.on_added q x r)
+      by_answer (Ok said) a =
           record {
-            beside = subst (λ (r : Added). Beside which s b e (shared_after which t x r)) a (beside_after which s b e t n.beside x);
+            beside = subst (λ (r : Result Added AddError). Beside which s b e (shared_after which t x r)) a (beside_after which s b e t n.beside x);
             bytes_are =
                 rw (n.counts_are, n.bytes_are)
-                (subst (λ (r : Added). bytes_after x t.counts r (take b t.bytes) ≡ take b (bytes_after x t.counts r t.bytes)) a
+                (subst (λ (r : Result Added AddError). bytes_after x t.counts r (take b t.bytes) ≡ take b (bytes_after x t.counts r t.bytes)) a
                 (bytes_then_lem which s b e t n.beside x));
             entries_are =
                 rw (n.counts_are, n.entries_are)
                 (subst
-                (λ (r : Added). entries_after x t.counts r (take (2 * e) t.entries) ≡ take (2 * e) (entries_after x t.counts r t.entries)) a
+                (λ (r : Result Added AddError). entries_after x t.counts r (take (2 * e) t.entries) ≡ take (2 * e) (entries_after x t.counts r t.entries)) a
                 (entries_then_lem which s b e t n.beside x));
             counts_are = refl;
             index_is = refl;
             full_is = refl;
           }
-      by_answer pool.PoolFull a =
+      by_answer (Err pool.PoolFull) a =
           record {
             beside = n.beside;
             bytes_are = n.bytes_are;
@@ -148,9 +149,9 @@ module _ (format table : List ℕ) (edition : ℕ) (which : Which) (s : Shared) 
             index_is = n.index_is;
             full_is = refl;
           }
-      by_answer (pool.BadUtf8 i) a = n
-      by_answer (pool.CutUtf8 i) a = n
-      by_answer pool.BadState a = n
+      by_answer (Err (pool.BadUtf8 i)) a = n
+      by_answer (Err (pool.CutUtf8 i)) a = n
+      by_answer (Err pool.BadState) a = n
 
       step : Pooled (add_to which p x) (parse.add_to q x)
       unfolding add_to parse.add_to

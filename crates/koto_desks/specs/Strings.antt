@@ -1,9 +1,10 @@
 -- What `koto_desk_add_string_flat` returns and writes, from the inner call's answer.
 -- Assumes nothing.
-use Rattle.std.specs.Prelude.{ℕ, ◌≡◌, List}
+use Rattle.std.specs.Prelude.{ℕ, ◌≡◌, List, Result, Err}
 use Rattle.base.specs.Pick.{pick}
 use Rattle.pool.specs.Pool.{refusal_at, number_of, place_of, added_index}
 use Rattle.pool.specs.declared.Added.{Added}
+use Rattle.pool.specs.declared.AddError.{AddError}
 use Rattle.desks.specs.Desks.{Shared}
 use Rattle.desk_add.specs.Add.{added_for, add_for}
 use Rattle.desk_add.specs.declared.AddedFor.{AddedFor}
@@ -11,8 +12,8 @@ use Rattle.koto_desks.specs.Words.{is_desk, which_of, Leaves}
 
 module _ (desk : ℕ) (string : List ℕ) (s : Shared) where
   -- the answer: a number that is no desk is 8, where an unfit state is
-  abbrev pub added_from : Added
-  added_from = pick (is_desk desk) (added_for (which_of desk) s string) (refusal_at string)
+  abbrev pub added_from : Result Added AddError
+  added_from = pick (is_desk desk) (added_for (which_of desk) s string) (Err (refusal_at string))
 
   -- the shared pool after it
   abbrev pub add_from : Shared

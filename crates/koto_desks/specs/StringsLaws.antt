@@ -2,7 +2,7 @@
 --     no_desk, a_desk     the addition for the desk of a number: none of the two, and one of them
 --     told                the call
 -- Assumes nothing.
-use Rattle.std.specs.Prelude.{ℕ, ◌<◌, ◌≤◌, ◌≡◌, List}
+use Rattle.std.specs.Prelude.{ℕ, ◌<◌, ◌≤◌, ◌≡◌, List, Err}
 use Rattle.std.proofs.Common.{ap, subst, ◌∙◌, lt-ltb, le-ltb}
 use Rattle.pool_rows.specs.declared.Counts.{Counts}
 use Rattle.pool.specs.Pool.{refusal_at, number_of, place_of, added_index}
@@ -15,7 +15,7 @@ use Rattle.koto_desks.specs.Words.{counts_in, desks_in, which_of, count_words, d
 use Rattle.koto_desks.specs.Strings.{AddedFrom, AddStringIs}
 
 module _ {desk : ℕ} {string : List ℕ} {s : Shared} where
-  pub no_desk : 2 ≤ desk → {r : AddedFor} → r.added ≡ refusal_at string → r.counts ≡ s.counts → r.desks ≡ s.desks
+  pub no_desk : 2 ≤ desk → {r : AddedFor} → r.added ≡ Err (refusal_at string) → r.counts ≡ s.counts → r.desks ≡ s.desks
       → AddedFrom desk string s s.bytes s.entries s.owners r
   no_desk h a c d =
       let no = le-ltb desk 2 h in

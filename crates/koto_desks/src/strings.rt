@@ -25,7 +25,7 @@ fn add_from(
 {
     if words::DESKS <= desk {
         return AddedFor {
-            added: pool::refusal_of(string),
+            added: Err(pool::refusal_of(string)),
             counts,
             desks,
         };

@@ -1,8 +1,8 @@
 -- What `koto_pad` returns and writes, from the inner call's answer.
 -- Assumes nothing.
-use Rattle.std.specs.Prelude.{ℕ, ◌≡◌, List, Bool, not, eqb, length}
+use Rattle.std.specs.Prelude.{ℕ, ◌≡◌, List, Bool, not, eqb, length, Result}
 use Rattle.pad.specs.Call.{buffer_after, padded_text, pad_answer, number_of, place_of, len_of}
-use Rattle.pad.specs.declared.Padded.{Padded}
+use Rattle.pad.specs.declared.PadError.{PadError}
 
 -- a fill is given
 abbrev pub is_given : ℕ → Bool
@@ -10,7 +10,7 @@ is_given filled = not (eqb filled 0)
 
 module _ (text : List ℕ) (alignment width filled : ℕ) (fill table : List ℕ) (edition : ℕ) where
   -- the inner call's answer for a buffer of so many bytes
-  abbrev pub answer_in : ℕ → Padded
+  abbrev pub answer_in : ℕ → Result ℕ PadError
   answer_in room = pad_answer text alignment width (is_given filled) fill table edition room
 
   -- what `koto_pad` ensures, of the buffer `new` that it leaves of the buffer `old`

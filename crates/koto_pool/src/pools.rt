@@ -1,12 +1,12 @@
 // Adding a string to a pool, for C.
 ghost use Rattle.koto_pool.specs.Pools.{AddedTold, AddStringIs};
 
-use pool::{Added, answer};
+use pool::{AddError, Added, answer};
 use pool_lent::Entry;
 use pool_rows::Counts;
 
 // Writes an answer's numbers, and hands its refusal on.
-fn tell(added: Added, index: &mut u32, place: &mut usize) -> u32
+fn tell(added: Result<Added, AddError>, index: &mut u32, place: &mut usize) -> u32
     ensures { AddedTold added index.new place.new result }
 {
     *index = answer::index_of(added);

@@ -52,10 +52,7 @@ pub fn mark(moved: &mut [u32], marks: &[u32], n: usize)
     requires { (n ≤ length moved.old) × (all_given marks.now n ≡ true) }
     ensures { moved.new ≡ marked moved.old marks.now }
 {
-    let mut i = 0;
-    while i < marks.len() {
-        let at = marks[i] as usize;
-        moved[at] = 0;
-        i += 1;
+    for &m in marks {
+        moved[m as usize] = 0;
     }
 }

@@ -2,44 +2,41 @@
 ghost use Rattle.std.specs.Prelude.{◌≡◌};
 ghost use Rattle.pad.specs.Call.{number_of, place_of, len_of};
 
-use crate::Padded;
+use crate::PadError;
 use base::refusals::{NO_REFUSAL, NO_ROOM, NO_SUCH_FORMAT};
 
 // The refusal's number; 0 where there is no refusal.
-pub fn number_of(padded: Padded) -> u32
+pub fn number_of(padded: Result<usize, PadError>) -> u32
     ensures { result ≡ number_of padded }
 {
     match padded {
-        Padded::Length(_) => NO_REFUSAL,
-        Padded::Refused(refusal) => input::answer::number_of(refusal),
-        Padded::FillRefused(refusal) => input::answer::number_of(refusal),
-        Padded::NoSuchFormat => NO_SUCH_FORMAT,
-        Padded::NoRoom => NO_ROOM,
+        Ok(_) => NO_REFUSAL,
+        Err(PadError::Refused(refusal)) => input::answer::number_of(refusal),
+        Err(PadError::FillRefused(refusal)) => input::answer::number_of(refusal),
+        Err(PadError::NoSuchFormat) => NO_SUCH_FORMAT,
+        Err(PadError::NoRoom) => NO_ROOM,
     }
 }
 
 // The refusal's place; 0 where there is no refusal.
-pub fn place_of(padded: Padded) -> usize
+pub fn place_of(padded: Result<usize, PadError>) -> usize
     ensures { result ≡ place_of padded }
 {
     match padded {
-        Padded::Length(_) => 0,
-        Padded::Refused(refusal) => input::answer::place_of(refusal),
-        Padded::FillRefused(refusal) => input::answer::place_of(refusal),
-        Padded::NoSuchFormat => 0,
-        Padded::NoRoom => 0,
+        Ok(_) => 0,
+        Err(PadError::Refused(refusal)) => input::answer::place_of(refusal),
+        Err(PadError::FillRefused(refusal)) => input::answer::place_of(refusal),
+        Err(PadError::NoSuchFormat) => 0,
+        Err(PadError::NoRoom) => 0,
     }
 }
 
 // How many bytes the padded text has; 0 on a refusal.
-pub fn len_of(padded: Padded) -> usize
+pub fn len_of(padded: Result<usize, PadError>) -> usize
     ensures { result ≡ len_of padded }
 {
     match padded {
-        Padded::Length(n) => n,
-        Padded::Refused(_) => 0,
-        Padded::FillRefused(_) => 0,
-        Padded::NoSuchFormat => 0,
-        Padded::NoRoom => 0,
+        Ok(n) => n,
+        Err(_) => 0,
     }
 }

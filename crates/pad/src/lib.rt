@@ -11,17 +11,16 @@ ghost use Rattle.property.specs.Table.{properties_at};
 ghost use Rattle.fitness.specs.Fit.{FitTable};
 ghost use Rattle.pad_input.specs.Check.{text_most};
 ghost use Rattle.fills.specs.Pad.{is_width};
-ghost use Rattle.pad.specs.Call.{PadsText, Pads};
+ghost use Rattle.pad.specs.Call.{error_of, PadsText, Pads};
 
 use cluster_count::count_clusters;
 use fills::{fills_of, put_padded};
 use input::Refusal;
-use pad_input::{Check, check_pad};
+use pad_input::{PadRefusal, check_pad};
 
-// What `pad` answers: how many bytes the padded text has, or a refusal.
+// What `pad` refuses.
 #[derive(Clone, Copy)]
-pub enum Padded {
-    Length(usize),
+pub enum PadError {
     // 1 of the text or of a fill that is given, 17, 2, 3 and 15 of the text: they come before any work, as do the next two.
     Refused(Refusal),
     // 3 and 15 of the fill, with the offset in its own bytes.
@@ -30,6 +29,19 @@ pub enum Padded {
     NoSuchFormat,
     // 19: the buffer is shorter than the padded text. Its place is 0.
     NoRoom,
+}
+
+// What the checks refuse, `pad` refuses.
+impl From<PadRefusal> for PadError {
+    ghost from_gives = { λ e r. r ≡ error_of e };
+
+    fn from(refusal: PadRefusal) -> PadError {
+        match refusal {
+            PadRefusal::Refused(refusal) => PadError::Refused(refusal),
+            PadRefusal::FillRefused(refusal) => PadError::FillRefused(refusal),
+            PadRefusal::NoSuchFormat => PadError::NoSuchFormat,
+        }
+    }
 }
 
 // Pads a text that no check refuses. How many bytes are needed is known before one is written.
@@ -41,7 +53,7 @@ fn pad_text(
     table: &[u32],
     edition: u32,
     buffer: &mut [u8],
-) -> Padded
+) -> Result<usize, PadError>
     requires well_formed { WellFormed text.now × FitTable table.now × (length text.now ≤ text_most) × (length fill.now ≤ text_most) }
     requires width_value { is_width width ≡ true }
     ensures { PadsText (properties_at table.now) edition text.now alignment width fill.now
@@ -51,9 +63,9 @@ fn pad_text(
     let n = fills_of(width, clusters);
     let needed = text.len() + n * fill.len();
     if buffer.len() < needed {
-        return Padded::NoRoom;
+        return Err(PadError::NoRoom);
     }
-    Padded::Length(put_padded(buffer, text, fill, alignment, n))
+    Ok(put_padded(buffer, text, fill, alignment, n))
 }
 
 // Writes the padded text to the start of a lent buffer, with the fill that is given or with spaces; bytes past it stay. Refused are a text or
@@ -68,19 +80,13 @@ pub fn pad(
     table: &[u32],
     edition: u32,
     buffer: &mut [u8],
-) -> Padded
+) -> Result<usize, PadError>
     ensures { Pads text.now alignment width filled fill.now table.now edition
         buffer.old buffer.new result }
 {
-    match check_pad(text, alignment, width, filled, fill, table, edition) {
-        Check::Refused(refusal) => Padded::Refused(refusal),
-        Check::Fine => {
-            if filled {
-                return pad_text(text, alignment, width, fill, table, edition, buffer);
-            }
-            pad_text(text, alignment, width, b" ", table, edition, buffer)
-        }
-        Check::FillRefused(refusal) => Padded::FillRefused(refusal),
-        Check::NoSuchFormat => Padded::NoSuchFormat,
+    check_pad(text, alignment, width, filled, fill, table, edition)?;
+    if filled {
+        return pad_text(text, alignment, width, fill, table, edition, buffer);
     }
+    pad_text(text, alignment, width, b" ", table, edition, buffer)
 }

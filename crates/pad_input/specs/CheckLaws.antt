@@ -28,18 +28,18 @@ use Rattle.input.specs.declared.Refusal.{Refusal}
 use Rattle.input.specs.declared.Refusal.TheVariants.{TooLong, BadEdition, BadTable, BadUtf8, CutUtf8}
 use Rattle.cluster_count.specs.Count.{cluster_count}
 use Rattle.fills.specs.Pad.{right, is_width}
-use Rattle.pad_input.specs.Check.{text_most, long_fill, is_format, format_check, fill_check, pad_check, Short, Begun, Paddable}
-use Rattle.pad_input.specs.declared.Check.{Check}
-use Rattle.pad_input.specs.declared.Check.TheVariants.{Fine, Refused, FillRefused, NoSuchFormat}
+use Rattle.pad_input.specs.Check.{of_text, of_fill, text_most, long_fill, is_format, format_check, fill_check, pad_check, Short, Begun, Paddable}
+use Rattle.pad_input.specs.declared.PadRefusal.{PadRefusal}
+use Rattle.pad_input.specs.declared.PadRefusal.TheVariants.{NoSuchFormat}
 
-never : {A : Type 0} (x : Refusal) → Refused x ≡ Fine → A
+never : {A : Type 0} (x : Refusal) → of_text x ≡ Ok tt → A
 never x e = absurd (let z : ◌≡◌ {A = ℕ} 0 1 = cc in omega arith)
 
-input_fine : (c : Result (Unit {0}) Refusal) (r : Check) → on_input Refused c r ≡ Fine → (c ≡ Ok tt) × (r ≡ Fine)
+input_fine : (c : Result (Unit {0}) Refusal) (r : Result (Unit {0}) PadRefusal) → on_input of_text c r ≡ Ok tt → (c ≡ Ok tt) × (r ≡ Ok tt)
 input_fine (Ok _) r e = (refl, e)
 input_fine (Err x) r e = never x e
 
-fill_fine : (x : Result (Unit {0}) Utf8Error) (r : Check) → on_input FillRefused (on_utf8 x) r ≡ Fine → (x ≡ Ok tt) × (r ≡ Fine)
+fill_fine : (x : Result (Unit {0}) Utf8Error) (r : Result (Unit {0}) PadRefusal) → on_input of_fill (on_utf8 x) r ≡ Ok tt → (x ≡ Ok tt) × (r ≡ Ok tt)
 fill_fine (Ok _) r e = (refl, e)
 fill_fine (Err (utf8.BadAt i)) r e = absurd (let z : ◌≡◌ {A = ℕ} 0 1 = cc in omega arith)
 fill_fine (Err (utf8.CutAt i)) r e = absurd (let z : ◌≡◌ {A = ℕ} 0 1 = cc in omega arith)
@@ -58,17 +58,17 @@ width_of_lem alignment width e = go (leb alignment right) e
     go false e = absurd (let z : ◌≡◌ {A = ℕ} 0 1 = cc in omega arith)
 
 -- a pick whose second case is 18
-first_case : (t : Bool) (a : Check) → pick t a NoSuchFormat ≡ Fine → (t ≡ true) × (a ≡ Fine)
+first_case : (t : Bool) (a : Result (Unit {0}) PadRefusal) → pick t a (Err NoSuchFormat) ≡ Ok tt → (t ≡ true) × (a ≡ Ok tt)
 first_case true a e = (refl, e)
 first_case false a e = absurd (let z : ◌≡◌ {A = ℕ} 0 1 = cc in omega arith)
 
-format_fine : (alignment width : ℕ) → format_check alignment width ≡ Fine → is_format alignment width ≡ true
+format_fine : (alignment width : ℕ) → format_check alignment width ≡ Ok tt → is_format alignment width ≡ true
 unfolding format_check
-format_fine alignment width e = (first_case (is_format alignment width) Fine e).0
+format_fine alignment width e = (first_case (is_format alignment width) (Ok tt) e).0
 
 -- the rest of the checks, behind those of the text
 module _ (look : ℕ → ℕ) (edition alignment width : ℕ) (fill : List ℕ) where
-  rest_parts : (given : Bool) → pick given (fill_check look edition alignment width fill) (format_check alignment width) ≡ Fine
+  rest_parts : (given : Bool) → pick given (fill_check look edition alignment width fill) (format_check alignment width) ≡ Ok tt
       → (is_format alignment width ≡ true)
       × ((given ≡ true → check_from 0 fill ≡ Ok tt) × (given ≡ true → cluster_count look edition (chars fill) ≡ 1))
   unfolding fill_check
@@ -84,10 +84,10 @@ module _ (text : List ℕ) (alignment width : ℕ) (given : Bool) (fill table : 
   abbrev look : ℕ → ℕ
   look = properties_at table
 
-  abbrev rest : Check
+  abbrev rest : Result (Unit {0}) PadRefusal
   rest = pick given (fill_check look edition alignment width fill) (format_check alignment width)
 
-  abbrev check : Check
+  abbrev check : Result (Unit {0}) PadRefusal
   check = pad_check text alignment width given fill table edition
 
   -- what the checks of the text, the edition and the table answer
@@ -96,15 +96,15 @@ module _ (text : List ℕ) (alignment width : ℕ) (given : Bool) (fill table : 
 
   -- ---- 1 and 17
 
-  pub long_text : text_most < length text → check ≡ Refused TooLong
+  pub long_text : text_most < length text → check ≡ of_text TooLong
   unfolding pad_check
   long_text h = rw (is_long text_most text table edition h) (go (long_fill given fill))
     where
-      go : (t : Bool) → pick t (Refused TooLong) (Refused TooLong) ≡ Refused TooLong
+      go : (t : Bool) → pick t (of_text TooLong) (of_text TooLong) ≡ of_text TooLong
       go true = refl
       go false = refl
 
-  pub fill_long : given ≡ true → text_most < length fill → check ≡ Refused TooLong
+  pub fill_long : given ≡ true → text_most < length fill → check ≡ of_text TooLong
   unfolding pad_check long_fill
   fill_long g h = rw (g, lt-ltb text_most (length fill) h)
 
@@ -117,11 +117,11 @@ module _ (text : List ℕ) (alignment width : ℕ) (given : Bool) (fill table : 
       go false f = refl
 
   -- once the fill is not too long
-  by_text : (given ≡ true → length fill ≤ text_most) → check ≡ on_input Refused checked rest
+  by_text : (given ≡ true → length fill ≤ text_most) → check ≡ on_input of_text checked rest
   unfolding pad_check
   by_text f = rw (fill_short_enough f)
 
-  pub no_edition : Short text given fill → (edition ≡ 1 → ⊥) → (edition ≡ 2 → ⊥) → check ≡ Refused BadEdition
+  pub no_edition : Short text given fill → (edition ≡ 1 → ⊥) → (edition ≡ 2 → ⊥) → check ≡ of_text BadEdition
   no_edition s one two = by_text s.fill_short ∙ rw (is_none text_most text table edition s.text_short none)
     where
       none : is_edition edition ≡ false
@@ -136,60 +136,60 @@ module _ (text : List ℕ) (alignment width : ℕ) (given : Bool) (fill table : 
   -- ---- behind them
 
   module _ (b : Begun text given fill edition) where
-    opened : check ≡ on_input Refused (on_table (table_check table) (on_utf8 (check_from 0 text))) rest
+    opened : check ≡ on_input of_text (on_table (table_check table) (on_utf8 (check_from 0 text))) rest
     opened =
         by_text b.short.fill_short
         ∙ rw (is_rest text_most text table edition b.short.text_short (is_inside edition 1 2 b.edition_some b.edition_most))
 
-    pub unfit : (i : ℕ) → table_check table ≡ Err (fitness.BadTable i) → check ≡ Refused (BadTable i)
+    pub unfit : (i : ℕ) → table_check table ≡ Err (fitness.BadTable i) → check ≡ of_text (BadTable i)
     unfit i e = opened ∙ rw e
 
     module _ (f : table_check table ≡ Ok tt) where
-      pub bad_text : (i : ℕ) → check_from 0 text ≡ Err (utf8.BadAt i) → check ≡ Refused (BadUtf8 i)
+      pub bad_text : (i : ℕ) → check_from 0 text ≡ Err (utf8.BadAt i) → check ≡ of_text (BadUtf8 i)
       bad_text i e = opened ∙ rw (f, e)
 
-      pub cut_text : (i : ℕ) → check_from 0 text ≡ Err (utf8.CutAt i) → check ≡ Refused (CutUtf8 i)
+      pub cut_text : (i : ℕ) → check_from 0 text ≡ Err (utf8.CutAt i) → check ≡ of_text (CutUtf8 i)
       cut_text i e = opened ∙ rw (f, e)
 
       module _ (w : check_from 0 text ≡ Ok tt) where
         asked : check ≡ rest
         asked = opened ∙ rw (f, w)
 
-        pub bad_fill : given ≡ true → (i : ℕ) → check_from 0 fill ≡ Err (utf8.BadAt i) → check ≡ FillRefused (BadUtf8 i)
+        pub bad_fill : given ≡ true → (i : ℕ) → check_from 0 fill ≡ Err (utf8.BadAt i) → check ≡ of_fill (BadUtf8 i)
         unfolding fill_check
         bad_fill g i e = asked ∙ rw (g, e)
 
-        pub cut_fill : given ≡ true → (i : ℕ) → check_from 0 fill ≡ Err (utf8.CutAt i) → check ≡ FillRefused (CutUtf8 i)
+        pub cut_fill : given ≡ true → (i : ℕ) → check_from 0 fill ≡ Err (utf8.CutAt i) → check ≡ of_fill (CutUtf8 i)
         unfolding fill_check
         cut_fill g i e = asked ∙ rw (g, e)
 
         pub not_one : given ≡ true → check_from 0 fill ≡ Ok tt → (cluster_count look edition (chars fill) ≡ 1 → ⊥)
-            → check ≡ NoSuchFormat
+            → check ≡ Err NoSuchFormat
         unfolding fill_check
         not_one g e n = asked ∙ rw (g, e, ne_eqb (cluster_count look edition (chars fill)) 1 n)
 
-        pub no_format : (given ≡ true → check_from 0 fill ≡ Ok tt) → is_format alignment width ≡ false → check ≡ NoSuchFormat
+        pub no_format : (given ≡ true → check_from 0 fill ≡ Ok tt) → is_format alignment width ≡ false → check ≡ Err NoSuchFormat
         unfolding fill_check format_check
         no_format e n = asked ∙ go given e
           where
             one : Bool
             one = eqb (cluster_count look edition (chars fill)) 1
 
-            both : (t : Bool) → pick t (pick (is_format alignment width) Fine NoSuchFormat) NoSuchFormat ≡ NoSuchFormat
+            both : (t : Bool) → pick t (pick (is_format alignment width) (Ok (tt {0})) (Err NoSuchFormat)) (Err NoSuchFormat) ≡ Err NoSuchFormat
             both true = rw n
             both false = refl
 
             go : (t : Bool) → (t ≡ true → check_from 0 fill ≡ Ok tt)
-                → pick t (fill_check look edition alignment width fill) (format_check alignment width) ≡ NoSuchFormat
+                → pick t (fill_check look edition alignment width fill) (format_check alignment width) ≡ Err NoSuchFormat
             go true e = rw (e refl) (both one)
             go false e = rw n
 
   -- ---- no refusal
 
-  pub fine_parts : check ≡ Fine → Paddable text alignment width given fill table edition
+  pub fine_parts : check ≡ Ok tt → Paddable text alignment width given fill table edition
   unfolding pad_check
   fine_parts e =
-      let a = is_second (long_fill given fill) (Refused TooLong) _ Fine (never TooLong) e in
+      let a = is_second (long_fill given fill) (of_text TooLong) _ (Ok tt) (never TooLong) e in
       let b = input_fine checked rest a.1 in
       let g = fine_of text_most text table edition b.0 in
       let known = inside_is edition 1 2 g.known in
@@ -208,11 +208,11 @@ module _ (text : List ℕ) (alignment width : ℕ) (given : Bool) (fill table : 
         format = r.0;
       }
 
-  pub is_fine_lem : Paddable text alignment width given fill table edition → check ≡ Fine
+  pub is_fine_lem : Paddable text alignment width given fill table edition → check ≡ Ok tt
   unfolding fill_check format_check
   is_fine_lem p = asked p.begun p.fit p.well ∙ go given p.fill_well p.fill_one
     where
       go : (t : Bool) → (t ≡ true → check_from 0 fill ≡ Ok tt) → (t ≡ true → cluster_count look edition (chars fill) ≡ 1)
-          → pick t (fill_check look edition alignment width fill) (format_check alignment width) ≡ Fine
+          → pick t (fill_check look edition alignment width fill) (format_check alignment width) ≡ Ok tt
       go true w o = rw (w refl, eq-eqb (cluster_count look edition (chars fill)) 1 (o refl), p.format)
       go false w o = rw p.format

@@ -14,10 +14,9 @@ use input::{Refusal, check_input};
 // A text, and a fill, has at most this many bytes.
 const TEXT_MOST: usize = 65535;
 
-// What the checks answer.
+// What the checks refuse.
 #[derive(Clone, Copy)]
-pub enum Check {
-    Fine,
+pub enum PadRefusal {
     // 1 of the text or of a fill that is given, 17, 2, 3 and 15 of the text.
     Refused(Refusal),
     // 3 and 15 of the fill, with the offset in its own bytes.
@@ -40,27 +39,27 @@ fn is_format(alignment: u64, width: u64) -> bool
     alignment <= RIGHT && is_width(width)
 }
 
-fn check_format(alignment: u64, width: u64) -> Check
+fn check_format(alignment: u64, width: u64) -> Result<(), PadRefusal>
     ensures { result ≡ format_check alignment width }
 {
     if is_format(alignment, width) {
-        return Check::Fine;
+        return Ok(());
     }
-    Check::NoSuchFormat
+    Err(PadRefusal::NoSuchFormat)
 }
 
 // The questions after those about the text, where a fill is given.
-fn check_fill(alignment: u64, width: u64, fill: &[u8], table: &[u32], edition: u32) -> Check
+fn check_fill(alignment: u64, width: u64, fill: &[u8], table: &[u32], edition: u32) -> Result<(), PadRefusal>
     requires { FitTable table.now }
     ensures { result ≡ fill_check (properties_at table.now) edition alignment width fill.now }
 {
     match utf8::check_utf8(fill) {
-        Err(error) => Check::FillRefused(Refusal::from(error)),
+        Err(error) => Err(PadRefusal::FillRefused(Refusal::from(error))),
         Ok(()) => {
             if count_clusters(fill, table, edition) == 1 {
                 return check_format(alignment, width);
             }
-            Check::NoSuchFormat
+            Err(PadRefusal::NoSuchFormat)
         }
     }
 }
@@ -75,14 +74,14 @@ pub fn check_pad(
     fill: &[u8],
     table: &[u32],
     edition: u32,
-) -> Check
+) -> Result<(), PadRefusal>
     ensures { result ≡ pad_check text.now alignment width filled fill.now table.now edition }
 {
     if is_long(filled, fill) {
-        return Check::Refused(Refusal::TooLong);
+        return Err(PadRefusal::Refused(Refusal::TooLong));
     }
     match check_input(text, table, edition, TEXT_MOST) {
-        Err(refusal) => Check::Refused(refusal),
+        Err(refusal) => Err(PadRefusal::Refused(refusal)),
         Ok(()) => {
             if filled {
                 return check_fill(alignment, width, fill, table, edition);

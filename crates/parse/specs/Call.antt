@@ -14,7 +14,8 @@ use Rattle.pool_rows.specs.Rows.{fit_pool}
 use Rattle.pool.specs.Pool.{added, bytes_after, entries_after}
 use Rattle.pool_rows.specs.declared.Counts.{Counts}
 use Rattle.pool.specs.declared.Added.{Added}
-use Rattle.pool.specs.declared.Added.TheVariants as pool
+use Rattle.pool.specs.declared.AddError.{AddError}
+use Rattle.pool.specs.declared.AddError.TheVariants as pool
 use Rattle.format.specs.Parse as form
 use Rattle.format.specs.Parse.{parse_with, string_of}
 use Rattle.format_options.specs.declared.Options.{Options}
@@ -40,27 +41,27 @@ abbrev pub pooled : List ℕ → List ℕ → Adding → Pool
 pooled bytes entries a = record { bytes = bytes; entries = entries; counts = a.counts; index = a.index; full = a.full }
 
 -- what has been added, after an addition that answered so; a refusal of the string or of the pool leaves it
-abbrev pub adding_after : Adding → Added → Adding
-adding_after a (pool.Index i counts) = record { counts = counts; index = Some i; full = false }
-adding_after a pool.PoolFull = record { counts = a.counts; index = a.index; full = true }
-adding_after a (pool.BadUtf8 place) = a
-adding_after a (pool.CutUtf8 place) = a
-adding_after a pool.BadState = a
+abbrev pub adding_after : Adding → Result Added AddError → Adding
+adding_after a (Ok added) = record { counts = added.counts; index = Some added.index; full = false }
+adding_after a (Err pool.PoolFull) = record { counts = a.counts; index = a.index; full = true }
+adding_after a (Err (pool.BadUtf8 place)) = a
+adding_after a (Err (pool.CutUtf8 place)) = a
+adding_after a (Err pool.BadState) = a
 
 -- what an addition of the string x makes of the pool
-abbrev pub on_added : Pool → List ℕ → Added → Pool
-on_added p x (pool.Index i counts) =
+abbrev pub on_added : Pool → List ℕ → Result Added AddError → Pool
+on_added p x (Ok added) =
     record {
-      bytes = bytes_after x p.counts (pool.Index i counts) p.bytes;
-      entries = entries_after x p.counts (pool.Index i counts) p.entries;
-      counts = counts;
-      index = Some i;
+      bytes = bytes_after x p.counts (Ok added) p.bytes;
+      entries = entries_after x p.counts (Ok added) p.entries;
+      counts = added.counts;
+      index = Some added.index;
       full = false;
     }
-on_added p x pool.PoolFull = record { bytes = p.bytes; entries = p.entries; counts = p.counts; index = p.index; full = true }
-on_added p x (pool.BadUtf8 place) = p
-on_added p x (pool.CutUtf8 place) = p
-on_added p x pool.BadState = p
+on_added p x (Err pool.PoolFull) = record { bytes = p.bytes; entries = p.entries; counts = p.counts; index = p.index; full = true }
+on_added p x (Err (pool.BadUtf8 place)) = p
+on_added p x (Err (pool.CutUtf8 place)) = p
+on_added p x (Err pool.BadState) = p
 
 -- `add_string_constant(..)?`: the first addition without room ends the parse, so nothing is added after it
 unfoldable pub add_to : Pool → List ℕ → Pool

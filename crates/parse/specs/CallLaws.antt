@@ -19,11 +19,12 @@ use Rattle.property.specs.Table.{properties_at}
 use Rattle.input.specs.Input.{input_check}
 use Rattle.input.specs.declared.Refusal.{Refusal}
 use Rattle.pool_rows.specs.Rows.{fit_pool}
-use Rattle.pool.specs.Pool.{added, is_new, bytes_after, entries_after, AddsString}
+use Rattle.pool.specs.Pool.{indexed, added, is_new, bytes_after, entries_after, AddsString}
 use Rattle.pool.specs.PoolLaws.{old_bytes, old_entries, grows, added_again}
 use Rattle.pool_rows.specs.declared.Counts.{Counts}
 use Rattle.pool.specs.declared.Added.{Added}
-use Rattle.pool.specs.declared.Added.TheVariants as pool
+use Rattle.pool.specs.declared.AddError.{AddError}
+use Rattle.pool.specs.declared.AddError.TheVariants as pool
 use Rattle.format.specs.Read.{add_both}
 use Rattle.format.specs.Parse.{add_part}
 use Rattle.format.specs.ReadLaws.{parse_two_stages}
@@ -46,54 +47,54 @@ module _ (p : Pool) (x : List ℕ) where
   unfolding add_to
   adds_full e = rw e
 
-  adds_by : p.full ≡ false → {a : Added} → added x p.bytes p.entries p.counts ≡ a → add_to p x ≡ on_added p x a
+  adds_by : p.full ≡ false → {a : Result Added AddError} → added x p.bytes p.entries p.counts ≡ a → add_to p x ≡ on_added p x a
   unfolding add_to
   adds_by f e = rw (f, e)
 
-  module _ (f : p.full ≡ false) {new_bytes new_entries : List ℕ} {r : Added}
+  module _ (f : p.full ≡ false) {new_bytes new_entries : List ℕ} {r : Result Added AddError}
       (a : AddsString x p.counts p.bytes p.entries new_bytes new_entries r) where
-    told : {q : Added} → r ≡ q → added x p.bytes p.entries p.counts ≡ q
+    told : {q : Result Added AddError} → r ≡ q → added x p.bytes p.entries p.counts ≡ q
     told e = sym a.answer ∙ e
 
-    bytes_by : {q : Added} → r ≡ q → new_bytes ≡ bytes_after x p.counts q p.bytes
-    bytes_by e = a.bytes_left ∙ ap (λ (y : Added). bytes_after x p.counts y p.bytes) (told e)
+    bytes_by : {q : Result Added AddError} → r ≡ q → new_bytes ≡ bytes_after x p.counts q p.bytes
+    bytes_by e = a.bytes_left ∙ ap (λ (y : Result Added AddError). bytes_after x p.counts y p.bytes) (told e)
 
-    entries_by : {q : Added} → r ≡ q → new_entries ≡ entries_after x p.counts q p.entries
-    entries_by e = a.entries_left ∙ ap (λ (y : Added). entries_after x p.counts y p.entries) (told e)
+    entries_by : {q : Result Added AddError} → r ≡ q → new_entries ≡ entries_after x p.counts q p.entries
+    entries_by e = a.entries_left ∙ ap (λ (y : Result Added AddError). entries_after x p.counts y p.entries) (told e)
 
-    adds_index : {i : ℕ} {counts : Counts} → r ≡ pool.Index i counts → made new_bytes new_entries counts (Some i) false ≡ add_to p x
+    adds_index : {i : ℕ} {counts : Counts} → r ≡ indexed i counts → made new_bytes new_entries counts (Some i) false ≡ add_to p x
     adds_index {i} {counts} e =
         ap (λ (b : List ℕ). made b new_entries counts (Some i) false) (bytes_by e)
-        ∙ ap (λ (n : List ℕ). made (bytes_after x p.counts (pool.Index i counts) p.bytes) n counts (Some i) false) (entries_by e)
+        ∙ ap (λ (n : List ℕ). made (bytes_after x p.counts (indexed i counts) p.bytes) n counts (Some i) false) (entries_by e)
         ∙ sym (adds_by f (told e))
 
     -- a refusal writes nothing
-    kept : (full : Bool) {q : Added} → r ≡ q → ((l : List ℕ) → bytes_after x p.counts q l ≡ l) → ((l : List ℕ) → entries_after x p.counts q l ≡ l)
+    kept : (full : Bool) {q : Result Added AddError} → r ≡ q → ((l : List ℕ) → bytes_after x p.counts q l ≡ l) → ((l : List ℕ) → entries_after x p.counts q l ≡ l)
         → made new_bytes new_entries p.counts p.index full ≡ made p.bytes p.entries p.counts p.index full
     kept full e b n =
         ap (λ (l : List ℕ). made l new_entries p.counts p.index full) (bytes_by e ∙ b p.bytes)
         ∙ ap (λ (l : List ℕ). made p.bytes l p.counts p.index full) (entries_by e ∙ n p.entries)
 
-    adds_none : r ≡ pool.PoolFull → made new_bytes new_entries p.counts p.index true ≡ add_to p x
+    adds_none : r ≡ Err pool.PoolFull → made new_bytes new_entries p.counts p.index true ≡ add_to p x
     adds_none e =
-        kept true e (old_bytes x p.counts pool.PoolFull refl) (old_entries x p.counts pool.PoolFull refl) ∙ sym (adds_by f (told e))
+        kept true e (old_bytes x p.counts (Err pool.PoolFull) refl) (old_entries x p.counts (Err pool.PoolFull) refl) ∙ sym (adds_by f (told e))
 
     -- a refusal that leaves all as it is
-    adds_nothing : (q : Added) → is_new p.counts q ≡ false → on_added p x q ≡ p → r ≡ q
+    adds_nothing : (q : Result Added AddError) → is_new p.counts q ≡ false → on_added p x q ≡ p → r ≡ q
         → made new_bytes new_entries p.counts p.index p.full ≡ add_to p x
     adds_nothing q n o e = kept p.full e (old_bytes x p.counts q n) (old_entries x p.counts q n) ∙ sym (adds_by f (told e) ∙ o)
 
 -- the same, by what the code makes of the answer
-adds_after_by : (a : Adding) (x : List ℕ) {bytes entries new_bytes new_entries : List ℕ} (r q : Added) → r ≡ q → a.full ≡ false
+adds_after_by : (a : Adding) (x : List ℕ) {bytes entries new_bytes new_entries : List ℕ} (r q : Result Added AddError) → r ≡ q → a.full ≡ false
     → AddsString x a.counts bytes entries new_bytes new_entries r
     → pooled new_bytes new_entries (adding_after a q) ≡ add_to (pooled bytes entries a) x
-adds_after_by a x {bytes} {entries} r (pool.Index i counts) e f s = adds_index (pooled bytes entries a) x f s e
-adds_after_by a x {bytes} {entries} r pool.PoolFull e f s = adds_none (pooled bytes entries a) x f s e
-adds_after_by a x {bytes} {entries} r (pool.BadUtf8 n) e f s = adds_nothing (pooled bytes entries a) x f s (pool.BadUtf8 n) refl refl e
-adds_after_by a x {bytes} {entries} r (pool.CutUtf8 n) e f s = adds_nothing (pooled bytes entries a) x f s (pool.CutUtf8 n) refl refl e
-adds_after_by a x {bytes} {entries} r pool.BadState e f s = adds_nothing (pooled bytes entries a) x f s pool.BadState refl refl e
+adds_after_by a x {bytes} {entries} r (Ok q) e f s = adds_index (pooled bytes entries a) x f s {i = q.index} {counts = q.counts} e
+adds_after_by a x {bytes} {entries} r (Err pool.PoolFull) e f s = adds_none (pooled bytes entries a) x f s e
+adds_after_by a x {bytes} {entries} r (Err (pool.BadUtf8 n)) e f s = adds_nothing (pooled bytes entries a) x f s (Err (pool.BadUtf8 n)) refl refl e
+adds_after_by a x {bytes} {entries} r (Err (pool.CutUtf8 n)) e f s = adds_nothing (pooled bytes entries a) x f s (Err (pool.CutUtf8 n)) refl refl e
+adds_after_by a x {bytes} {entries} r (Err pool.BadState) e f s = adds_nothing (pooled bytes entries a) x f s (Err pool.BadState) refl refl e
 
-pub adds_after : (a : Adding) (x : List ℕ) {bytes entries new_bytes new_entries : List ℕ} {r : Added} {b : Adding} → a.full ≡ false
+pub adds_after : (a : Adding) (x : List ℕ) {bytes entries new_bytes new_entries : List ℕ} {r : Result Added AddError} {b : Adding} → a.full ≡ false
     → AddsString x a.counts bytes entries new_bytes new_entries r → b ≡ adding_after a r
     → pooled new_bytes new_entries b ≡ add_to (pooled bytes entries a) x
 adds_after a x {bytes} {entries} {new_bytes} {new_entries} {r} f s e =
@@ -106,18 +107,18 @@ module _ (p : Pool) (x : List ℕ) (f : fit_pool p.bytes p.entries p.counts ≡ 
   abbrev FitAfter : Pool → Type 0
   FitAfter q = fit_pool q.bytes q.entries q.counts ≡ true
 
-  fit_by_lem : (a : Added) → added x p.bytes p.entries p.counts ≡ a → FitAfter (on_added p x a)
-  fit_by_lem (pool.Index i counts) e =
-      (grows x p.bytes p.entries p.counts _ _ (pool.Index i counts)
+  fit_by_lem : (a : Result Added AddError) → added x p.bytes p.entries p.counts ≡ a → FitAfter (on_added p x a)
+  fit_by_lem (Ok q) e =
+      (grows x p.bytes p.entries p.counts _ _ (Ok q)
       (record {
         answer = sym e;
-        bytes_left = ap (λ (y : Added). bytes_after x p.counts y p.bytes) (sym e);
-        entries_left = ap (λ (y : Added). entries_after x p.counts y p.entries) (sym e);
-      }) i counts refl).fit
-  fit_by_lem pool.PoolFull e = f
-  fit_by_lem (pool.BadUtf8 n) e = f
-  fit_by_lem (pool.CutUtf8 n) e = f
-  fit_by_lem pool.BadState e = f
+        bytes_left = ap (λ (y : Result Added AddError). bytes_after x p.counts y p.bytes) (sym e);
+        entries_left = ap (λ (y : Result Added AddError). entries_after x p.counts y p.entries) (sym e);
+      }) q.index q.counts refl).fit
+  fit_by_lem (Err pool.PoolFull) e = f
+  fit_by_lem (Err (pool.BadUtf8 n)) e = f
+  fit_by_lem (Err (pool.CutUtf8 n)) e = f
+  fit_by_lem (Err pool.BadState) e = f
 
   pub adds_fit : FitAfter (add_to p x)
   unfolding add_to
@@ -126,31 +127,31 @@ module _ (p : Pool) (x : List ℕ) (f : fit_pool p.bytes p.entries p.counts ≡ 
 -- ---- twice in a row
 
 module _ (p : Pool) (x : List ℕ) where
-  after_index : (i : ℕ) (counts : Counts) → added x p.bytes p.entries p.counts ≡ pool.Index i counts
-      → add_to (on_added p x (pool.Index i counts)) x ≡ on_added p x (pool.Index i counts)
+  after_index : (i : ℕ) (counts : Counts) → added x p.bytes p.entries p.counts ≡ indexed i counts
+      → add_to (on_added p x (indexed i counts)) x ≡ on_added p x (indexed i counts)
   after_index i counts e =
-      let q : Pool = on_added p x (pool.Index i counts) in
-      let s : AddsString x p.counts p.bytes p.entries q.bytes q.entries (pool.Index i counts) =
+      let q : Pool = on_added p x (indexed i counts) in
+      let s : AddsString x p.counts p.bytes p.entries q.bytes q.entries (indexed i counts) =
       record {
         answer = sym e;
-        bytes_left = ap (λ (y : Added). bytes_after x p.counts y p.bytes) (sym e);
-        entries_left = ap (λ (y : Added). entries_after x p.counts y p.entries) (sym e);
+        bytes_left = ap (λ (y : Result Added AddError). bytes_after x p.counts y p.bytes) (sym e);
+        entries_left = ap (λ (y : Result Added AddError). entries_after x p.counts y p.entries) (sym e);
       } in
       let t = added_again x p.bytes p.entries p.counts q.bytes q.entries i counts s in
       let n = ne_eqb i counts.entries (λ z. omega (arith, t.1)) in
       adds_by q x refl t.0
-      ∙ ap (λ (b : List ℕ). made b (entries_after x counts (pool.Index i counts) q.entries) counts (Some i) false)
-      (old_bytes x counts (pool.Index i counts) n q.bytes)
-      ∙ ap (λ (l : List ℕ). made q.bytes l counts (Some i) false) (old_entries x counts (pool.Index i counts) n q.entries)
+      ∙ ap (λ (b : List ℕ). made b (entries_after x counts (indexed i counts) q.entries) counts (Some i) false)
+      (old_bytes x counts (indexed i counts) n q.bytes)
+      ∙ ap (λ (l : List ℕ). made q.bytes l counts (Some i) false) (old_entries x counts (indexed i counts) n q.entries)
 
-  by_answer : p.full ≡ false → (a : Added) → added x p.bytes p.entries p.counts ≡ a → add_to (add_to p x) x ≡ add_to p x
-  by_answer f (pool.Index i counts) e =
-      ap (λ (q : Pool). add_to q x) (adds_by p x f e) ∙ after_index i counts e ∙ sym (adds_by p x f e)
-  by_answer f pool.PoolFull e =
-      ap (λ (q : Pool). add_to q x) (adds_by p x f e) ∙ adds_full (on_added p x pool.PoolFull) x refl ∙ sym (adds_by p x f e)
-  by_answer f (pool.BadUtf8 n) e = ap (λ (q : Pool). add_to q x) (adds_by p x f e)
-  by_answer f (pool.CutUtf8 n) e = ap (λ (q : Pool). add_to q x) (adds_by p x f e)
-  by_answer f pool.BadState e = ap (λ (q : Pool). add_to q x) (adds_by p x f e)
+  by_answer : p.full ≡ false → (a : Result Added AddError) → added x p.bytes p.entries p.counts ≡ a → add_to (add_to p x) x ≡ add_to p x
+  by_answer f (Ok q) e =
+      ap (λ (q : Pool). add_to q x) (adds_by p x f e) ∙ after_index q.index q.counts e ∙ sym (adds_by p x f e)
+  by_answer f (Err pool.PoolFull) e =
+      ap (λ (q : Pool). add_to q x) (adds_by p x f e) ∙ adds_full (on_added p x (Err pool.PoolFull)) x refl ∙ sym (adds_by p x f e)
+  by_answer f (Err (pool.BadUtf8 n)) e = ap (λ (q : Pool). add_to q x) (adds_by p x f e)
+  by_answer f (Err (pool.CutUtf8 n)) e = ap (λ (q : Pool). add_to q x) (adds_by p x f e)
+  by_answer f (Err pool.BadState) e = ap (λ (q : Pool). add_to q x) (adds_by p x f e)
 
   by_full : (b : Bool) → p.full ≡ b → add_to (add_to p x) x ≡ add_to p x
   by_full true f = ap (λ (q : Pool). add_to q x) (adds_full p x f)

@@ -23,6 +23,7 @@ use Rattle.pool.specs.Pool.{AddsToFit}
 use Rattle.pool.specs.PoolLaws.{adds_fine}
 use Rattle.pool_rows.specs.declared.Counts.{Counts}
 use Rattle.pool.specs.declared.Added.{Added}
+use Rattle.pool.specs.declared.AddError.{AddError}
 use Rattle.format.specs.Parse as form
 use Rattle.format.specs.Parse.{add_fill}
 use Rattle.format.specs.Parse.{PartIn}
@@ -74,7 +75,7 @@ module _ (format : List ℕ) where
     adds_nothing None e = refl
 
     pub adds_string : (fill : Option Part) → CanAdd format (pooled bytes entries a) fill → is_adding fill a ≡ true
-        → {x new_bytes new_entries : List ℕ} {r : Added} {b : Adding} → x ≡ fill_string format fill
+        → {x new_bytes new_entries : List ℕ} {r : Result Added AddError} {b : Adding} → x ≡ fill_string format fill
         → AddsToFit x a.counts bytes entries new_bytes new_entries r → b ≡ adding_after a r
         → pooled new_bytes new_entries b ≡ add_fill (add_part format add_to) (pooled bytes entries a) fill
     adds_string (Some part) v e {x} {new_bytes} {new_entries} {r} y s q =

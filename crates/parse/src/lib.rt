@@ -16,7 +16,7 @@ ghost use Rattle.parse.specs.Plan.{input_of, plan_with, plan_of, CanAdd, is_addi
 use format::{FormatRead, read_format};
 use format_options::{FormatError, Options, Part};
 use input::{FORMAT_MOST, Refusal};
-use pool::Added;
+use pool::{AddError, Added};
 use pool_rows::Counts;
 
 // What a parse reads: the options, and the fill's index in the pool, if there is a fill.
@@ -138,23 +138,32 @@ pub fn string_of<'a>(format: &'a [u8], fill: Option<Part>) -> &'a [u8]
     }
 }
 
-// What has been added, after an addition that answered so.
-pub fn after_added(adding: Adding, added: Added) -> Adding
-    ensures { result ≡ adding_after adding added }
+// What has been added, after an addition that was refused: only that there was no room is kept.
+fn after_error(adding: Adding, error: AddError) -> Adding
+    ensures { result ≡ adding_after adding (Err error) }
 {
-    match added {
-        Added::Index { index, counts } => Adding {
-            counts,
-            index: Some(index),
-            full: false,
-        },
-        Added::PoolFull => Adding {
+    match error {
+        AddError::PoolFull => Adding {
             full: true,
             ..adding
         },
-        Added::BadUtf8(_) => adding,
-        Added::CutUtf8(_) => adding,
-        Added::BadState => adding,
+        AddError::BadUtf8(_) => adding,
+        AddError::CutUtf8(_) => adding,
+        AddError::BadState => adding,
+    }
+}
+
+// What has been added, after an addition that answered so.
+pub fn after_added(adding: Adding, added: Result<Added, AddError>) -> Adding
+    ensures { result ≡ adding_after adding added }
+{
+    match added {
+        Ok(added) => Adding {
+            counts: added.counts,
+            index: Some(added.index),
+            full: false,
+        },
+        Err(error) => after_error(adding, error),
     }
 }
 

@@ -1,6 +1,6 @@
 -- Document 02, C-13, "Taking room back": what `compact::compact` promises, in the documents' numbers.
 -- Assumes nothing.
-use Rattle.std.specs.Prelude.{ℕ, ◌+◌, ◌-◌, ◌<◌, ◌≤◌, ◌≡◌, List, [], Bool, true, false, get_or, drop}
+use Rattle.std.specs.Prelude.{ℕ, ◌+◌, ◌-◌, ◌<◌, ◌≤◌, ◌≡◌, List, [], Bool, true, false, get_or, drop, Result}
 use Rattle.base.specs.Refusal.{none, bad_state, bad_mark}
 use Rattle.pool_rows.specs.Rows.{strings_of}
 use Rattle.pool.specs.Pool.{added}
@@ -10,7 +10,8 @@ use Rattle.desk_add.specs.Add.{free_entries, free_bytes, added_for}
 use Rattle.slide.specs.Slide.{kept_strings, new_index, gone}
 use Rattle.marks.specs.Marks.{is_marked, good_marks}
 use Rattle.compact.specs.Compact.{number_of}
-use Rattle.compact.specs.declared.Compaction.{Compaction}
+use Rattle.compact.specs.declared.Kept.{Kept}
+use Rattle.compact.specs.declared.CompactError.{CompactError}
 use Rattle.promises.specs.Desks.{Stays}
 
 -- the strings in use, in the order of their indices
@@ -39,7 +40,7 @@ pub record Keeps (keep : ℕ → Bool) (s t : Shared) (moved newMoved : List ℕ
       → (desk_of (other which) s.desks).guaranteed.bytes ≡ 0 → added_for which t string ≡ added string t.bytes t.entries t.counts
 
 -- t and newMoved are what the call leaves. The cases shut each other out, and leave nothing out
-pub record CompactPromise (first second : List ℕ) (s t : Shared) (moved newMoved : List ℕ) (r : Compaction) : Type 0 where
+pub record CompactPromise (first second : List ℕ) (s t : Shared) (moved newMoved : List ℕ) (r : Result Kept CompactError) : Type 0 where
   pub bad_state_lem : fit_desks s ≡ false → (number_of r ≡ bad_state) × Stays s t × (newMoved ≡ moved)
   pub bad_mark_lem : Fits s → good_marks first second moved s.counts.entries ≡ false → (number_of r ≡ bad_mark) × Stays s t × (newMoved ≡ moved)
   -- a string that either desk marks stays

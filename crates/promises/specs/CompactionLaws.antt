@@ -1,7 +1,7 @@
 -- The promise of `Compaction`, proved, and that no second answer and no second rows fit.
 --     compact_promise, compact_has_one_answer
 -- Assumes nothing.
-use Rattle.std.specs.Prelude.{ℕ, ◌≡◌, refl, List, Bool, length, drop}
+use Rattle.std.specs.Prelude.{ℕ, ◌≡◌, refl, List, Bool, length, drop, Result, Err}
 use Rattle.std.proofs.Common.{sym, ap, subst, ◌∙◌, drop_at}
 use Rattle.desks.specs.Desks.{Shared, shared, desk_of, other, Fits}
 use Rattle.desks.specs.FitLaws.{fit_of, fit_by_lem}
@@ -14,8 +14,9 @@ use Rattle.compact.specs.Compact.{number_of, counts_after, desks_after, compacte
 use Rattle.compact.specs.LaidLaws.{strings_there}
 use Rattle.compact.specs.CallLaws as compact
 use Rattle.compact.specs.PromiseLaws as after
-use Rattle.compact.specs.declared.Compaction.{Compaction}
-use Rattle.compact.specs.declared.Compaction.TheVariants.{BadMark, BadState}
+use Rattle.compact.specs.declared.Kept.{Kept}
+use Rattle.compact.specs.declared.CompactError.{CompactError}
+use Rattle.compact.specs.declared.CompactError.TheVariants.{BadMark, BadState}
 use Rattle.promises.specs.Desks.{Stays}
 use Rattle.promises.specs.DesksLaws.{desk_alone}
 use Rattle.promises.specs.Compaction.{Keeps, CompactPromise}
@@ -58,7 +59,7 @@ module _ (first second : List ℕ) (s : Shared) (moved : List ℕ) where
   abbrev came : Comes
   came = call first second s moved
 
-  stays : (r : Compaction) → came ≡ comes r s moved → (number_of came.answer ≡ number_of r) × Stays s came.state × (came.moved ≡ moved)
+  stays : (r : Result Kept CompactError) → came ≡ comes r s moved → (number_of came.answer ≡ number_of r) × Stays s came.state × (came.moved ≡ moved)
   stays r e = (
     ap (λ (c : Comes). number_of c.answer) e,
     record {
@@ -74,8 +75,8 @@ module _ (first second : List ℕ) (s : Shared) (moved : List ℕ) where
   promised : CompactPromise first second s came.state moved came.moved came.answer
   promised =
       record {
-        bad_state_lem = λ e. stays BadState (compact.unfit first second s moved e);
-        bad_mark_lem = λ f e. stays BadMark (compact.bad_mark_lem first second s moved f e);
+        bad_state_lem = λ e. stays (Err BadState) (compact.unfit first second s moved e);
+        bad_mark_lem = λ f e. stays (Err BadMark) (compact.bad_mark_lem first second s moved f e);
         kept =
             λ f g.
             let e = compact.fine first second s moved f g in (
@@ -84,12 +85,12 @@ module _ (first second : List ℕ) (s : Shared) (moved : List ℕ) where
             );
       }
 
-  pub compact_promise : {new_bytes new_entries newOwners newMoved : List ℕ} {r : Compaction}
+  pub compact_promise : {new_bytes new_entries newOwners newMoved : List ℕ} {r : Result Kept CompactError}
       → Compacts first second s moved new_bytes new_entries newOwners newMoved r
       → CompactPromise first second s (shared new_bytes new_entries newOwners (counts_after r s.counts) (desks_after r s.desks)) moved newMoved r
   compact_promise {r = r} p =
-      let counts = ap (λ (a : Compaction). counts_after a s.counts) p.answer_is ∙ compact.state_counts first second s moved in
-      let desks = ap (λ (a : Compaction). desks_after a s.desks) p.answer_is ∙ compact.state_desks first second s moved in
+      let counts = ap (λ (a : Result Kept CompactError). counts_after a s.counts) p.answer_is ∙ compact.state_counts first second s moved in
+      let desks = ap (λ (a : Result Kept CompactError). desks_after a s.desks) p.answer_is ∙ compact.state_desks first second s moved in
       subst (λ (c : Comes). CompactPromise first second s c.state moved c.moved c.answer)
       (sym
       (λ i.
@@ -101,7 +102,7 @@ module _ (first second : List ℕ) (s : Shared) (moved : List ℕ) where
       promised
 
 pub compact_has_one_answer : {first second moved new_bytes new_entries newOwners newMoved newBytes' newEntries' newOwners' newMoved' : List ℕ} {s : Shared}
-    {r q : Compaction} → Compacts first second s moved new_bytes new_entries newOwners newMoved r
+    {r q : Result Kept CompactError} → Compacts first second s moved new_bytes new_entries newOwners newMoved r
     → Compacts first second s moved newBytes' newEntries' newOwners' newMoved' q
     → (r ≡ q) × (new_bytes ≡ newBytes') × (new_entries ≡ newEntries') × (newOwners ≡ newOwners') × (newMoved ≡ newMoved')
 compact_has_one_answer v w = compact.one_answer v w

@@ -8,7 +8,7 @@ use Rattle.input.specs.Input.{input_check}
 use Rattle.input.specs.declared.Refusal.{Refusal}
 use Rattle.pool_rows.specs.Rows.{string_at}
 use Rattle.pool.specs.Pool.{one_more, written, entered, number_of, added_index}
-use Rattle.pool.specs.declared.Added.TheVariants as added
+use Rattle.pool.specs.declared.AddError.TheVariants as added
 use Rattle.parse.specs.declared.ParseError.TheVariants as said
 use Rattle.desks.specs.Desks.{Shared, desk_of, other, owner_of, fit_desks, Fits}
 use Rattle.desks.specs.declared.Which.{Which}
@@ -103,4 +103,4 @@ Guarantee =
     (which : Which) (s : Shared) → Fits s → (acts : List Act) (string : List ℕ)
     → (desk_of which s.desks).charged.entries + 1 ≤ (desk_of which s.desks).guaranteed.entries
     → (desk_of which s.desks).charged.bytes + length string ≤ (desk_of which s.desks).guaranteed.bytes
-    → added_for which (act_all (other which) s acts) string ≡ added.PoolFull → ⊥
+    → added_for which (act_all (other which) s acts) string ≡ Err added.PoolFull → ⊥

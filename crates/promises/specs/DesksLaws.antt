@@ -4,19 +4,19 @@
 --     guarantee           whatever the other desk does, a desk gets its guaranteed room
 --     desk_alone          one desk alone is answered as the pool alone answers, so that demand 2's indices hold for it
 -- Assumes nothing.
-use Rattle.std.specs.Prelude.{ℕ, ◌<◌, ◌≤◌, ◌≡◌, refl, false, List, [], ◌∷◌, length, Err}
+use Rattle.std.specs.Prelude.{ℕ, ◌<◌, ◌≤◌, ◌≡◌, refl, false, List, [], ◌∷◌, length, Err, Result, Ok}
 use Rattle.std.proofs.Common.{arith, sym, ap, subst, ◌∙◌, lt-ltb, le-ltb, eq-eqb, ne_eqb}
 use Rattle.base.specs.Refusal.{none}
-use Rattle.utf8.specs.Chars.{check_from}
 use Rattle.utf8.specs.CharsLaws.{fine_of_well}
 use Rattle.utf8.specs.MeaningLaws.{is_check}
 use Rattle.utf8.specs.declared.Utf8Error.TheVariants as utf8
 use Rattle.pool_rows.specs.Rows.{strings_of, index_of}
 use Rattle.pool_rows.specs.declared.Counts.{Counts}
-use Rattle.pool.specs.Pool.{one_more, added, is_new, number_of, added_index, counts_after}
+use Rattle.pool.specs.Pool.{one_more, indexed, added, is_new, number_of, added_index, counts_after}
 use Rattle.pool.specs.PoolLaws.{old_bytes, old_entries, new_bytes_lem, new_entries_lem}
 use Rattle.pool.specs.declared.Added.{Added}
-use Rattle.pool.specs.declared.Added.TheVariants.{Index, BadUtf8, CutUtf8, BadState, PoolFull}
+use Rattle.pool.specs.declared.AddError.{AddError}
+use Rattle.pool.specs.declared.AddError.TheVariants.{BadState, PoolFull}
 use Rattle.parse.specs.declared.ParseError.TheVariants as said
 use Rattle.desks.specs.Desks.{Shared, shared, desk_of, other, fit_desks, Fits}
 use Rattle.desks.specs.FitLaws.{fit_of, fit_by_lem}
@@ -43,29 +43,29 @@ module _ (string : List ℕ) (which : Which) (s : Shared) where
   taken : TakenFor string s → added_for which s string ≡ in_words (length string) found s.counts (free_entries which s) (free_bytes which s)
   taken t = desk.answer_in_words s (fit_of s t.fit) which string ∙ rw (fine_of_well 0 string t.well)
 
-  is_there : TakenFor string s → found < s.counts.entries → added_for which s string ≡ Index found s.counts
+  is_there : TakenFor string s → found < s.counts.entries → added_for which s string ≡ indexed found s.counts
   is_there t h = taken t ∙ rw (lt-ltb found s.counts.entries h)
 
   module _ (t : TakenFor string s) (a : AbsentIn string s) where
     absent : s.counts.entries ≤ found
     absent = none_is string s.bytes s.entries s.counts a
 
-    no_entry : free_entries which s < 1 → added_for which s string ≡ PoolFull
+    no_entry : free_entries which s < 1 → added_for which s string ≡ Err PoolFull
     no_entry h = taken t ∙ rw (le-ltb found s.counts.entries absent, lt-ltb (free_entries which s) 1 h)
 
-    few_bytes : 1 ≤ free_entries which s → free_bytes which s < length string → added_for which s string ≡ PoolFull
+    few_bytes : 1 ≤ free_entries which s → free_bytes which s < length string → added_for which s string ≡ Err PoolFull
     few_bytes h k =
         taken t
         ∙ rw (le-ltb found s.counts.entries absent, le-ltb (free_entries which s) 1 h, lt-ltb (free_bytes which s) (length string) k)
 
     new_one : 1 ≤ free_entries which s → length string ≤ free_bytes which s
-        → added_for which s string ≡ Index s.counts.entries (one_more s.counts (length string))
+        → added_for which s string ≡ indexed s.counts.entries (one_more s.counts (length string))
     new_one h k =
         taken t
         ∙ rw (le-ltb found s.counts.entries absent, le-ltb (free_entries which s) 1 h, le-ltb (free_bytes which s) (length string) k)
 
   -- after an answer that hands out no new index nothing is changed
-  unchanged : (r : Added) → is_new s.counts r ≡ false → counts_after s.counts r ≡ s.counts → Stays s (shared_after which s string r)
+  unchanged : (r : Result Added AddError) → is_new s.counts r ≡ false → counts_after s.counts r ≡ s.counts → Stays s (shared_after which s string r)
   unchanged r e c =
       record {
         bytes = old_bytes string s.counts r e s.bytes;
@@ -75,17 +75,14 @@ module _ (string : List ℕ) (which : Which) (s : Shared) where
         desks = rw e;
       }
 
-  refused : (r : Added) → (number_of r ≡ none → ⊥) → Stays s (shared_after which s string r)
-  refused (Index index after) h = absurd (h refl)
-  refused (BadUtf8 place) h = unchanged (BadUtf8 place) refl refl
-  refused (CutUtf8 place) h = unchanged (CutUtf8 place) refl refl
-  refused BadState h = unchanged BadState refl refl
-  refused PoolFull h = unchanged PoolFull refl refl
+  refused : (r : Result Added AddError) → (number_of r ≡ none → ⊥) → Stays s (shared_after which s string r)
+  refused (Ok added) h = absurd (h refl)
+  refused (Err e) h = unchanged (Err e) refl refl
 
   unfit_fits : fit_desks s ≡ false → Stays s (add_for which s string)
   unfit_fits e =
-      subst (λ (r : Added). Stays s (shared_after which s string r)) (sym (add.unfit s which string e))
-      (unchanged _ (add.unwritten s.counts (check_from 0 string)) (add.uncounted s.counts (check_from 0 string)))
+      subst (λ (r : Result Added AddError). Stays s (shared_after which s string r)) (sym (add.unfit s which string e))
+      (unchanged _ refl refl)
 
   pub desk_add_string_promise : {new_bytes new_entries newOwners : List ℕ} {r : AddedFor} → AddsFor string which s new_bytes new_entries newOwners r
       → DeskAddPromise string which s (shared new_bytes new_entries newOwners r.counts r.desks) r
@@ -94,10 +91,10 @@ module _ (string : List ℕ) (which : Which) (s : Shared) where
       (λ i. shared (sym p.bytes_left i) (sym p.entries_left i) (sym p.owners_left i) (sym p.counts_left i) (sym p.desks_left i))
       promised
     where
-      says_so : {a : Added} → added_for which s string ≡ a → added_says r.added ≡ added_says a
+      says_so : {a : Result Added AddError} → added_for which s string ≡ a → added_says r.added ≡ added_says a
       says_so e = ap added_says (p.answer ∙ e)
 
-      at_index : (i : ℕ) (after : Counts) → added_for which s string ≡ Index i after → added_index r.added ≡ i
+      at_index : (i : ℕ) (after : Counts) → added_for which s string ≡ indexed i after → added_index r.added ≡ i
       at_index i after e = ap added_index (p.answer ∙ e)
 
       promised : DeskAddPromise string which s (add_for which s string) r
@@ -105,17 +102,17 @@ module _ (string : List ℕ) (which : Which) (s : Shared) where
           record {
             bad_utf8_lem = λ n w. says_so (add.wrong s which string n (is_check string (Err (utf8.BadAt n)) w));
             cut_utf8_lem = λ n w. says_so (add.cut s which string n (is_check string (Err (utf8.CutAt n)) w));
-            bad_state_lem = λ w e. says_so {a = BadState} (add.unfit s which string e ∙ rw (fine_of_well 0 string w));
+            bad_state_lem = λ w e. says_so {a = Err BadState} (add.unfit s which string e ∙ rw (fine_of_well 0 string w));
             no_entry = λ t a h. says_so (no_entry t a h);
             few_bytes = λ t a h k. says_so (few_bytes t a h k);
             there =
                 λ t k d before.
                 let i = first_is string s.bytes s.entries s.counts k d before in
-                let e = is_there t (omega (arith, d.in_use)) ∙ ap (λ (j : ℕ). Index j s.counts) i in
+                let e = is_there t (omega (arith, d.in_use)) ∙ ap (λ (j : ℕ). indexed j s.counts) i in
                 let old = ne_eqb k s.counts.entries (λ z. omega (arith, d.in_use)) in (
                   says_so e,
                   at_index k s.counts e,
-                  subst (λ (a : Added). Stays s (shared_after which s string a)) (sym e) (unchanged (Index k s.counts) old refl),
+                  subst (λ (a : Result Added AddError). Stays s (shared_after which s string a)) (sym e) (unchanged (indexed k s.counts) old refl),
                 );
             new =
                 λ t a h k.

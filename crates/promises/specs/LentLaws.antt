@@ -7,6 +7,7 @@ use Rattle.std.specs.Prelude.{◌≡◌, List, ℕ, Result}
 use Rattle.pool.specs.Pool.{counts_after}
 use Rattle.pool_rows.specs.declared.Counts.{Counts}
 use Rattle.pool.specs.declared.Added.{Added}
+use Rattle.pool.specs.declared.AddError.{AddError}
 use Rattle.pool_lent.specs.Entries.{numbers_of, AddsEntry}
 use Rattle.pool_lent.specs.EntriesLaws as entries
 use Rattle.pool_lent.specs.declared.Entry.{Entry}
@@ -21,13 +22,13 @@ use Rattle.promises.specs.ParseLaws.{parse_promise}
 
 -- ---- adding a string
 
-pub lent_add_string_promise : {string bytes new_bytes : List ℕ} {entries new_entries : List Entry} {counts newCounts : Counts} {r : Added}
+pub lent_add_string_promise : {string bytes new_bytes : List ℕ} {entries new_entries : List Entry} {counts newCounts : Counts} {r : Result Added AddError}
     → AddsEntry string counts bytes entries new_bytes new_entries newCounts r
     → AddStringPromise string counts bytes (numbers_of entries) new_bytes (numbers_of new_entries) r × (newCounts ≡ counts_after counts r)
 lent_add_string_promise p = (add_string_promise _ _ _ _ _ _ _ p.same, p.counts_left)
 
 pub lent_add_string_has_one_answer : {string bytes new_bytes newBytes' : List ℕ} {entries new_entries newEntries' : List Entry}
-    {counts newCounts newCounts' : Counts} {r q : Added}
+    {counts newCounts newCounts' : Counts} {r q : Result Added AddError}
     → AddsEntry string counts bytes entries new_bytes new_entries newCounts r
     → AddsEntry string counts bytes entries newBytes' newEntries' newCounts' q
     → (r ≡ q) × (new_bytes ≡ newBytes') × (new_entries ≡ newEntries') × (newCounts ≡ newCounts')

@@ -1,7 +1,7 @@
 -- The promise of `pad::pad`, case by case in document 02's order: 1, 17, 2, 3 or 15 of the text, 3 or 15 of the fill, 18, 19, and then the
 -- padded text. What `check_from` and `table_check` answer is promised of `check_utf8` and `check_table`.
 -- Assumes nothing.
-use Rattle.std.specs.Prelude.{ℕ, ◌+◌, ◌<◌, ◌≤◌, ◌≡◌, Bool, true, List, [], length, get_or, Ok, Err}
+use Rattle.std.specs.Prelude.{ℕ, ◌+◌, ◌<◌, ◌≤◌, ◌≡◌, Bool, true, List, [], length, get_or, Ok, Err, Result}
 use Rattle.base.specs.Refusal.{none, too_long, bad_table, bad_utf8, cut_utf8, bad_edition, no_such_format, no_room}
 use Rattle.utf8.specs.Chars.{chars, check_from}
 use Rattle.utf8.specs.declared.Utf8Error.TheVariants as utf8
@@ -14,10 +14,10 @@ use Rattle.pool.specs.Pool.{written}
 use Rattle.fills.specs.Pad.{default, left, center, right, no_width, width_most, leading, trailing, filled}
 use Rattle.pad_input.specs.Check.{text_most, Short, Begun, Paddable}
 use Rattle.pad.specs.Call.{fill_of, number_of, place_of, len_of}
-use Rattle.pad.specs.declared.Padded.{Padded}
+use Rattle.pad.specs.declared.PadError.{PadError}
 use Rattle.promises.specs.Said.{Said, says}
 
-abbrev pub pad_says : Padded → Said
+abbrev pub pad_says : Result ℕ PadError → Said
 pad_says r = says (number_of r) (place_of r)
 
 -- ---- what is counted, and where fills stand
@@ -68,7 +68,7 @@ module _ (text : List ℕ) (alignment width : ℕ) (given : Bool) (fill table : 
   between n = filled alignment n (fill_of given fill) text
 
   -- what it ensures is `Pads`. The cases shut each other out, and leave nothing out
-  pub record PadPromise (old new : List ℕ) (r : Padded) : Type 0 where
+  pub record PadPromise (old new : List ℕ) (r : Result ℕ PadError) : Type 0 where
     pub long_text : text_most < length text → pad_says r ≡ says too_long 0
     pub long_fill_lem : length text ≤ text_most → given ≡ true → text_most < length fill → pad_says r ≡ says too_long 0
     pub bad_edition_lem : Short text given fill → (edition ≡ 1 → ⊥) → (edition ≡ 2 → ⊥) → pad_says r ≡ says bad_edition 0

@@ -6,7 +6,7 @@
 --     length_fits          how many bytes are needed is a number of 64 bits
 --     alignment_numbers    an alignment's number is the one that a parse tells of it
 -- Assumes nothing.
-use Rattle.std.specs.Prelude.{ℕ, ◌<◌, ◌≤◌, ◌≡◌, refl, Bool, true, false, ◌&&◌, List, leb, length}
+use Rattle.std.specs.Prelude.{ℕ, ◌<◌, ◌≤◌, ◌≡◌, refl, Bool, true, false, ◌&&◌, List, leb, length, Result, Ok, Err}
 use Rattle.std.proofs.Common.{arith, sym, ap, ◌∙◌, ne_eqb}
 use Rattle.std.proofs.lemmas.Bool.{lt-leb}
 use Rattle.base.specs.Refusal.{none}
@@ -21,12 +21,12 @@ use Rattle.fills.specs.Pad.{default, left, center, right, no_width, width_most, 
 use Rattle.fills.specs.PadLaws.{all_fills, default_left, left_behind, right_before, odd_right, no_fills, length_padded}
 use Rattle.pad_input.specs.Check.{text_most, is_format, pad_check}
 use Rattle.pad_input.specs.CheckLaws.{long_text, fill_long, no_edition, unfit, bad_text, cut_text, bad_fill, cut_fill, not_one, no_format, is_fine_lem, width_of_lem}
-use Rattle.pad_input.specs.declared.Check.{Check}
-use Rattle.pad_input.specs.declared.Check.TheVariants as check
+use Rattle.pad_input.specs.declared.PadRefusal.{PadRefusal}
+use Rattle.pad_input.specs.declared.PadRefusal.TheVariants as check
 use Rattle.pad.specs.Call.{fill_of, Pads, padded_text, len_of}
 use Rattle.pad.specs.CallLaws.{fits, by_check, is_checked, is_short, is_padded, one_answer, kept}
-use Rattle.pad.specs.declared.Padded.{Padded}
-use Rattle.pad.specs.declared.Padded.TheVariants.{NoRoom}
+use Rattle.pad.specs.declared.PadError.{PadError}
+use Rattle.pad.specs.declared.PadError.TheVariants.{NoRoom}
 use Rattle.promises.specs.Said.{says}
 use Rattle.promises.specs.Pad.{pad_says, CountPromise, SidesPromise, Lacks, clusters_in, Asked, Taken, between, PadPromise}
 
@@ -99,12 +99,12 @@ module _ (text : List ℕ) (alignment width : ℕ) (given : Bool) (fill table : 
       go true f = f refl
       go false f = omega arith
 
-  module _ (old new : List ℕ) (r : Padded) (p : Pads text alignment width given fill table edition old new r) where
-    says_checked : {c : Check} → pad_check text alignment width given fill table edition ≡ c
+  module _ (old new : List ℕ) (r : Result ℕ PadError) (p : Pads text alignment width given fill table edition old new r) where
+    says_checked : {c : Result (Unit {0}) PadRefusal} → pad_check text alignment width given fill table edition ≡ c
         → pad_says r ≡ pad_says (by_check text alignment width given fill table edition old c)
     says_checked e = ap pad_says (p.answer ∙ is_checked text alignment width given fill table edition old e)
 
-    fine : Taken text alignment width given fill table edition → pad_check text alignment width given fill table edition ≡ check.Fine
+    fine : Taken text alignment width given fill table edition → pad_check text alignment width given fill table edition ≡ Ok tt
     fine t = is_fine_lem text alignment width given fill table edition t
 
     pub pad_promise : PadPromise text alignment width given fill table edition old new r
@@ -130,12 +130,12 @@ module _ (text : List ℕ) (alignment width : ℕ) (given : Bool) (fill table : 
         }
       where
         none_such : Asked text alignment width given fill table edition → is_format alignment width ≡ false
-            → pad_check text alignment width given fill table edition ≡ check.NoSuchFormat
+            → pad_check text alignment width given fill table edition ≡ Err check.NoSuchFormat
         none_such a e = no_format text alignment width given fill table edition a.begun a.fit a.well a.fill_well e
 
         short : Taken text alignment width given fill table edition → (n : ℕ)
             → Lacks width (clusters_in text alignment width given fill table edition text) n
-            → length old < length (between text alignment width given fill table edition n) → r ≡ NoRoom
+            → length old < length (between text alignment width given fill table edition n) → r ≡ Err NoRoom
         short t n l h =
             let e = ap length (text_is n l) in
             p.answer ∙ is_short text alignment width given fill table edition old (fine t) (omega arith)
@@ -149,6 +149,6 @@ module _ (text : List ℕ) (alignment width : ℕ) (given : Bool) (fill table : 
             (ap pad_says w.0, ap len_of w.0 ∙ e, w.1 ∙ ap (written old 0) q)
 
   pub pad_has_one_answer :
-      (old new new' : List ℕ) (r q : Padded) → Pads text alignment width given fill table edition old new r
+      (old new new' : List ℕ) (r q : Result ℕ PadError) → Pads text alignment width given fill table edition old new r
       → Pads text alignment width given fill table edition old new' q → (r ≡ q) × (new ≡ new')
   pad_has_one_answer old new new' r q v w = one_answer text alignment width given fill table edition old v w

@@ -1,7 +1,7 @@
 -- The promise of `pool::add_string`, case by case in the documents' order: 3 or 15, 8, 13, and then the string's index; and what it leaves of the
 -- pool.
 -- Assumes nothing.
-use Rattle.std.specs.Prelude.{ℕ, ◌+◌, ◌<◌, ◌≤◌, ◌≡◌, true, false, List, [], length, get_or}
+use Rattle.std.specs.Prelude.{ℕ, ◌+◌, ◌<◌, ◌≤◌, ◌≡◌, true, false, List, [], length, get_or, Result}
 use Rattle.base.specs.Refusal.{none, bad_utf8, cut_utf8, bad_state, pool_full}
 use Rattle.utf8.specs.Encode.{WellFormed}
 use Rattle.utf8.specs.Meaning.{Arriving, Damaged}
@@ -10,9 +10,10 @@ use Rattle.pool.specs.Pool.{one_more, written, entered}
 use Rattle.pool.specs.Pool.{Grown, number_of, place_of, added_index, counts_after}
 use Rattle.pool_rows.specs.declared.Counts.{Counts}
 use Rattle.pool.specs.declared.Added.{Added}
+use Rattle.pool.specs.declared.AddError.{AddError}
 use Rattle.promises.specs.Said.{Said, says}
 
-abbrev pub added_says : Added → Said
+abbrev pub added_says : Result Added AddError → Said
 added_says r = says (number_of r) (place_of r)
 
 -- a string that passes the first two refusals
@@ -30,7 +31,7 @@ abbrev pub Absent : List ℕ → List ℕ → List ℕ → Counts → Type 0
 Absent string bytes entries counts = (k : ℕ) → StandsAt string bytes entries counts k → ⊥
 
 -- what it ensures is `AddsString`. The cases shut each other out, and leave nothing out
-pub record AddStringPromise (string : List ℕ) (counts : Counts) (bytes entries new_bytes new_entries : List ℕ) (r : Added) : Type 0 where
+pub record AddStringPromise (string : List ℕ) (counts : Counts) (bytes entries new_bytes new_entries : List ℕ) (r : Result Added AddError) : Type 0 where
   pub bad_utf8_lem : (n : ℕ) → Damaged string n → added_says r ≡ says bad_utf8 n
   pub cut_utf8_lem : (n : ℕ) → Arriving string n → added_says r ≡ says cut_utf8 n
   pub bad_state_lem : WellFormed string → fit_pool bytes entries counts ≡ false → added_says r ≡ says bad_state 0

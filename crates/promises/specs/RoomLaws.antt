@@ -22,7 +22,8 @@ use Rattle.pool_rows.specs.declared.Counts.{Counts}
 use Rattle.pool.specs.Pool.{placed, on_utf8, added, is_new, bytes_after, entries_after}
 use Rattle.pool.specs.WrittenLaws.{length_written}
 use Rattle.pool.specs.declared.Added.{Added}
-use Rattle.pool.specs.declared.Added.TheVariants.{Index, BadUtf8, CutUtf8, BadState, PoolFull}
+use Rattle.pool.specs.declared.AddError.{AddError}
+use Rattle.pool.specs.declared.AddError.TheVariants.{BadUtf8, CutUtf8, BadState, PoolFull}
 use Rattle.format.specs.Parse.{string_of, add_fill, add_part, FillIn, OnePass}
 use Rattle.format.specs.ReadLaws.{added_in}
 use Rattle.parse.specs.Call.{Pool, on_added, add_to, parsed}
@@ -42,12 +43,12 @@ pub record Free (n b : ℕ) (p : Pool) : Type 0 where
 
 module _ (x : List ℕ) (counts : Counts) (forEntries forBytes : ℕ) (h : counts.entries + 1 ≤ forEntries) (k : counts.bytes + length x ≤ forBytes) where
   -- what an answer with room is
-  abbrev Few : Added → Type 0
-  Few (Index i after) = (after.entries ≤ counts.entries + 1) × (after.bytes ≤ counts.bytes + length x)
-  Few (BadUtf8 i) = Unit {0}
-  Few (CutUtf8 i) = Unit {0}
-  Few BadState = Unit {0}
-  Few PoolFull = ⊥
+  abbrev Few : Result Added AddError → Type 0
+  Few (Ok added) = (added.counts.entries ≤ counts.entries + 1) × (added.counts.bytes ≤ counts.bytes + length x)
+  Few (Err (BadUtf8 i)) = Unit {0}
+  Few (Err (CutUtf8 i)) = Unit {0}
+  Few (Err BadState) = Unit {0}
+  Few (Err PoolFull) = ⊥
 
   placed_few : (found : ℕ) → Few (placed (length x) found counts forEntries forBytes)
   unfolding placed
@@ -56,7 +57,7 @@ module _ (x : List ℕ) (counts : Counts) (forEntries forBytes : ℕ) (h : count
       (λ _. by_lt Few forEntries (counts.entries + 1) (λ l. omega arith)
       (λ _. by_lt Few forBytes (counts.bytes + length x) (λ l. omega arith) (λ _. (omega arith, omega arith))))
 
-  checked_few : (found : ℕ) (c : Result (Unit {0}) Utf8Error) (t : Bool) → Few (on_utf8 c (pick t (placed (length x) found counts forEntries forBytes) BadState))
+  checked_few : (found : ℕ) (c : Result (Unit {0}) Utf8Error) (t : Bool) → Few (on_utf8 c (pick t (placed (length x) found counts forEntries forBytes) (Err BadState)))
   checked_few found (Ok _) true = placed_few found
   checked_few found (Ok _) false = tt
   checked_few found (Err (utf8.BadAt i)) t = tt
@@ -74,13 +75,13 @@ module _ (p : Pool) (x : List ℕ) (n b : ℕ) (f : Free (n + 1) (b + length x) 
   few = checked_few x p.counts (entry_room p.entries) (byte_room p.bytes) one_entry its_bytes _ (check_from 0 x) (fit_pool p.bytes p.entries p.counts)
 
   -- the rows stay as long as they are
-  bytes_long : (r : Added) → length (bytes_after x p.counts r p.bytes) ≡ length p.bytes
+  bytes_long : (r : Result Added AddError) → length (bytes_after x p.counts r p.bytes) ≡ length p.bytes
   unfolding bytes_after
   bytes_long r =
       by_test (λ (l : List ℕ). length l ≡ length p.bytes) (is_new p.counts r)
       (λ _. length_written p.bytes p.counts.bytes x (omega (arith, its_bytes, (room_within (length p.bytes)).0))) (λ _. refl)
 
-  entries_long : (r : Added) → length (entries_after x p.counts r p.entries) ≡ length p.entries
+  entries_long : (r : Result Added AddError) → length (entries_after x p.counts r p.entries) ≡ length p.entries
   unfolding entries_after
   entries_long r =
       by_test (λ (l : List ℕ). length l ≡ length p.entries) (is_new p.counts r)
@@ -96,17 +97,17 @@ module _ (p : Pool) (x : List ℕ) (n b : ℕ) (f : Free (n + 1) (b + length x) 
       kept : Free n b p
       kept = record { not_full = f.not_full; entries_free = omega (arith, f.entries_free); bytes_free = omega (arith, f.bytes_free) }
 
-      go : (r : Added) → Few x p.counts (entry_room p.entries) (byte_room p.bytes) one_entry its_bytes r → Free n b (on_added p x r)
-      go (Index i after) v =
+      go : (r : Result Added AddError) → Few x p.counts (entry_room p.entries) (byte_room p.bytes) one_entry its_bytes r → Free n b (on_added p x r)
+      go (Ok added) v =
           record {
             not_full = refl;
-            entries_free = rw (entries_long (Index i after)) (omega (arith, f.entries_free, v.0));
-            bytes_free = rw (bytes_long (Index i after)) (omega (arith, f.bytes_free, v.1));
+            entries_free = rw (entries_long (Ok added)) (omega (arith, f.entries_free, v.0));
+            bytes_free = rw (bytes_long (Ok added)) (omega (arith, f.bytes_free, v.1));
           }
-      go (BadUtf8 i) v = kept
-      go (CutUtf8 i) v = kept
-      go BadState v = kept
-      go PoolFull v = absurd v
+      go (Err (BadUtf8 i)) v = kept
+      go (Err (CutUtf8 i)) v = kept
+      go (Err BadState) v = kept
+      go (Err PoolFull) v = absurd v
 
 -- a string of the format string s, if there is one
 fill_free : (s : List ℕ) (p : Pool) (fill : Option Part) (n b : ℕ) → FillIn s fill → Free (n + 1) (b + length s) p → Free n b (add_fill (add_part s add_to) p fill)

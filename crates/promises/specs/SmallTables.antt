@@ -20,7 +20,7 @@ use Rattle.pool_rows.specs.declared.Counts.{Counts}
 use Rattle.parse.specs.Call.{Parses}
 use Rattle.parse.specs.declared.After.{After}
 use Rattle.pad.specs.Call.{Pads}
-use Rattle.pad.specs.declared.Padded.{Padded}
+use Rattle.pad.specs.declared.PadError.{PadError}
 use Rattle.promises.specs.Cluster.{FirstClusterEnsures}
 
 -- the tables t and u say the same of each code point of these bytes
@@ -55,6 +55,6 @@ pub record SmallTablesPromise (bytes t u : List ℕ) (edition : ℕ) : Type 0 wh
 -- the bytes as a text that is padded: a fill that is given is asked too
 abbrev pub SamePad : List ℕ → List ℕ → List ℕ → ℕ → Type 0
 SamePad text t u edition =
-    (alignment width : ℕ) (given : Bool) (fill : List ℕ) → (given ≡ true → SameOn fill t u) → (old new other : List ℕ) (r q : Padded)
+    (alignment width : ℕ) (given : Bool) (fill : List ℕ) → (given ≡ true → SameOn fill t u) → (old new other : List ℕ) (r q : Result ℕ PadError)
     → Pads text alignment width given fill t edition old new r → Pads text alignment width given fill u edition old other q
     → (r ≡ q) × (new ≡ other)

@@ -3,7 +3,7 @@
 #![tactic(auto)]
 
 use lines::Fields;
-use pad::answer;
+use pad::{PadError, answer};
 use std::io;
 
 // A field that has the width one greater, and 0 where there is none.
@@ -26,7 +26,7 @@ fn bytes_agree(mut fields: Fields, buffer: &[u8]) -> bool {
 }
 
 // Whether the fields `NUMBER LENGTH PLACE BYTES` are what was said and written.
-fn said_agrees(mut fields: Fields, said: pad::Padded, buffer: &[u8]) -> bool {
+fn said_agrees(mut fields: Fields, said: Result<usize, PadError>, buffer: &[u8]) -> bool {
     fields.same(answer::number_of(said) as usize)
         && fields.same(answer::len_of(said))
         && fields.same(answer::place_of(said))

@@ -19,11 +19,7 @@ fn move_down(bytes: &mut [u8], from: usize, to: usize, long: usize)
     requires { (to ≤ from) × (from + long ≤ length bytes.old) }
     ensures { bytes.new ≡ written bytes.old to (take long (drop from bytes.old)) }
 {
-    let mut i = 0;
-    while i < long {
-        bytes[to + i] = bytes[from + i];
-        i += 1;
-    }
+    bytes.copy_within(from..from + long, to);
 }
 
 // Entry i, where `laid` are the counts of what was kept before it: if it stays, its bytes, its numbers and its owner move down behind those,
@@ -77,8 +73,7 @@ pub fn slide(
         entries: 0,
         bytes: 0,
     };
-    let mut i = 0;
-    while i < n {
+    for i in 0..n {
         laid = keep_one(
             &mut *bytes,
             &mut *entries,
@@ -87,7 +82,6 @@ pub fn slide(
             i,
             laid,
         );
-        i += 1;
     }
     laid
 }

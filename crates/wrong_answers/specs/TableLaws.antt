@@ -3,7 +3,7 @@
 --     shut_out                               where they differ, no answer with the wrong ones meets the contract
 --     bytes_shut_out, tables_shut_out, ..    the table, call by call
 -- Assumes nothing.
-use Rattle.std.specs.Prelude.{ℕ, ◌≡◌, refl, List, [], ◌∷◌, ◌++◌, Bool, true, false, ◌&&◌, not, length}
+use Rattle.std.specs.Prelude.{ℕ, ◌≡◌, refl, List, [], ◌∷◌, ◌++◌, Bool, true, false, ◌&&◌, not, length, Result}
 use Rattle.std.proofs.Common.{arith, sym, ap, ◌∙◌, eq-eqb}
 use Rattle.std.proofs.lemmas.Bool.{not-true}
 use Rattle.base.specs.AllLaws.{and_left, and_right}
@@ -39,6 +39,7 @@ use Rattle.rescan.specs.Rescan as rescan
 use Rattle.koto_rescan.specs.Rescans.{edit_of, answer_for}
 use Rattle.pool.specs.Pool as pool
 use Rattle.pool.specs.declared.Added.{Added}
+use Rattle.pool.specs.declared.AddError.{AddError}
 use Rattle.pool_rows.specs.Rows.{same}
 use Rattle.pool_rows.specs.declared.Counts.{Counts}
 use Rattle.pool_lent.specs.Entries.{numbers_of}
@@ -107,7 +108,7 @@ look_told looked taken queued =
     ∷ record_numbers (peeked_told looked taken queued).row
 
 -- an addition's, which left these rows
-abbrev added_told : Added → Counts → List ℕ → List ℕ → List ℕ
+abbrev added_told : Result Added AddError → Counts → List ℕ → List ℕ → List ℕ
 added_told r counts bytes entries =
     pool.number_of r ∷ pool.added_index r ∷ pool.place_of r ∷ (pool.counts_after counts r).entries ∷ (pool.counts_after counts r).bytes ∷ bytes ++ entries
 
@@ -122,7 +123,7 @@ abbrev shared_told : List ℕ → Shared → List ℕ
 shared_told before s = before ++ s.bytes ++ s.entries ++ s.owners ++ count_words s.counts ++ desk_words s.desks
 
 -- those of an addition for a desk
-abbrev desk_add_told : Added → Shared → List ℕ
+abbrev desk_add_told : Result Added AddError → Shared → List ℕ
 desk_add_told r s = shared_told (pool.number_of r ∷ pool.added_index r ∷ pool.place_of r ∷ []) s
 
 -- of a parse for one

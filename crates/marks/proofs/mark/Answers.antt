@@ -5,27 +5,21 @@ use lib.ListN.{length-set}
 use Rattle.marks.specs.MarksLaws.{given_at_lem, mark_on, marked_none}
 use Rattle.marks.proofs.mark.Goals as goal
 
-pub loop-i-init : goal.loop-i-init
-loop-i-init c = (omega arith, refl, refl)
+pub loop-m-init : goal.loop-m-init
+loop-m-init c = (refl, refl)
 
-pub overflow_cast-at : goal.overflow_cast-at
-overflow_cast-at c = omega (arith, c.shared_slice_known-1.given c.loop-i.i)
-
-pub offset_bounds-moved-at : goal.offset_bounds-moved-at
-offset_bounds-moved-at c = omega (arith, c.shared_slice_known-1.given c.loop-i.i)
-
-pub bounds-moved-at : goal.bounds-moved-at
-bounds-moved-at c =
+pub bounds-moved-m : goal.bounds-moved-m
+bounds-moved-m c =
     let p = c.requires in
-    omega (arith, c.loop-i.invariant.1, p.0, given_at_lem c.args.marks.now c.args.n c.loop-i.i p.1 (omega arith))
+    omega (arith, c.loop-m.invariant.0, p.0, given_at_lem c.args.marks.now c.args.n c.loop-m.m-index p.1 (omega arith))
 
-pub loop-i-preserved : goal.loop-i-preserved
-loop-i-preserved c =
-    (omega arith, simp length-set c.loop-i.invariant.1, mark_on _ _ c.loop-i.i (omega arith) ∙ c.loop-i.invariant.2)
+pub loop-m-preserved : goal.loop-m-preserved
+loop-m-preserved c =
+    (simp length-set c.loop-m.invariant.0, mark_on _ _ c.loop-m.m-index (omega arith) ∙ c.loop-m.invariant.1)
 
 pub shape_of-moved : goal.shape_of-moved
-shape_of-moved c = c.loop-i.invariant.1
+shape_of-moved c = c.loop-m.invariant.0
 
 pub returns : goal.returns
 returns c =
-    sym (marked_none _ _ c.loop-i.i (omega arith)) ∙ c.loop-i.invariant.2
+    sym (marked_none _ _ c.loop-m.m-index (omega arith)) ∙ c.loop-m.invariant.1

@@ -1,8 +1,10 @@
 -- `parse::after_added` meets its contract: its arms are those of `adding_after`. Assumes nothing.
+use mathlib.Core.Path.{sym, ap, ◌∙◌}
+use Rattle.parse.specs.Call.{adding_after}
 use Rattle.parse.proofs.after_added.Goals as goal
 
-pub returns-in-Index : goal.returns-in-Index
-returns-in-Index c = rw c.in-Index.is
+pub returns-in-Ok : goal.returns-in-Ok
+returns-in-Ok c = rw c.in-Ok.is
 
-pub returns-in-PoolFull : goal.returns-in-PoolFull
-returns-in-PoolFull c = rw c.in-PoolFull.is
+pub returns-in-Err : goal.returns-in-Err
+returns-in-Err c = c.after_error.ensures ∙ sym (ap (adding_after c.args.adding) c.in-Err.is)

@@ -1,10 +1,6 @@
 -- `slide::slide` meets its contract. Assumes nothing.
-use Prim.Native.Nat.{◌-◌, ◌≤◌}
 use Rattle.slide.specs.Slide.{Compacted, stays}
 use Rattle.slide.proofs.slide.Given as goal
 
 abbrev pub invariant-loop-i : goal.invariant-loop-i
-invariant-loop-i l = (l.i ≤ l.n) × Compacted (stays l.initial.moved) l.i l.initial.bytes l.initial.entries l.initial.owners l.initial.moved l.bytes l.entries l.owners l.moved l.laid
-
-abbrev pub decreases-loop-i : goal.decreases-loop-i
-decreases-loop-i l = l.n - l.i
+invariant-loop-i l = Compacted (stays l.initial.moved) l.i l.initial.bytes l.initial.entries l.initial.owners l.initial.moved l.bytes l.entries l.owners l.moved l.laid
