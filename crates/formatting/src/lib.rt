@@ -57,7 +57,10 @@ fn print_fill(rt: &impl Print, fill: Option<Part>) -> io::Result<()> {
 // Alignment, width, precision, representation, the fill's place, length and index.
 fn print_options(rt: &impl Print, options: Options, index: Option<u32>) -> io::Result<()> {
     rt.print("options")?;
-    print_number(rt, format_options::alignment_number(options.alignment) as u64)?;
+    print_number(
+        rt,
+        format_options::alignment_number(options.alignment) as u64,
+    )?;
     print_given(rt, options.width)?;
     print_given(rt, options.precision)?;
     print_shown(rt, options.representation)?;

@@ -20,7 +20,7 @@ fn main(rt: HostRuntime) -> io::Result<()> {
     let mut input = rt.reader();
     let mut line = Vec::new(rt.alloc());
     input.by_ref().take(LINE_MOST).read_until(b'\n', &mut line)?;
-    // A line that does not end within so many bytes is malformed, as one that has a newline is.
+    // A line that does not end within so many bytes is malformed, and so is the newline that stands for it.
     let calls = line.strip_suffix(b"\n").unwrap_or(b"\n");
     // One byte more than a script may have, so that one too many is seen.
     let source = lines::read_most(&rt, &mut input, 1025)?;

@@ -23,7 +23,11 @@ pub fn large_buffer() -> [u8; 65536]
 }
 
 // Reads all of an open file. One of too many bytes counts as empty, which is said by this name.
-fn read_all<R: Print + AllocGlobal>(rt: &R, input: &mut impl Read, name: &str) -> io::Result<Vec<u8>>
+fn read_all<R: Print + AllocGlobal>(
+    rt: &R,
+    input: &mut impl Read,
+    name: &str,
+) -> io::Result<Vec<u8>>
     ensures { IfOk result (λ text. vec_len text ≤ 524287) }
 {
     let mut text = Vec::new(rt.alloc());
@@ -72,8 +76,7 @@ pub fn read_input(rt: &(impl Input + Print + AllocGlobal)) -> io::Result<Vec<u8>
 }
 
 // The first bytes of an input, at most so many.
-pub fn read_most(rt: &impl AllocGlobal, input: &mut impl Read, most: u64) -> io::Result<Vec<u8>>
-{
+pub fn read_most(rt: &impl AllocGlobal, input: &mut impl Read, most: u64) -> io::Result<Vec<u8>> {
     let mut text = Vec::new(rt.alloc());
     input.take(most).read_to_end(&mut text)?;
     Ok(text)

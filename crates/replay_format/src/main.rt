@@ -42,7 +42,19 @@ fn main(rt: HostRuntime) -> io::Result<()> {
     let Some(table) = tables::full_table(&rt, "full.kpt")? else {
         return Ok(());
     };
-    lines::replay(&rt, "formats.txt", |line| agrees(line, &table, input::WITH_GB9C))?;
-    lines::replay(&rt, "older.txt", |line| agrees(line, &table, input::WITHOUT_GB9C))?;
-    lines::replay(&rt, "wrong.txt", |line| agrees(line, &table, input::WITH_GB9C))
+    lines::replay(
+        &rt,
+        "formats.txt",
+        |line| agrees(line, &table, input::WITH_GB9C),
+    )?;
+    lines::replay(
+        &rt,
+        "older.txt",
+        |line| agrees(line, &table, input::WITHOUT_GB9C),
+    )?;
+    lines::replay(
+        &rt,
+        "wrong.txt",
+        |line| agrees(line, &table, input::WITH_GB9C),
+    )
 }

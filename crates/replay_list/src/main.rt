@@ -15,7 +15,8 @@ fn agrees(line: &[u8]) -> bool {
     let mut buffer = lines::buffer();
     let script = fields.hex(&mut buffer);
     let mut list = replay_rows::list_buffer();
-    let said = listing::scan_small(script, &mut list[..LIST_WORDS]);
+    let n = lines::within(LIST_WORDS, &list);
+    let said = listing::scan_small(script, &mut list[..n]);
     replay_rows::agrees(fields, said, &list)
 }
 
