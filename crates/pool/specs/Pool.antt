@@ -49,10 +49,10 @@ added string bytes entries counts =
     (pick (fit_pool bytes entries counts) (added_to_fit string bytes entries counts) (Err BadState))
 
 -- what is refused before an addition, where something is
-abbrev pub refused_as : Utf8Check → AddError
-refused_as utf8.Fine = BadState
-refused_as (utf8.BadAt i) = BadUtf8 i
-refused_as (utf8.CutAt i) = CutUtf8 i
+abbrev pub refused_as : Result (Unit {0}) Utf8Error → AddError
+refused_as (Ok _) = BadState
+refused_as (Err (utf8.BadAt i)) = BadUtf8 i
+refused_as (Err (utf8.CutAt i)) = CutUtf8 i
 
 abbrev pub refusal_at : List ℕ → AddError
 refusal_at string = refused_as (check_from 0 string)
