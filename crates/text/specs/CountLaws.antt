@@ -320,7 +320,7 @@ module _ (f : ℕ → Bool) (ascii : (c : ℕ) → f c ≡ true → c < 128) (s 
   all_skip (suc fuel) i h w =
       split_lt i (length s) (λ k. one_skip i w k _ refl (λ v. all_skip fuel (i + 1) (omega arith) v)) (λ k. no_skip i w (count_end f s i k))
 
--- a run of characters that pass a numbered test
+-- a run of characters that pass a test which only ASCII passes
 pub skip_run : {f : ℕ → Bool} → ((c : ℕ) → f c ≡ true → c < 128) → (s : List ℕ) (i : ℕ) → WellFormed (drop i s)
     → Skips s i (count_while f (chars (drop i s)))
 skip_run {f} ascii s i w = all_skip f ascii s (length s - i) i (omega arith) w
