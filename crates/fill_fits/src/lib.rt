@@ -14,8 +14,8 @@ ghost use Rattle.fill_fits.specs.Apart.{last_of, joins_sign, Begins};
 use asked::Fields;
 use base::chars::{DOT, LESS, ZERO};
 use format_number::peek;
-use format_options::letters::{NO_CHAR, is_digit, is_sign, representation_of};
 use format_options::Alignment;
+use format_options::letters::{NO_CHAR, is_digit, is_sign, representation_of};
 use uax29::{Left, is_joined};
 
 fn is_default(alignment: Alignment) -> bool

@@ -7,8 +7,8 @@ ghost use Rattle.format_arms.specs.Arms.{is_fill_sign, is_align, is_zero_fill, i
 ghost use Rattle.format_arms.specs.Arms.{letter_of, last_arm, arm_of};
 
 use base::chars::{DOT, ZERO};
-use format_options::letters::{NO_CHAR, is_digit, is_sign, representation_of};
 use format_options::Representation;
+use format_options::letters::{NO_CHAR, is_digit, is_sign, representation_of};
 
 // `FormatParsePosition`
 #[derive(Clone, Copy, Debug, PartialEq, Eq)]
@@ -52,8 +52,7 @@ fn is_align(c: u32, position: Position) -> bool
 fn is_zero_fill(c: u32, peeked: u32, position: Position) -> bool
     ensures { result ≡ is_zero_fill c peeked position }
 {
-    c == ZERO
-        && (is_digit(peeked) && matches!(position, Position::Start | Position::MinWidth))
+    c == ZERO && (is_digit(peeked) && matches!(position, Position::Start | Position::MinWidth))
 }
 
 // `('0'..='9', _, Start | MinWidth)`

@@ -120,7 +120,11 @@ impl Parsing {
         ensures { result ≡ goes_to (with_alignment (char_to_alignment sign) self.result) min_width next self.added }
     {
         let alignment = char_to_alignment(sign);
-        self.go(self.result.with_alignment(alignment), Position::MinWidth, next)
+        self.go(
+            self.result.with_alignment(alignment),
+            Position::MinWidth,
+            next,
+        )
     }
 
     // On to the character at `next`, with a precision, or else with a width.
@@ -156,7 +160,11 @@ impl Parsing {
     pub fn represent(self, representation: Representation, next: usize) -> Parsing
         ensures { result ≡ goes_to (with_representation representation self.result) end next self.added }
     {
-        self.go(self.result.with_representation(representation), Position::End, next)
+        self.go(
+            self.result.with_representation(representation),
+            Position::End,
+            next,
+        )
     }
 
     // The arm fails, and the rest stays as it is.

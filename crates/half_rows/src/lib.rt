@@ -9,8 +9,8 @@ ghost use Rattle.std.specs.Prelude.{◌≡◌, ◌-◌, ◌≤◌, ◌<◌};
 ghost use Rattle.rows.specs.First.{Packs};
 ghost use Rattle.half_rows.specs.Half.{room, marked, marked_first, put_half, end_before, start_at, row_at, may_stand, shown_at};
 
-use rows::first::{ABOVE_UNIT, DEPTH_ROOM, DEPTH_UNIT, DETAIL_ROOM, KIND_ROOM, first_of, shown_by};
 use rows::Row;
+use rows::first::{ABOVE_UNIT, DEPTH_ROOM, DEPTH_UNIT, DETAIL_ROOM, KIND_ROOM, first_of, shown_by};
 use token::kinds;
 
 // How many numbers a record has.

@@ -43,7 +43,14 @@ fn next_whole(
             );
             tell_given(given, taken, queued, shown, record, place)
         }
-        _ => tell_given(Err(NextError::BadState), taken, queued, shown, record, place),
+        _ => tell_given(
+            Err(NextError::BadState),
+            taken,
+            queued,
+            shown,
+            record,
+            place,
+        ),
     }
 }
 

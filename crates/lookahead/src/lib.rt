@@ -102,12 +102,7 @@ fn show(cursor: Cursor, seen: Result<Option<Row>, usize>) -> Result<Look, LookEr
 }
 
 // The token that comes after n others, where so many are queued.
-fn see_queued(
-    layout: Layout,
-    list: &[u32],
-    cursor: Cursor,
-    n: usize,
-) -> Result<Option<Row>, usize>
+fn see_queued(layout: Layout, list: &[u32], cursor: Cursor, n: usize) -> Result<Option<Row>, usize>
     requires { cursor.count ≤ room_in layout list.now }
     ensures { shown_by cursor result ≡ queued_at (shown_in layout list.now cursor.count) cursor n }
 {

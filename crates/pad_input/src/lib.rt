@@ -49,7 +49,13 @@ fn check_format(alignment: u64, width: u64) -> Result<(), PadRefusal>
 }
 
 // The questions after those about the text, where a fill is given.
-fn check_fill(alignment: u64, width: u64, fill: &[u8], table: &[u32], edition: u32) -> Result<(), PadRefusal>
+fn check_fill(
+    alignment: u64,
+    width: u64,
+    fill: &[u8],
+    table: &[u32],
+    edition: u32,
+) -> Result<(), PadRefusal>
     requires { FitTable table.now }
     ensures { result ≡ fill_check (properties_at table.now) edition alignment width fill.now }
 {

@@ -75,12 +75,7 @@ pub struct Plan {
 
 // Reads a format string, for a pool that is fit or not: what is known before the pool is written to. Refused are a format string that is too long, then a number that is no edition, then a
 // table that is unfit, then bytes that are wrong or cut, then a pool that is unfit.
-pub fn read(
-    format: &[u8],
-    table: &[u32],
-    terms: Terms,
-    fit: bool,
-) -> Result<FormatRead, ParseError>
+pub fn read(format: &[u8], table: &[u32], terms: Terms, fit: bool) -> Result<FormatRead, ParseError>
     ensures { result ≡ input_of format.now table.now terms.edition fit }
 {
     let edition = terms.edition;

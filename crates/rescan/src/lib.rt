@@ -152,8 +152,6 @@ pub fn rescan(
 {
     match input::check_input(source, table, edition, SOURCE_MOST) {
         Err(refusal) => Err(RescanError::Scan(ScanError::Refused(refusal))),
-        Ok(()) => rescan_readable(
-            old, old_list, old_count, edit, source, table, edition, list,
-        ),
+        Ok(()) => rescan_readable(old, old_list, old_count, edit, source, table, edition, list),
     }
 }

@@ -139,15 +139,15 @@ fn print_calls(rt: &impl Print, line: &[u8], list: &[u32], from: Cursor) -> io::
 }
 
 // There is nothing to walk over where a scan is refused, so its refusal is printed alone.
-fn print_scan(rt: &impl Print, line: &[u8], list: &[u32], scanned: Result<Scan, ScanError>) -> io::Result<()> {
+fn print_scan(
+    rt: &impl Print,
+    line: &[u8],
+    list: &[u32],
+    scanned: Result<Scan, ScanError>,
+) -> io::Result<()> {
     match scanned {
         Ok(Scan::End { count, .. }) => print_calls(rt, line, list, start(count, Status::End)),
-        Ok(Scan::Stuck { count, .. }) => print_calls(
-            rt,
-            line,
-            list,
-            start(count, Status::Stuck),
-        ),
+        Ok(Scan::Stuck { count, .. }) => print_calls(rt, line, list, start(count, Status::Stuck)),
         Err(_) => printing::print_end(rt, scanned),
     }
 }
@@ -161,7 +161,12 @@ pub fn line_buffer() -> [u8; 200001]
 
 // Prints a walk over the records of a scan: a line for each call and how many tokens are queued at the end, the refusal of the scan, or that
 // the line is malformed, which is told first.
-pub fn print_walk(rt: &impl Print, line: &[u8], list: &[u32], scanned: Result<Scan, ScanError>) -> io::Result<()>
+pub fn print_walk(
+    rt: &impl Print,
+    line: &[u8],
+    list: &[u32],
+    scanned: Result<Scan, ScanError>,
+) -> io::Result<()>
     ensures { IfOk result (λ r. r ≡ tt) }
 {
     if !are_calls(line) {
