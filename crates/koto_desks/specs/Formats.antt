@@ -1,6 +1,6 @@
 -- What `koto_desk_parse_flat` returns and writes, from the inner call's answer.
 -- Assumes nothing.
-use Rattle.std.specs.Prelude.{ℕ, ◌≡◌, List, false}
+use Rattle.std.specs.Prelude.{ℕ, ◌≡◌, List, Err, false}
 use Rattle.base.specs.Pick.{pick}
 use Rattle.parse.specs.Call.{number_of, value_of}
 use Rattle.parse.specs.Numbers.{numbers_of}
@@ -14,7 +14,7 @@ use Rattle.koto_desks.specs.Words.{is_desk, which_of, Leaves}
 module _ (desk : ℕ) (format table : List ℕ) (edition : ℕ) (s : Shared) where
   -- what the call comes to: a number that is no desk is 8, where an unfit state is
   abbrev pub parsed_from : Comes
-  parsed_from = pick (is_desk desk) (call format table edition (which_of desk) s) (comes (unfit_answer (input_of format table edition false)) s)
+  parsed_from = pick (is_desk desk) (call format table edition (which_of desk) s) (comes (Err (unfit_answer (input_of format table edition false))) s)
 
   -- what the parse for the desk of a number ensures
   pub record ParsedFrom (new_bytes new_entries newOwners : List ℕ) (r : ParsedFor) : Type 0 where

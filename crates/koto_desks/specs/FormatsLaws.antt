@@ -2,7 +2,7 @@
 --     no_desk, a_desk     the parse for the desk of a number: none of the two, and one of them
 --     told                the call
 -- Assumes nothing.
-use Rattle.std.specs.Prelude.{ℕ, ◌<◌, ◌≤◌, ◌≡◌, false, List}
+use Rattle.std.specs.Prelude.{ℕ, ◌<◌, ◌≤◌, ◌≡◌, false, List, Err}
 use Rattle.std.proofs.Common.{ap, subst, ◌∙◌, lt-ltb, le-ltb}
 use Rattle.pool_rows.specs.declared.Counts.{Counts}
 use Rattle.parse.specs.Call.{number_of, value_of}
@@ -18,7 +18,7 @@ use Rattle.koto_desks.specs.Words.{counts_in, desks_in, which_of, count_words, d
 use Rattle.koto_desks.specs.Formats.{ParsedFrom, ParseIs}
 
 module _ {desk : ℕ} {format table : List ℕ} {edition : ℕ} {s : Shared} where
-  pub no_desk : 2 ≤ desk → {r : ParsedFor} → r.answer ≡ unfit_answer (input_of format table edition false) → r.counts ≡ s.counts
+  pub no_desk : 2 ≤ desk → {r : ParsedFor} → r.answer ≡ Err (unfit_answer (input_of format table edition false)) → r.counts ≡ s.counts
       → r.desks ≡ s.desks → ParsedFrom desk format table edition s s.bytes s.entries s.owners r
   no_desk h a c d =
       let no = le-ltb desk 2 h in

@@ -26,7 +26,7 @@ fn parse_from(
     if words::DESKS <= desk {
         let counts = terms.counts;
         return ParsedFor {
-            answer: desk_parse::refuse(format, table, terms),
+            answer: Err(desk_parse::refuse(format, table, terms)),
             counts,
             desks,
         };
