@@ -228,10 +228,8 @@ fn all_single(s: &[u8]) -> bool
     ensures { result ≡ all_single s.now }
 {
     let mut ok = true;
-    let mut i = 0;
-    while i < s.len() {
-        ok &= lead_len(s[i]) == 1;
-        i += 1;
+    for &b in s {
+        ok &= lead_len(b) == 1;
     }
     ok
 }
