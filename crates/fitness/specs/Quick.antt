@@ -1,7 +1,7 @@
 -- What the quick tests of a table ask (`QuickLaws` has what they settle). No public contract cites them.
 -- Assumes nothing.
-use Rattle.std.specs.Prelude.{ℕ, List, Bool, ◌&&◌, ltb, leb, eqb, length, get_or}
-use Rattle.base.specs.All.{all_good}
+use Rattle.std.specs.Prelude.{ℕ, List, Bool, ◌&&◌, nat_eq, ltb, leb, length, get_or, take}
+use Rattle.std.specs.Cmp.Lexicographic.{pointwise}
 use Rattle.property.specs.Parts.{properties_of}
 use Rattle.property.specs.Table.{start_at}
 use Rattle.fitness.specs.Small.{small_table}
@@ -11,14 +11,10 @@ use Rattle.fitness.specs.Fit.{start_ok, properties_ok, ascii_count}
 unfoldable pub follows_ok : List ℕ → ℕ → Bool
 follows_ok table i = start_ok table i && properties_ok (properties_of (get_or table i 0))
 
--- the number k is the small table's
-abbrev pub small_at : List ℕ → ℕ → Bool
-small_at table k = eqb (get_or table k 0) (get_or small_table k 0)
-
 -- the runs of the small table that start below 128
 abbrev pub small_count : ℕ
 small_count = 15
 
 -- the table begins with these, and the run after them starts at 128 or later
 unfoldable pub begins_as_small : List ℕ → Bool
-begins_as_small table = ltb small_count (length table) && (all_good (small_at table) small_count && leb ascii_count (start_at table small_count))
+begins_as_small table = ltb small_count (length table) && (pointwise nat_eq (take small_count table) (take small_count small_table) && leb ascii_count (start_at table small_count))

@@ -4,16 +4,18 @@
 --     Quick, quick_first, quick_next, quick_done    a loop over the runs: what it keeps, after the first run, after one more, at the end
 --     small_next, no_bad_ascii   the small table's first run above 127; a table that begins as it does agrees with it on 0 to 127
 -- Assumes nothing.
-use Rattle.std.specs.Prelude.{ℕ, ◌+◌, ◌-◌, ◌<◌, ◌≤◌, ◌≡◌, refl, List, Bool, true, false, not, ◌&&◌, ◌||◌, ltb, leb, get_or, take}
+use Rattle.std.specs.Prelude.{ℕ, ◌+◌, ◌-◌, ◌<◌, ◌≤◌, ◌≡◌, refl, List, Bool, true, false, not, ◌&&◌, ◌||◌, nat_eq, ltb, leb, get_or, take}
+use Rattle.std.specs.Cmp.Lexicographic.{pointwise}
 use Rattle.std.proofs.Common.{arith, ap, ◌∙◌}
 use Rattle.std.proofs.Math.Path.{sym}
 use Rattle.std.proofs.Math.Bool.{and_assoc, and_comm}
 use Rattle.std.proofs.Math.ListN.{length}
-use borrow.Author.Tests.{eq-eqb, ne_eqb, eqb-true, ltb-true, leb-true, le-leb}
+use Rattle.std.proofs.lemmas.Bool.Decides.{Decides-eqb}
+use Rattle.std.proofs.lemmas.Slice.Eq.{slice_eq-Decides}
+use borrow.Author.Tests.{eq-eqb, ne_eqb, ltb-true, leb-true, le-leb}
 use Rattle.base.specs.Pick.{pick}
 use Rattle.base.specs.All.{all_good}
-use Rattle.base.specs.AllLaws.{and_left, and_right, one_more_lem, good_at}
-use Rattle.base.specs.ListLaws.{same_start}
+use Rattle.base.specs.AllLaws.{and_left, and_right, one_more_lem}
 use Rattle.property.specs.Parts.{properties_of}
 use Rattle.property.specs.Table.{last_from, properties_at, start_at, Rises}
 use Rattle.property.specs.TableLaws.{all_above, first_runs}
@@ -22,7 +24,7 @@ use Rattle.fitness.specs.SmallLaws.{small_is_fit}
 use Rattle.fitness.specs.First.{first_bad}
 use Rattle.fitness.specs.FirstLaws.{none_bad}
 use Rattle.fitness.specs.Fit.{start_ok, properties_ok, run_ok, ascii_ok, start_most}
-use Rattle.fitness.specs.Quick.{follows_ok, small_at, begins_as_small}
+use Rattle.fitness.specs.Quick.{follows_ok, begins_as_small}
 
 -- ---- the run rules
 
@@ -97,14 +99,12 @@ module _ (table : List ℕ) (begins : begins_as_small table ≡ true) where
   same_runs : take 15 table ≡ take 15 small_table
   unfolding begins_as_small
   same_runs =
-      let long : 15 ≤ length table = omega (arith, ltb-true 15 (length table) (and_left (ltb 15 (length table)) _ begins)) in
-      let small : 15 ≤ length small_table = omega (arith, small_next) in
-      let good = and_left (all_good (small_at table) 15) _ (and_right (ltb 15 (length table)) _ begins) in
-      same_start 15 table small_table long small (λ k h. eqb-true _ _ (good_at (small_at table) 15 k h good))
+      let same = pointwise nat_eq (take 15 table) (take 15 small_table) in
+      (slice_eq-Decides Decides-eqb _ _ same refl).0 (and_left same _ (and_right (ltb 15 (length table)) _ begins))
 
   next_above : 128 ≤ start_at table 15
   unfolding begins_as_small
-  next_above = leb-true 128 _ (and_right (all_good (small_at table) 15) _ (and_right (ltb 15 (length table)) _ begins))
+  next_above = leb-true 128 _ (and_right (pointwise nat_eq (take 15 table) (take 15 small_table)) _ (and_right (ltb 15 (length table)) _ begins))
 
   pub no_bad_ascii : Rises table → first_bad (ascii_ok table) 0 128 ≡ 128
   no_bad_ascii r =

@@ -76,14 +76,11 @@ fn all_runs_ok(table: &[u32]) -> bool
     requires { 0 < length table.now }
     ensures { result ≡ all_good (run_ok table.now) (length table.now) }
 {
-    let last = table.len() - 1;
     let mut ok = follows(table, 0);
-    let mut i = 1;
-    while i <= last {
+    for i in 1..table.len() {
         ok &= follows(table, i);
-        i += 1;
     }
-    ok & within(table[last])
+    ok & within(table[table.len() - 1])
 }
 
 // The first run that breaks a run rule; the count where none does.
@@ -94,14 +91,12 @@ fn first_bad_run(table: &[u32]) -> usize
     if all_runs_ok(table) {
         return table.len();
     }
-    let mut i = 0;
-    while i < table.len() {
+    for i in 0..table.len() {
         if !run_ok(table, i) {
             return i;
         }
-        i += 1;
     }
-    i
+    table.len()
 }
 
 // The small table: each number is a run's start times 2,048 and its properties.
@@ -145,12 +140,7 @@ fn begins_as_small(table: &[u32], small: &[u32]) -> bool
     if table.len() <= 15 {
         return false;
     }
-    let mut same = true;
-    let mut k = 0;
-    while k < 15 {
-        same &= table[k] == small[k];
-        k += 1;
-    }
+    let same = table[..15] == small[..15];
     same & (128 <= table[15] / 2048)
 }
 
@@ -163,14 +153,12 @@ fn first_bad_ascii(table: &[u32], small: &[u32]) -> u32
     if begins_as_small(table, small) {
         return 128;
     }
-    let mut c = 0;
-    while c < 128 {
+    for c in 0..128 {
         if lookup(table, c) != lookup(small, c) {
             return c;
         }
-        c += 1;
     }
-    c
+    128
 }
 
 // Whether a table is fit, in the order of refusal 2's places: its count, its runs, code points 0 to 127.

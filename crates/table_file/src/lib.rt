@@ -40,17 +40,15 @@ fn first_bad_byte(file: &[u8]) -> usize
     ensures { result ≡ first_bad (mark_ok file.now) 0 6 }
 {
     let mark = MARK;
-    let mut i = 0;
-    while i < 6 {
+    for (i, byte) in mark.iter().enumerate() {
         if file.len() <= i {
             return i;
         }
-        if file[i] != mark[i] {
+        if file[i] != *byte {
             return i;
         }
-        i += 1;
     }
-    i
+    6
 }
 
 fn number_16(file: &[u8], at: usize) -> u16
@@ -72,10 +70,8 @@ fn read_numbers(file: &[u8], count: usize, row: &mut [u32])
     requires { (8 + 4 * count ≤ length file.now) × (count ≤ length row.old) }
     ensures { row.new ≡ numbers_in count (drop 8 file.now) ++ drop count row.old }
 {
-    let mut i = 0;
-    while i < count {
+    for i in 0..count {
         row[i] = number_32(file, 8 + 4 * i);
-        i += 1;
     }
 }
 

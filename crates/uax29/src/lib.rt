@@ -65,13 +65,15 @@ pub struct Left {
     pub linked: bool,
 }
 
+#[tactic(auto, unfolding(crate::specs::Uax29::is_control))]
 fn is_control(class: u32) -> bool
     ensures { result ≡ is_control class }
 {
-    class == CR || (class == LF || class == CONTROL)
+    matches!(class, CR | LF | CONTROL)
 }
 
 // GB3: CR × LF
+#[tactic(auto, unfolding(crate::specs::Uax29::gb3))]
 fn joins_crlf(before: u32, after: u32) -> bool
     ensures { result ≡ gb3 before after }
 {
@@ -79,84 +81,57 @@ fn joins_crlf(before: u32, after: u32) -> bool
 }
 
 // GB6: L × (L | V | LV | LVT)
+#[tactic(auto, unfolding(crate::specs::Uax29::gb6))]
 fn joins_l(before: u32, after: u32) -> bool
     ensures { result ≡ gb6 before after }
 {
-    before == L && (after == L || (after == V || (after == LV || after == LVT)))
+    before == L && matches!(after, L | V | LV | LVT)
 }
 
 // GB7: (LV | V) × (V | T)
+#[tactic(auto, unfolding(crate::specs::Uax29::gb7))]
 fn joins_v(before: u32, after: u32) -> bool
     ensures { result ≡ gb7 before after }
 {
-    if before == LV {
-        if after == V {
-            return true;
-        }
-        return after == T;
-    }
-    if before == V {
-        if after == V {
-            return true;
-        }
-        return after == T;
-    }
-    false
+    matches!(before, LV | V) && matches!(after, V | T)
 }
 
 // GB8: (LVT | T) × T
+#[tactic(auto, unfolding(crate::specs::Uax29::gb8))]
 fn joins_t(before: u32, after: u32) -> bool
     ensures { result ≡ gb8 before after }
 {
-    if before == LVT {
-        return after == T;
-    }
-    if before == T {
-        return after == T;
-    }
-    false
+    matches!(before, LVT | T) && after == T
 }
 
 // GB9: × (Extend | ZWJ)
+#[tactic(auto, unfolding(crate::specs::Uax29::gb9))]
 fn is_extender(after: u32) -> bool
     ensures { result ≡ gb9 after }
 {
-    after == EXTEND || after == ZWJ
+    matches!(after, EXTEND | ZWJ)
 }
 
 // The rules on two classes, in the annex's order.
+#[tactic(auto, unfolding(crate::specs::Uax29::pair_rule))]
 fn check_pair(before: u32, after: u32) -> Pair
     ensures { result ≡ pair_rule before after }
 {
     if joins_crlf(before, after) {
         return Pair::Joined;
     }
-    // GB4
-    if is_control(before) {
+    // GB4 and GB5
+    if is_control(before) || is_control(after) {
         return Pair::Broken;
     }
-    // GB5
-    if is_control(after) {
-        return Pair::Broken;
-    }
-    if joins_l(before, after) {
-        return Pair::Joined;
-    }
-    if joins_v(before, after) {
-        return Pair::Joined;
-    }
-    if joins_t(before, after) {
-        return Pair::Joined;
-    }
-    if is_extender(after) {
-        return Pair::Joined;
-    }
-    // GB9a
-    if after == SPACING_MARK {
-        return Pair::Joined;
-    }
-    // GB9b
-    if before == PREPEND {
+    // The last two are GB9a and GB9b.
+    if joins_l(before, after)
+        || joins_v(before, after)
+        || joins_t(before, after)
+        || is_extender(after)
+        || after == SPACING_MARK
+        || before == PREPEND
+    {
         return Pair::Joined;
     }
     Pair::Open
@@ -171,6 +146,7 @@ fn joins_conjunct(edition: u32, linked: bool, p: u32) -> bool
 }
 
 // GB11: ExtPict Extend* ZWJ × ExtPict
+#[tactic(auto, unfolding(crate::specs::Uax29::gb11))]
 fn joins_pict(zwj: bool, p: u32) -> bool
     ensures { result ≡ gb11 zwj p }
 {
@@ -178,6 +154,7 @@ fn joins_pict(zwj: bool, p: u32) -> bool
 }
 
 // GB12 and GB13: a second Regional_Indicator
+#[tactic(auto, unfolding(crate::specs::Uax29::gb12))]
 fn joins_flag(odd: bool, p: u32) -> bool
     ensures { result ≡ gb12 odd p }
 {
@@ -185,6 +162,7 @@ fn joins_flag(odd: bool, p: u32) -> bool
 }
 
 // Whether there is no break between what stands to the left and the character with the properties p.
+#[tactic(auto, unfolding(crate::specs::State::joined_by))]
 pub fn is_joined(edition: u32, left: Left, p: u32) -> bool
     ensures { result ≡ joined_by edition left p }
 {
@@ -192,62 +170,54 @@ pub fn is_joined(edition: u32, left: Left, p: u32) -> bool
         Pair::Joined => true,
         Pair::Broken => false,
         Pair::Open => {
-            if joins_conjunct(edition, left.linked, p) {
-                return true;
-            }
-            if joins_pict(left.zwj, p) {
-                return true;
-            }
-            joins_flag(left.odd, p)
+            joins_conjunct(edition, left.linked, p)
+                || joins_pict(left.zwj, p)
+                || joins_flag(left.odd, p)
         }
     }
 }
 
+#[tactic(auto, unfolding(crate::specs::State::pict_step))]
 fn pict_step(pict: bool, p: u32) -> bool
     ensures { result ≡ pict_step pict p }
 {
     property::is_pict(p) || (property::class_of(p) == EXTEND && pict)
 }
 
+#[tactic(auto, unfolding(crate::specs::State::zwj_step))]
 fn zwj_step(pict: bool, p: u32) -> bool
     ensures { result ≡ zwj_step pict p }
 {
     property::class_of(p) == ZWJ && pict
 }
 
+#[tactic(auto, unfolding(crate::specs::State::odd_step))]
 fn odd_step(odd: bool, p: u32) -> bool
     ensures { result ≡ odd_step odd p }
 {
     property::class_of(p) == REGIONAL_INDICATOR && !odd
 }
 
+#[tactic(auto, unfolding(crate::specs::State::consonant_step))]
 fn consonant_step(consonant: bool, p: u32) -> bool
     ensures { result ≡ consonant_step consonant p }
 {
-    let incb = property::incb_of(p);
-    if incb == CONSONANT {
-        return true;
+    match property::incb_of(p) {
+        CONSONANT => true,
+        INCB_EXTEND | LINKER => consonant,
+        _ => false,
     }
-    if incb == INCB_EXTEND {
-        return consonant;
-    }
-    if incb == LINKER {
-        return consonant;
-    }
-    false
 }
 
+#[tactic(auto, unfolding(crate::specs::State::linked_step))]
 fn linked_step(consonant: bool, linked: bool, p: u32) -> bool
     ensures { result ≡ linked_step consonant linked p }
 {
-    let incb = property::incb_of(p);
-    if incb == LINKER {
-        return consonant;
+    match property::incb_of(p) {
+        LINKER => consonant,
+        INCB_EXTEND => linked,
+        _ => false,
     }
-    if incb == INCB_EXTEND {
-        return linked;
-    }
-    false
 }
 
 impl Left {

@@ -40,47 +40,30 @@ pub enum Utf8Error {
 pub fn lead_len(a: u8) -> usize
     ensures { result ≡ seq_len a }
 {
-    let ones = u8::leading_zeros(!a);
-    if ones == 0 {
-        return 1;
-    }
-    if ones == 2 {
+    match a.leading_ones() {
+        0 => 1,
         // C0 and C1 would open overlong forms of one byte.
-        if a < 0xc2 {
-            return 0;
-        }
-        return 2;
-    }
-    if ones == 3 {
-        return 3;
-    }
-    if ones == 4 {
+        2 if a < 0xc2 => 0,
+        2 => 2,
+        3 => 3,
         // F5 and up would open what lies past U+10FFFF.
-        if a < 0xf5 {
-            return 4;
-        }
-        return 0;
+        4 if a < 0xf5 => 4,
+        _ => 0,
     }
-    0
 }
 
 // Whether b may follow the lead byte a: E0 and F0 shut out overlong forms, ED surrogates, F4 what lies past U+10FFFF.
+#[tactic(auto, unfolding(crate::specs::Read::second_ok))]
 fn second_ok(a: u8, b: u8) -> bool
     ensures { result ≡ second_ok a b }
 {
-    if a == 0xe0 {
-        return between(b, 0xa0, 0xbf);
+    match a {
+        0xe0 => between(b, 0xa0, 0xbf),
+        0xed => between(b, 0x80, 0x9f),
+        0xf0 => between(b, 0x90, 0xbf),
+        0xf4 => between(b, 0x80, 0x8f),
+        _ => between(b, 0x80, 0xbf),
     }
-    if a == 0xed {
-        return between(b, 0x80, 0x9f);
-    }
-    if a == 0xf0 {
-        return between(b, 0x90, 0xbf);
-    }
-    if a == 0xf4 {
-        return between(b, 0x80, 0x8f);
-    }
-    between(b, 0x80, 0xbf)
 }
 
 // The code points of two, three and four bytes.
@@ -228,10 +211,8 @@ fn all_single(s: &[u8]) -> bool
     ensures { result ≡ all_single s.now }
 {
     let mut ok = true;
-    let mut i = 0;
-    while i < s.len() {
-        ok &= lead_len(s[i]) == 1;
-        i += 1;
+    for &b in s {
+        ok &= lead_len(b) == 1;
     }
     ok
 }

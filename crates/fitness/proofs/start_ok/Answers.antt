@@ -1,4 +1,4 @@
--- `property::start_ok` meets its contract: each return is a case of `start_ok`. Assumes nothing.
+-- `fitness::start_ok` meets its contract: each return is a case of `start_ok`. Assumes nothing.
 use mathlib.Core.Path.{sym}
 use Rattle.base.specs.CasesLaws.{cases}
 use Rattle.fitness.specs.Fit.{start_ok}

@@ -1,4 +1,4 @@
--- `property::check_numbers` meets its contract: the start of the filled row is the file's numbers. Assumes nothing.
+-- `table_file::check_numbers` meets its contract: the start of the filled row is the file's numbers. Assumes nothing.
 use mathlib.Core.Path.{sym, ap, ◌∙◌}
 use lib.ListN.{length}
 use Rattle.fitness.specs.Fit.{table_check}

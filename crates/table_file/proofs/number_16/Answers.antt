@@ -1,4 +1,4 @@
--- `property::number_16` meets its contract: two bytes, each below 256, are below 65,536 together. Assumes nothing.
+-- `table_file::number_16` meets its contract: two bytes, each below 256, are below 65,536 together. Assumes nothing.
 use Prim.Native.Nat.{◌+◌, ◌<◌}
 use native.Mathlib.Omega.{arith}
 use lib.ListN.{get_or}

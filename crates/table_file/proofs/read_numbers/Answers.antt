@@ -1,5 +1,5 @@
--- `property::read_numbers` meets its contract. The loop's invariant: the first i numbers stand in the row, and the rest is as it was; the
--- measure is what is left of the count. Assumes nothing.
+-- `table_file::read_numbers` meets its contract. The loop's invariant: the first i numbers stand in the row, and the rest is as it was.
+-- Assumes nothing.
 use Rattle.table_file.proofs.FileLaws.{nothing_filled, one_more_lem, all_filled}
 use Rattle.table_file.proofs.read_numbers.Goals as goal
 

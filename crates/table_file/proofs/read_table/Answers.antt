@@ -1,4 +1,4 @@
--- `property::read_table` meets its contract: each return is a case of `read_table`, and only the last has written to the row.
+-- `table_file::read_table` meets its contract: each return is a case of `read_table`, and only the last has written to the row.
 -- Assumes nothing.
 use Rattle.std.proofs.Common.{rules}
 use mathlib.Core.Path.{refl, sym, ◌∙◌}

@@ -1,5 +1,4 @@
--- `utf8::all_single` meets its contract. The loop's invariant: what was found of the bytes before i, which are within s; the measure is what
--- is left of the length. Assumes nothing.
+-- `utf8::all_single` meets its contract. The loop's invariant: what was found of the bytes before the index. Assumes nothing.
 use native.Mathlib.Omega.{arith}
 use mathlib.Core.Path.{◌≡◌, refl, ap, ◌∙◌}
 use lib.ListN.{length}
@@ -8,16 +7,16 @@ use Rattle.base.specs.AllLaws.{one_more_lem}
 use Rattle.utf8.specs.Lengths.{is_single}
 use Rattle.utf8.proofs.all_single.Goals as goal
 
-pub loop-i-init : goal.loop-i-init
+pub loop-b-init : goal.loop-b-init
 unfolding all_good
-loop-i-init c = (omega arith, refl)
+loop-b-init c = refl
 
-pub loop-i-preserved : goal.loop-i-preserved
-loop-i-preserved c =
-    (omega arith, rw (c.lead_len.ensures, one_more_lem (is_single _) c.loop-i.i, c.loop-i.invariant.1))
+pub loop-b-preserved : goal.loop-b-preserved
+loop-b-preserved c =
+    rw (c.lead_len.ensures, one_more_lem (is_single _) c.loop-b.b-index, c.loop-b.invariant)
 
 pub returns : goal.returns
 returns c =
     let s = c.args.s.now in
-    let whole : c.loop-i.i ≡ length s = omega (arith, c.loop-i.invariant.0, c.loop-i-test.false) in
-    c.loop-i.invariant.1 ∙ ap (all_good (is_single s)) whole
+    let whole : c.loop-b.b-index ≡ length s = omega arith in
+    c.loop-b.invariant ∙ ap (all_good (is_single s)) whole
