@@ -9,43 +9,26 @@ ghost use Rattle.fitness.specs.Ascii.{is_name_part};
 ghost use Rattle.text.specs.Chars.{LenIs};
 ghost use Rattle.text.specs.Stands.{Stands, chars_from};
 ghost use Rattle.state.specs.Lexer.{reach_of};
-ghost use Rattle.skip.specs.Skip.{Counts};
 ghost use Rattle.names.specs.ConsumeIdOrKeyword.{name_end};
 ghost use Rattle.fast_names.specs.NameRun.{NameRun};
 
 pub use name_runs::Ended;
 use name_runs::{end_of_parts, is_part, run_by};
 use position::Reach;
-use skip::{place_out, smaller};
+use skip::{Stays, count, end_singly};
 use state::Lexer;
 use text::byte_at;
 
-// How many of the 32 bytes from `at` on are parts of a name before the first that is none.
-fn count32(source: &[u8], at: usize) -> usize
-    requires { at + 32 ≤ length source.now }
-    ensures { Counts is_name_part source.now at 32 32 result }
-{
-    let mut n = 32u8;
-    for k in 0..32u8 {
-        let out = place_out(is_part(source[at + (k as usize)]), k, 32);
-        n = smaller(out, n);
-    }
-    n as usize
-}
+// The parts of a name: letters, digits and the underscore.
+#[derive(Clone, Copy)]
+struct Parts;
 
-// Where the parts of a name end, by single bytes.
-fn end_singly(source: &[u8], at: usize) -> usize
-    requires { at ≤ length source.now }
-    ensures { NameRun source.now at result }
-{
-    let mut i = at;
-    while i < source.len() {
-        if !is_part(source[i]) {
-            return i;
-        }
-        i += 1;
+impl Stays for Parts {
+    ghost test = { λ _. is_name_part };
+
+    fn stays(self, x: u8) -> bool {
+        is_part(x)
     }
-    i
 }
 
 // Where the parts of a name end that stand from `at` on.
@@ -55,13 +38,13 @@ pub fn parts_end(source: &[u8], at: usize) -> usize
 {
     let mut i = at;
     while 32 <= source.len() - i {
-        let n = count32(source, i);
+        let n = count(source, i, 32, Parts);
         if n < 32 {
             return i + n;
         }
         i += 32;
     }
-    end_singly(source, i)
+    end_singly(source, i, Parts)
 }
 
 // How far the name at the lexer's place reaches. Its first character, of `len` bytes, counts one column, the others their width. The run `near` is

@@ -4,10 +4,10 @@
 -- Assumes nothing.
 use Rattle.std.specs.Prelude.{ℕ, ◌+◌, ◌<◌, ◌≡◌, refl, Bool, true, false, ◌&&◌, ◌||◌, List, drop}
 use native.Mathlib.Omega.{arith}
-use Rattle.std.proofs.Common.{sym, ap, ◌∙◌, eq-eqb, ne_eqb, eqb-true, leb-true}
+use Rattle.std.proofs.Common.{sym, ap, ◌∙◌, eq-eqb, ne_eqb, eqb-true}
 use Rattle.std.proofs.Math.Dec.{eqb}
 use Rattle.base.specs.Pick.{pick}
-use Rattle.base.specs.PickLaws.{by_test, by_lt, split_eq}
+use Rattle.base.specs.PickLaws.{by_test, split_eq}
 use Rattle.base.specs.RangeLaws.{inside_is}
 use Rattle.utf8.specs.Chars.{chars}
 use Rattle.text.specs.Bytes.{byte_at}

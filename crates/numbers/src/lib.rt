@@ -41,10 +41,7 @@ fn exponent_end(source: &[u8], at: usize) -> usize
         return at;
     }
     let sign = byte_at(source, at + 1);
-    if sign == PLUS {
-        return run_end::<DecimalDigit>(source, at + 2);
-    }
-    if sign == MINUS {
+    if sign == PLUS || sign == MINUS {
         return run_end::<DecimalDigit>(source, at + 2);
     }
     run_end::<DecimalDigit>(source, at + 1)
@@ -103,17 +100,12 @@ fn zero_end(source: &[u8], at: usize) -> usize
     requires { PlaceIn source.now at }
     ensures { result ≡ at + zero_bytes (chars (drop at source.now)) }
 {
-    let letter = byte_at(source, at);
-    if letter == LETTER_B {
-        return run_end::<BinaryDigit>(source, at + 1);
+    match byte_at(source, at) {
+        LETTER_B => run_end::<BinaryDigit>(source, at + 1),
+        LETTER_O => run_end::<OctalDigit>(source, at + 1),
+        LETTER_X => run_end::<HexDigit>(source, at + 1),
+        _ => tail_end(source, at),
     }
-    if letter == LETTER_O {
-        return run_end::<OctalDigit>(source, at + 1);
-    }
-    if letter == LETTER_X {
-        return run_end::<HexDigit>(source, at + 1);
-    }
-    tail_end(source, at)
 }
 
 // The byte after the number at `at`.

@@ -23,12 +23,10 @@ pub fn find_brace(source: &[u8], at: usize) -> Option<usize>
     requires { WellFormed (drop at source.now) }
     ensures { result ≡ find_brace at (chars (drop at source.now)) }
 {
-    let mut i = at;
-    while i < source.len() {
+    for i in at..source.len() {
         if source[i] == b'}' {
             return Some(i);
         }
-        i += 1;
     }
     None
 }

@@ -5,7 +5,7 @@
 // of that, and a block costs the same wherever its bytes end.
 #![tactic(auto)]
 
-ghost use Rattle.std.specs.Prelude.{◌≡◌, ◌+◌, ◌≤◌, ltb, length};
+ghost use Rattle.std.specs.Prelude.{◌≡◌, ◌+◌, ◌≤◌, ◌<◌, ℕ, Bool, false, ltb, length, get_or};
 ghost use Rattle.base.specs.Pick.{pick};
 ghost use Rattle.text.specs.Stands.{Stands};
 ghost use Rattle.skip.specs.Skip.{stays_but, Counts, Passed, Past};
@@ -13,11 +13,28 @@ ghost use Rattle.skip.specs.Skip.{stays_but, Counts, Passed, Past};
 use base::between;
 use position::Reach;
 
-// A printable ASCII character that is none of the three.
-fn stays(x: u8, a: u8, b: u8, c: u8) -> bool
-    ensures { result ≡ stays_but a b c x }
-{
-    between(x, b' ', b'~') & (x != a) & (x != b) & (x != c)
+// What bytes stay.
+pub trait Stays: Copy {
+    ghost test: { Self → ℕ → Bool };
+
+    fn stays(self, x: u8) -> bool
+        ensures { result ≡ test self x };
+}
+
+// Printable ASCII characters that are none of the three.
+#[derive(Clone, Copy)]
+struct But {
+    a: u8,
+    b: u8,
+    c: u8,
+}
+
+impl Stays for But {
+    ghost test = { λ s. stays_but s.a s.b s.c };
+
+    fn stays(self, x: u8) -> bool {
+        between(x, b' ', b'~') & (x != self.a) & (x != self.b) & (x != self.c)
+    }
 }
 
 // The place k of a byte that does not stay; of one that does, `most`.
@@ -41,31 +58,30 @@ pub fn smaller(a: u8, b: u8) -> u8
 }
 
 // How many of the bytes from `at` on stay before the first that does not, of a block of so many. It is inlined where the block's length is known.
-fn count(source: &[u8], at: usize, block: u8, a: u8, b: u8, c: u8) -> usize
+pub fn count<T: Stays>(source: &[u8], at: usize, block: u8, what: T) -> usize
     requires { at + block ≤ length source.now }
-    ensures { Counts (stays_but a b c) source.now at block block result }
+    ensures { Counts (T.test what) source.now at block block result }
 {
     let mut n = block;
     for k in 0..block {
-        let out = place_out(stays(source[at + (k as usize)], a, b, c), k, block);
+        let out = place_out(what.stays(source[at + (k as usize)]), k, block);
         n = smaller(out, n);
     }
     n as usize
 }
 
-// How far the bytes from `at` on stay, by single bytes.
-fn skip_singly(source: &[u8], at: usize, a: u8, b: u8, c: u8) -> usize
+// Where the first byte from `at` on stands that does not stay, or the end, by single bytes.
+pub fn end_singly<T: Stays>(source: &[u8], at: usize, what: T) -> usize
     requires { at ≤ length source.now }
-    ensures { Passed (stays_but a b c) source.now at result }
+    ensures passed { Passed (T.test what) source.now at result }
+    ensures over { result < length source.now → T.test what (get_or source.now result 0) ≡ false }
 {
-    let mut i = at;
-    while i < source.len() {
-        if !stays(source[i], a, b, c) {
+    for i in at..source.len() {
+        if !what.stays(source[i]) {
             return i;
         }
-        i += 1;
     }
-    i
+    source.len()
 }
 
 // How far the bytes from `at` on stay. It may stop before one that would.
@@ -73,18 +89,19 @@ pub fn skip(source: &[u8], at: usize, a: u8, b: u8, c: u8) -> usize
     requires { at ≤ length source.now }
     ensures { Passed (stays_but a b c) source.now at result }
 {
+    let what = But { a, b, c };
     let mut i = at;
     while 64 <= source.len() - i {
-        if !stays(source[i], a, b, c) {
+        if !what.stays(source[i]) {
             return i;
         }
-        let n = count(source, i, 64, a, b, c);
+        let n = count(source, i, 64, what);
         if n < 64 {
             return i + n;
         }
         i += 64;
     }
-    skip_singly(source, i, a, b, c)
+    end_singly(source, i, what)
 }
 
 // The same with a first block of 32, for what is short most often. With fewer than three bytes that are left out, LLVM makes no vector instructions of
@@ -93,13 +110,14 @@ pub fn skip_near(source: &[u8], at: usize, a: u8, b: u8, c: u8) -> usize
     requires { at ≤ length source.now }
     ensures { Passed (stays_but a b c) source.now at result }
 {
+    let what = But { a, b, c };
     if source.len() - at < 32 {
-        return skip_singly(source, at, a, b, c);
+        return end_singly(source, at, what);
     }
-    if !stays(source[at], a, b, c) {
+    if !what.stays(source[at]) {
         return at;
     }
-    let n = count(source, at, 32, a, b, c);
+    let n = count(source, at, 32, what);
     if n < 32 {
         return at + n;
     }
@@ -111,10 +129,11 @@ pub fn skip_block(source: &[u8], at: usize, a: u8, b: u8, c: u8) -> usize
     requires { at ≤ length source.now }
     ensures { Passed (stays_but a b c) source.now at result }
 {
+    let what = But { a, b, c };
     if source.len() - at < 32 {
-        return skip_singly(source, at, a, b, c);
+        return end_singly(source, at, what);
     }
-    at + count(source, at, 32, a, b, c)
+    at + count(source, at, 32, what)
 }
 
 // `skip` from where reading stands, with its columns: one for each byte.

@@ -114,8 +114,7 @@ impl Lexer {
     pub fn reach(self) -> Reach
         ensures { result ≡ reach_of self }
     {
-        let place = self.place;
-        place.reach()
+        self.place.reach()
     }
 
     // Along the line by ASCII characters, whose bytes are their columns.
@@ -133,23 +132,20 @@ impl Lexer {
         requires self_bound_2 { ((reach_of self).position.column.0 ≤ column_most) × (char_count ≤ column_most) }
         ensures { result ≡ advanced_line_utf8 char_bytes char_count self }
     {
-        let place = self.place;
-        self.at_place(place.advance_line_utf8(char_bytes, char_count))
+        self.at_place(self.place.advance_line_utf8(char_bytes, char_count))
     }
 
     pub fn advance_to_position(self, end: Reach) -> Lexer
         ensures { result ≡ advanced_to end self }
     {
-        let place = self.place;
-        self.at_place(place.advance_to_position(end))
+        self.at_place(self.place.advance_to_position(end))
     }
 
     // The indent is 0 again where a token is read after NewLine.
     pub fn settle(mut self) -> Lexer
         ensures { result ≡ settled self }
     {
-        let previous_token = self.previous_token;
-        if previous_token == kinds::NEW_LINE {
+        if self.previous_token == kinds::NEW_LINE {
             self.indent = 0;
             return self;
         }
@@ -160,12 +156,7 @@ impl Lexer {
     pub fn indent_by(mut self, count: u32) -> Lexer
         ensures { result ≡ indented count self }
     {
-        let previous_token = self.previous_token;
-        if previous_token == kinds::NEW_LINE {
-            self.indent = count;
-            return self;
-        }
-        if previous_token == kinds::NO_TOKEN {
+        if self.previous_token == kinds::NEW_LINE || self.previous_token == kinds::NO_TOKEN {
             self.indent = count;
             return self;
         }
@@ -219,9 +210,8 @@ impl Lexer {
         requires { self.depth < 64 }
         ensures { state_of result codes.new ≡ pushed code (state_of self codes.old) }
     {
-        let depth = self.depth;
-        codes[depth] = code;
-        self.depth = depth + 1;
+        codes[self.depth] = code;
+        self.depth += 1;
         self.mode = code;
         self
     }
@@ -231,14 +221,13 @@ impl Lexer {
         requires { self.depth ≤ 64 }
         ensures { state_of result codes.now ≡ popped (state_of self codes.now) }
     {
-        let depth = self.depth;
-        if depth < 2 {
+        if self.depth < 2 {
             self.depth = 0;
             self.mode = 0;
             return self;
         }
-        self.depth = depth - 1;
-        self.mode = codes[depth - 2];
+        self.mode = codes[self.depth - 2];
+        self.depth -= 1;
         self
     }
 
@@ -247,11 +236,10 @@ impl Lexer {
         requires { self.depth ≤ 64 }
         ensures { state_of result codes.new ≡ replaced code (state_of self codes.old) }
     {
-        let depth = self.depth;
-        if depth == 0 {
+        if self.depth == 0 {
             return self.push(codes, code);
         }
-        codes[depth - 1] = code;
+        codes[self.depth - 1] = code;
         self.mode = code;
         self
     }

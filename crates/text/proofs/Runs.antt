@@ -3,12 +3,13 @@
 --     Running      of `run_utf8`: `running`, `runs_fit` and `runs_on` a turn, `once_on` one at once, `runs_stop` and `runs_end`
 --                  the ways out
 -- Assumes nothing.
-use Prim.Native.Nat.{ℕ, ◌+◌, ◌-◌, ◌≤◌, ◌<◌}
+use Prim.Native.Nat.{ℕ, ◌+◌, ◌-◌, ◌≤◌, ◌<◌, max}
 use native.Mathlib.Omega.{arith}
 use mathlib.Core.Path.{◌≡◌, refl, sym, ap, subst, ◌∙◌}
 use mathlib.Core.Bool.{Bool, true, false}
 use mathlib.Core.List.{List}
 use lib.ListN.{length, get_or, drop}
+use Rattle.base.specs.PickLaws.{split_lt}
 use Rattle.base.specs.Refusal.{source_most}
 use Rattle.position.specs.Position.{column_most}
 use Rattle.position.specs.Place.{along_by}
@@ -47,8 +48,11 @@ module _ (test : ℕ → Bool) (ascii : (c : ℕ) → test c ≡ true → c < 12
     pub counts_stop : i < length s → test (get_or s i 0) ≡ false → i ≡ end at
     counts_stop h t = omega (arith, count_stop test ascii s i g.well h t, g.same)
 
-    pub counts_end : length s ≤ i → i ≡ end at
-    counts_end h = omega (arith, count_end test s i h, g.same)
+    -- no byte is left; a run from behind the last byte is empty
+    pub counts_end : length s ≤ i → (at ≤ length s → i ≤ length s) → max at (length s) ≡ end at
+    counts_end h k =
+        split_lt (length s) at (λ l. omega (arith, count_end test s at (omega arith)))
+        (λ l. omega (arith, k l, count_end test s i h, g.same))
 
 module _ (test : ℕ → ℕ → Bool) (s table : List ℕ) where
   -- how far the run from r on reaches

@@ -173,14 +173,12 @@ pub fn run_end<T: ByteTest>(source: &[u8], at: usize) -> usize
     requires { WellFormed (drop at source.now) }
     ensures { result ≡ at + count_while T.test (chars (drop at source.now)) }
 {
-    let mut i = at;
-    while i < source.len() {
+    for i in at..source.len() {
         if !T::passes(source[i]) {
             return i;
         }
-        i += 1;
     }
-    i
+    at.max(source.len())
 }
 
 // The properties that every fit table gives an ASCII character: document 01, the small table.

@@ -2,6 +2,7 @@
 -- Assumes nothing.
 use native.Mathlib.Omega.{arith}
 use mathlib.Core.Path.{sym, ◌∙◌}
+use mathlib.Core.Logic.{⊎_elim}
 use Rattle.numbers.specs.PlaceLaws.{bytes, next_place, two_places}
 use Rattle.numbers.specs.NumberLaws.{exponent_at}
 use Rattle.numbers.proofs.exponent_end.Goals as goal
@@ -13,13 +14,8 @@ pub run_end-requires : goal.run_end-requires
 run_end-requires c = (two_places c.requires (omega arith) (omega arith)).well
 
 pub returns-then-sign-eq-PLUS : goal.returns-then-sign-eq-PLUS
-returns-then-sign-eq-PLUS c = sym (exponent_at c.requires ∙ search bytes)
-
-pub run_end-requires-then-sign-eq-MINUS : goal.run_end-requires-then-sign-eq-MINUS
-run_end-requires-then-sign-eq-MINUS c = (two_places c.requires (omega arith) (omega arith)).well
-
-pub returns-then-sign-eq-MINUS : goal.returns-then-sign-eq-MINUS
-returns-then-sign-eq-MINUS c = sym (exponent_at c.requires ∙ search bytes)
+returns-then-sign-eq-PLUS c =
+    ⊎_elim (λ w. sym (exponent_at c.requires ∙ search bytes)) (λ w. sym (exponent_at c.requires ∙ search bytes)) c.then-sign-eq-PLUS.either
 
 pub run_end-requires-2 : goal.run_end-requires-2
 run_end-requires-2 c = (next_place c.requires (omega arith)).well

@@ -1,7 +1,7 @@
 -- `skip::skip` meets its contract. The loop's invariant is the contract itself, at the place that was come to; a block is passed as far as it was
 -- counted. Assumes nothing.
 use native.Mathlib.Omega.{arith}
-use Prim.Native.Nat.{◌+◌, ◌-◌, ◌≤◌}
+use Prim.Native.Nat.{◌+◌, ◌≤◌}
 use mathlib.Core.Path.{◌≡◌}
 use lib.ListN.{length}
 use Rattle.skip.specs.Skip.{stays_but, Passed}
@@ -48,8 +48,8 @@ loop-i-preserved c =
     let all : c.count-n.result ≡ 64 = omega (arith, c.count-n.ensures.less, c.if-n-lt64.false) in
     passes_all _ (passed (goal.at.loop-i-preserved c).After-count-n) all
 
-pub skip_singly-requires : goal.skip_singly-requires
-skip_singly-requires c = c.loop-i.invariant.within
+pub end_singly-requires : goal.end_singly-requires
+end_singly-requires c = c.loop-i.invariant.within
 
 pub returns : goal.returns
-returns c = passes_on c.loop-i.invariant c.skip_singly.ensures
+returns c = passes_on c.loop-i.invariant c.end_singly.ensures.passed

@@ -16,4 +16,5 @@ loop-i-preserved g c =
     counts_on _ g.met.T.ByteTest.ascii _ _ _ c.loop-i.invariant c.loop-i-test.true (sym c.passes.ensures ∙ c.if-not-passes.false)
 
 pub returns : goal.returns
-returns g c = counts_end _ g.met.T.ByteTest.ascii _ _ _ c.loop-i.invariant c.loop-i-test.false
+returns g c =
+    c.max.ensures ∙ counts_end _ g.met.T.ByteTest.ascii _ _ _ c.loop-i.invariant c.loop-i-test.false c.loop-i.auto.i-end

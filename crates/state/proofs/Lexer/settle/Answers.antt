@@ -3,8 +3,8 @@ use mathlib.Core.Path.{sym}
 use Rattle.base.specs.CasesLaws.{cases}
 use Rattle.state.proofs.Lexer.settle.Goals as goal
 
-pub returns-then-previous_token-eq-NEW_LINE : goal.returns-then-previous_token-eq-NEW_LINE
-returns-then-previous_token-eq-NEW_LINE c = sym (search cases)
+pub returns-then-self-eq-NEW_LINE : goal.returns-then-self-eq-NEW_LINE
+returns-then-self-eq-NEW_LINE c = sym (search cases)
 
 pub returns : goal.returns
 returns c = sym (search cases)

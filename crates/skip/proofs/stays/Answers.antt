@@ -1,7 +1,0 @@
--- `skip::stays` meets its contract: the same tests in the same order. Assumes nothing.
-use Rattle.skip.specs.Skip.{stays_but}
-use Rattle.skip.proofs.stays.Goals as goal
-
-pub returns : goal.returns
-unfolding stays_but
-returns c = rw c.between.ensures
