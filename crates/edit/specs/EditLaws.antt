@@ -1,4 +1,5 @@
 -- What callers use of an edit and of a line's start.
+--     slices_same                 two slices are equal exactly where the run is the same
 --     lengths_of                  what the test of the lengths says
 --     edit_of_lem, fits_of            the test is exactly that the edit leads from s to t
 --     edit_inside                 an edit's place is one of the new source
@@ -11,7 +12,7 @@ use Prim.Native.Nat.{ℕ, zero, suc, ◌+◌, ◌-◌, ◌≤◌, ◌<◌}
 use Rattle.std.proofs.Common.{arith, zero-add, subst, ◌∙◌, take-take}
 use Rattle.std.specs.Prelude.{◌≡◌, refl, Bool, ◌&&◌, eqb, leb, take, drop}
 use Rattle.std.proofs.Math.Path.{sym, ap}
-use Rattle.std.proofs.Math.Bool.{true, and-eq-true_iff}
+use Rattle.std.proofs.Math.Bool.{true, false, and-eq-true_iff}
 use mathlib.Core.List.{List}
 use Rattle.std.proofs.Math.ListN.{length, get_or, length-drop}
 use Rattle.std.proofs.Math.Seq.{length-take-le, get_or-take, get_or-drop, ext_get_or}
@@ -35,6 +36,35 @@ module _ (s : List ℕ) (i : ℕ) (t : List ℕ) (j : ℕ) where
   same_run_lem : (n : ℕ) → ((k : ℕ) → k < n → get_or s (i + k) 0 ≡ get_or t (j + k) 0) → same_run s i t j n ≡ true
   same_run_lem zero f = refl
   same_run_lem (suc n) f = rw (eq-eqb (get_or s (i + n) 0) (get_or t (j + n) 0) (f n (omega arith))) (same_run_lem n (λ k h. f k (omega arith)))
+
+-- two slices are the same
+module _ (s : List ℕ) (i : ℕ) (t : List ℕ) (j n : ℕ) (h : i + n ≤ length s) (k : j + n ≤ length t) where
+  run_of : take n (drop i s) ≡ take n (drop j t) → same_run s i t j n ≡ true
+  run_of e =
+      same_run_lem s i t j n
+      (λ m lt. sym (get_or-take n (drop i s) m 0 lt ∙ get_or-drop i s m 0)
+      ∙ ap (λ (l : List ℕ). get_or l m 0) e
+      ∙ get_or-take n (drop j t) m 0 lt
+      ∙ get_or-drop j t m 0)
+
+  of_run : same_run s i t j n ≡ true → take n (drop i s) ≡ take n (drop j t)
+  of_run e =
+      let a : length (take n (drop i s)) ≡ n = length-take-le n (drop i s) (omega (arith, length-drop i s)) in
+      let b : length (take n (drop j t)) ≡ n = length-take-le n (drop j t) (omega (arith, length-drop j t)) in
+      ext_get_or 0 (take n (drop i s)) (take n (drop j t)) (a ∙ sym b)
+      (λ m lt. let l : m < n = omega (arith, a) in
+      get_or-take n (drop i s) m 0 l
+      ∙ get_or-drop i s m 0
+      ∙ run_same s i t j n e m l
+      ∙ sym (get_or-take n (drop j t) m 0 l ∙ get_or-drop j t m 0))
+
+  pub slices_same : (r : Bool) → (r ≡ true → take n (drop i s) ≡ take n (drop j t)) → (take n (drop i s) ≡ take n (drop j t) → r ≡ true) → r ≡ same_run s i t j n
+  slices_same true f g = sym (run_of (f refl))
+  slices_same false f g = by_value (same_run s i t j n) refl
+    where
+      by_value : (x : Bool) → same_run s i t j n ≡ x → false ≡ same_run s i t j n
+      by_value false e = sym e
+      by_value true e = let no : false ≡ true = g (of_run e) in no ∙ sym e
 
 -- ---- the edit
 

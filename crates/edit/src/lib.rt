@@ -3,8 +3,7 @@
 // no lists.
 #![tactic(auto)]
 
-ghost use Rattle.std.specs.Prelude.{◌≡◌, ◌+◌, ◌≤◌, length, eqb, false};
-ghost use Rattle.base.specs.Pick.{pick};
+ghost use Rattle.std.specs.Prelude.{◌≡◌, ◌+◌, ◌≤◌, length};
 ghost use Rattle.edit.specs.Edit.{same_run, lengths_fit, edit_fits, start_of_line};
 
 // The byte "\n", behind which a line begins.
@@ -20,29 +19,12 @@ pub struct Edit {
     pub put_in: usize,
 }
 
-// `so_far`, unless two bytes differ.
-fn still(so_far: bool, a: u8, b: u8) -> bool
-    ensures { result ≡ pick (eqb a b) so_far false }
-{
-    if a == b {
-        return so_far;
-    }
-    false
-}
-
-// Whether n bytes of one row from index i on are those of another from index j on. It reads on after a difference, so that the compiler may
-// compare many bytes at once.
+// Whether n bytes of one row from index i on are those of another from index j on.
 fn same_run(a: &[u8], i: usize, b: &[u8], j: usize, n: usize) -> bool
     requires { (i + n ≤ length a.now) × (j + n ≤ length b.now) }
     ensures { result ≡ same_run a.now i b.now j n }
 {
-    let mut same = true;
-    let mut k = 0;
-    while k < n {
-        same = still(same, a[i + k], b[j + k]);
-        k += 1;
-    }
-    same
+    a[i..i + n] == b[j..j + n]
 }
 
 // Whether sources of so many bytes may be the old and the new one of the edit. Nothing is added: a sum might not fit.
@@ -86,12 +68,10 @@ pub fn line_start(source: &[u8], place: usize) -> usize
     requires { place ≤ length source.now }
     ensures { result ≡ start_of_line source.now place }
 {
-    let mut at = place;
-    while 0 < at {
-        if source[at - 1] == LF {
-            return at;
+    for at in (0..place).rev() {
+        if source[at] == LF {
+            return at + 1;
         }
-        at -= 1;
     }
     0
 }

@@ -16,6 +16,7 @@ ghost use Rattle.rows.specs.Row.{room};
 ghost use Rattle.reading.specs.Scan.{reading_of};
 ghost use Rattle.classes.specs.Classes.{ClassTable};
 ghost use Rattle.signs.specs.Table.{SignTable};
+ghost use Rattle.foreign.specs.declared.CheckError.TheVariants.{Refused};
 ghost use Rattle.foreign.specs.Check.{apart_after, is_right, compared, by_reading, list_checked};
 
 use classes::classes;
@@ -40,7 +41,7 @@ pub enum Comparison {
 }
 
 // Why it is refused.
-#[derive(Clone, Copy)]
+#[derive(Clone, Copy, Debug, PartialEq, Eq)]
 pub enum CheckError {
     // One of refusals 1, 17, 2, 3 and 15, before any work.
     Refused(Refusal),
@@ -48,6 +49,14 @@ pub enum CheckError {
     BadState,
     // Refusal 5: our own reading comes to a token that would push a 65th mode, at this byte.
     ModesFull(usize),
+}
+
+impl From<Refusal> for CheckError {
+    ghost from_gives = { λ r e. e ≡ Refused r };
+
+    fn from(r: Refusal) -> CheckError {
+        CheckError::Refused(r)
+    }
 }
 
 // Where the records first differ, after one record more has been read. A record past the list's count differs, and once one does it stays.
@@ -170,13 +179,9 @@ pub fn check_list(
 ) -> Result<Comparison, CheckError>
     ensures { result ≡ list_checked source.now table.now edition list.now count status }
 {
-    match input::check_input(source, table, edition, SOURCE_MOST) {
-        Err(refusal) => Err(CheckError::Refused(refusal)),
-        Ok(()) => {
-            if rows::room(list) < count {
-                return Err(CheckError::BadState);
-            }
-            compare(source, table, edition, list, count, status)
-        }
+    input::check_input(source, table, edition, SOURCE_MOST)?;
+    if rows::room(list) < count {
+        return Err(CheckError::BadState);
     }
+    compare(source, table, edition, list, count, status)
 }

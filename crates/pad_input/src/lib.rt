@@ -5,6 +5,7 @@
 ghost use Rattle.std.specs.Prelude.{◌≡◌};
 ghost use Rattle.property.specs.Table.{properties_at};
 ghost use Rattle.fitness.specs.Fit.{FitTable};
+ghost use Rattle.pad_input.specs.declared.PadRefusal.TheVariants.{Refused};
 ghost use Rattle.pad_input.specs.Check.{long_fill, is_format, format_check, fill_check, pad_check};
 
 use cluster_count::count_clusters;
@@ -23,6 +24,14 @@ pub enum PadRefusal {
     FillRefused(Refusal),
     // 18: the number of the alignment or the width is none, or a fill that is given is not exactly one cluster. Its place is 0.
     NoSuchFormat,
+}
+
+impl From<Refusal> for PadRefusal {
+    ghost from_gives = { λ r e. e ≡ Refused r };
+
+    fn from(r: Refusal) -> PadRefusal {
+        PadRefusal::Refused(r)
+    }
 }
 
 // Whether a fill is given and too long.
@@ -86,13 +95,9 @@ pub fn check_pad(
     if is_long(filled, fill) {
         return Err(PadRefusal::Refused(Refusal::TooLong));
     }
-    match check_input(text, table, edition, TEXT_MOST) {
-        Err(refusal) => Err(PadRefusal::Refused(refusal)),
-        Ok(()) => {
-            if filled {
-                return check_fill(alignment, width, fill, table, edition);
-            }
-            check_format(alignment, width)
-        }
+    check_input(text, table, edition, TEXT_MOST)?;
+    if filled {
+        return check_fill(alignment, width, fill, table, edition);
     }
+    check_format(alignment, width)
 }

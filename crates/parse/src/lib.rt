@@ -10,6 +10,7 @@ pub mod numbers;
 
 ghost use Rattle.std.specs.Prelude.{◌≡◌};
 ghost use Rattle.format.specs.Parse.{add_fill, add_part, FillIn};
+ghost use Rattle.parse.specs.declared.ParseError.TheVariants.{Refused};
 ghost use Rattle.parse.specs.Call.{pooled, adding_after, add_to, error_of, answer_of, Parses};
 ghost use Rattle.parse.specs.Plan.{input_of, plan_with, plan_of, CanAdd, is_adding, fill_string, CanPlan, add_plan, end_by};
 
@@ -27,7 +28,7 @@ pub struct Parsed {
 }
 
 // What a parse refuses (document 01, "Refusal numbers"; document 02, C-3 and C-8).
-#[derive(Clone, Copy)]
+#[derive(Clone, Copy, Debug, PartialEq, Eq)]
 pub enum ParseError {
     // Refusals 1 (the format string is over 65,535 bytes), 17, 2, 3 and 15: they come before any work.
     Refused(Refusal),
@@ -41,6 +42,14 @@ pub enum ParseError {
     UnexpectedToken(u32),
     // Refusal 13: a string is absent from the pool and has no room there.
     PoolFull,
+}
+
+impl From<Refusal> for ParseError {
+    ghost from_gives = { λ r e. e ≡ Refused r };
+
+    fn from(r: Refusal) -> ParseError {
+        ParseError::Refused(r)
+    }
 }
 
 // The numbers that a parse goes by: the edition of the cluster rules, and what is in use of the pool.
@@ -79,15 +88,11 @@ pub fn read(format: &[u8], table: &[u32], terms: Terms, fit: bool) -> Result<For
     ensures { result ≡ input_of format.now table.now terms.edition fit }
 {
     let edition = terms.edition;
-    match input::check_input(format, table, edition, FORMAT_MOST) {
-        Err(refusal) => Err(ParseError::Refused(refusal)),
-        Ok(()) => {
-            if fit {
-                return Ok(read_format(format, table, edition));
-            }
-            Err(ParseError::BadState)
-        }
+    input::check_input(format, table, edition, FORMAT_MOST)?;
+    if fit {
+        return Ok(read_format(format, table, edition));
     }
+    Err(ParseError::BadState)
 }
 
 // A plan with these strings.

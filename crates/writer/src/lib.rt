@@ -12,6 +12,7 @@ ghost use Rattle.base.specs.Refusal.{format_most};
 ghost use Rattle.wanted.specs.Wanted.{Bytes};
 ghost use Rattle.wanted.specs.Candidate.{wanted_by, candidate, writable};
 ghost use Rattle.format_parts.specs.Parts.{parts_of};
+ghost use Rattle.writer.specs.declared.WriteError.TheVariants.{Refused};
 ghost use Rattle.writer.specs.Call.{WritesIf, Writes};
 
 use asked::{Fields, are_fields, fields_of};
@@ -21,7 +22,7 @@ use input::{FORMAT_MOST, Refusal, check_input};
 use pool::copy_in;
 
 // What `write_format` refuses, under document 02's names.
-#[derive(Clone, Copy)]
+#[derive(Clone, Copy, Debug, PartialEq, Eq)]
 pub enum WriteError {
     // 17 and 2, which come before any work.
     Refused(Refusal),
@@ -29,6 +30,14 @@ pub enum WriteError {
     NoSuchFormat,
     // 19: the buffer is shorter than the format string. Its place is 0.
     NoRoom,
+}
+
+impl From<Refusal> for WriteError {
+    ghost from_gives = { λ r e. e ≡ Refused r };
+
+    fn from(r: Refusal) -> WriteError {
+        WriteError::Refused(r)
+    }
 }
 
 // Writes a fill that fits and what stands behind it: how many bytes they have, which is known before one is written.
@@ -82,17 +91,13 @@ pub fn write_format(
     ensures { Writes alignment width precision representation filled fill.now table.now edition
         buffer.old buffer.new result }
 {
-    match check_input(b"", table, edition, 0) {
-        Err(refusal) => Err(WriteError::Refused(refusal)),
-        Ok(()) => {
-            if !are_fields(alignment, width, precision, representation) {
-                return Err(WriteError::NoSuchFormat);
-            }
-            let fields = fields_of(alignment, width, precision, representation);
-            if filled {
-                return write_filled(fields, fill, table, edition, buffer);
-            }
-            put_format(fields, b"", buffer)
-        }
+    check_input(b"", table, edition, 0)?;
+    if !are_fields(alignment, width, precision, representation) {
+        return Err(WriteError::NoSuchFormat);
     }
+    let fields = fields_of(alignment, width, precision, representation);
+    if filled {
+        return write_filled(fields, fill, table, edition, buffer);
+    }
+    put_format(fields, b"", buffer)
 }

@@ -1,6 +1,6 @@
 -- `edit::line_start` meets its contract: no "\n" stands from `at` to the place, so that the line starts where it does for `at`.
 -- Assumes nothing.
-use Prim.Native.Nat.{ℕ, zero, suc, ◌-◌, ◌≤◌, ◌<◌}
+use Prim.Native.Nat.{ℕ, zero, suc, ◌+◌, ◌-◌, ◌≤◌, ◌<◌}
 use native.Mathlib.Omega.{arith}
 use mathlib.Core.Path.{◌≡◌, refl, sym, ap, ◌∙◌}
 use mathlib.Core.List.{List}
@@ -37,7 +37,8 @@ loop-at-init c = record { within = omega arith; same = refl }
 
 pub returns-then-source-at-eq-LF : goal.returns-then-source-at-eq-LF
 returns-then-source-at-eq-LF c =
-    found c.args.source.now c.args.place c.loop-at.at c.loop-at.invariant c.loop-at-test.true c.if-source-at-eq-LF.true
+    let e : c.loop-at.at - 1 + 1 ≡ c.loop-at.at = omega (arith, c.loop-at-test.true) in
+    e ∙ found c.args.source.now c.args.place c.loop-at.at c.loop-at.invariant c.loop-at-test.true c.if-source-at-eq-LF.true
 
 pub loop-at-preserved : goal.loop-at-preserved
 loop-at-preserved c =

@@ -1,6 +1,6 @@
 -- `edit::line_start` meets its contract: no "\n" stands from `at` to the place, so that the line starts where it does for `at`.
 -- Assumes nothing.
-use Prim.Native.Nat.{ℕ, ◌-◌, ◌≤◌}
+use Prim.Native.Nat.{ℕ, ◌≤◌}
 use mathlib.Core.Path.{◌≡◌}
 use mathlib.Core.List.{List}
 use Rattle.edit.specs.Edit.{start_of_line}
@@ -13,6 +13,3 @@ pub record Going (s : List ℕ) (place at : ℕ) : Type 0 where
 
 abbrev pub invariant-loop-at : goal.invariant-loop-at
 invariant-loop-at l = Going l.source l.place l.at
-
-abbrev pub decreases-loop-at : goal.decreases-loop-at
-decreases-loop-at l = l.at

@@ -1,36 +1,27 @@
--- `edit::same_run` meets its contract: `same` says so of the bytes that were compared. Assumes nothing.
-use Prim.Native.Nat.{ℕ, ◌+◌, ◌-◌, ◌≤◌, ◌<◌}
+-- `edit::same_run` meets its contract: two slices of n bytes are equal exactly where the run is the same. Assumes nothing.
+use Prim.Native.Nat.{ℕ, ◌+◌, ◌-◌, ◌≤◌}
 use native.Mathlib.Omega.{arith}
-use native.Mathlib.Numerals.{add-one}
-use mathlib.Core.Path.{◌≡◌, refl, sym, ap, ◌∙◌}
-use mathlib.Core.Bool.{Bool, false}
+use mathlib.Core.Path.{◌≡◌, ◌∙◌}
 use mathlib.Core.List.{List}
 use lib.Dec.{eqb}
-use lib.ListN.{get_or}
-use Rattle.base.specs.Pick.{pick}
+use lib.ListN.{length, take, drop}
+use lib.Pointwise.{pointwise}
+use Rattle.std.proofs.lemmas.Slice.Eq.{bytes_eq-Decides}
 use Rattle.edit.specs.Edit.{same_run}
+use Rattle.edit.specs.EditLaws.{slices_same}
 use Rattle.edit.proofs.same_run.Goals as goal
-use Rattle.edit.proofs.same_run.Invariants.{Compared}
 
-one_more_lem : {a : List ℕ} {i : ℕ} {b : List ℕ} {j n : ℕ} {same : Bool} {k : ℕ} {r : Bool} → Compared a i b j n same k → k < n
-    → r ≡ pick (eqb (get_or a (i + k) 0) (get_or b (j + k) 0)) same false → Compared a i b j n r (k + 1)
-one_more_lem {a} {i} {b} {j} {n} {same} {k} {r} c h e =
-    record {
-      within = omega arith;
-      so_far = e
-          ∙ ap (λ (s : Bool). pick (eqb (get_or a (i + k) 0) (get_or b (j + k) 0)) s false) c.so_far
-          ∙ ap (same_run a i b j) (sym (add-one k));
-    }
+-- what `==` says of the slices
+module _ (a : List ℕ) (i : ℕ) (b : List ℕ) (j n : ℕ) where
+  ends : (k : ℕ) → k + n - k ≡ n
+  ends k = omega arith
 
-all_of : {a : List ℕ} {i : ℕ} {b : List ℕ} {j n : ℕ} {same : Bool} {k : ℕ} → Compared a i b j n same k → n ≤ k → same ≡ same_run a i b j n
-all_of {a} {i} {b} {j} {n} {same} {k} c h = let e : k ≡ n = omega (arith, c.within) in c.so_far ∙ ap (same_run a i b j) e
-
-pub loop-k-init : goal.loop-k-init
-loop-k-init c = record { within = omega arith; so_far = refl }
-
-pub loop-k-preserved : goal.loop-k-preserved
-loop-k-preserved c =
-    one_more_lem c.loop-k.invariant c.loop-k-test.true c.still-same.ensures
+  compared : i + n ≤ length a → j + n ≤ length b → pointwise eqb (take (i + n - i) (drop i a)) (take (j + n - j) (drop j b)) ≡ same_run a i b j n
+  compared h k =
+      let d = bytes_eq-Decides (take n (drop i a)) (take n (drop j b)) in
+      (λ p. pointwise eqb (take (ends i p) (drop i a)) (take (ends j p) (drop j b))) ∙ slices_same a i b j n h k _ d.0 d.1
 
 pub returns : goal.returns
-returns c = all_of c.loop-k.invariant c.loop-k-test.false
+returns c =
+    let a = c.args in
+    c.eq.ensures ∙ compared a.a.now a.i a.b.now a.j a.n c.requires.0 c.requires.1

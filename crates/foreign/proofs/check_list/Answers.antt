@@ -1,4 +1,5 @@
 -- `foreign::check_list` meets its contract: a refusal of `check_input` is the answer, then 8, and else what `compare` says. Assumes nothing.
+use Rattle.std.proofs.Common.{rules}
 use mathlib.Core.Path.{sym, ◌∙◌}
 use native.Mathlib.Omega.{arith}
 use Rattle.fitness.specs.FitLaws.{fit_of}
@@ -8,17 +9,19 @@ use Rattle.foreign.proofs.check_list.Goals as goal
 
 pub returns-then-room-count : goal.returns-then-room-count
 returns-then-room-count c =
-    is_short _ _ _ _ _ _ (sym c.check_input.ensures ∙ c.in-Ok.is) (omega (arith, c.if-room-count.true, c.room.ensures))
+    is_short _ _ _ _ _ _ (sym c.check_input.ensures ∙ c.in_ok-check_input.was) (omega (arith, c.if-room-count.true, c.room.ensures))
 
 pub compare-requires : goal.compare-requires
 compare-requires c =
-    let g = fine_of _ _ _ _ (sym c.check_input.ensures ∙ c.in-Ok.is) in
+    let g = fine_of _ _ _ _ (sym c.check_input.ensures ∙ c.in_ok-check_input.was) in
     (g.short, g.well, fit_of _ g.fit, omega (arith, c.if-room-count.false, c.room.ensures))
 
-pub returns-in-Err : goal.returns-in-Err
-returns-in-Err c = is_refused _ _ _ _ _ _ (sym c.check_input.ensures ∙ c.in-Err.is)
+pub returns-in_err-check_input : goal.returns-in_err-check_input
+returns-in_err-check_input c =
+    let a = c.args in
+    rw (sym (is_refused a.source.now a.table.now a.edition a.list.now a.count a.status (sym c.check_input.ensures ∙ c.in_err-check_input.was))) (search rules)
 
-pub returns-else-room-count : goal.returns-else-room-count
-returns-else-room-count c =
-    is_compared _ _ _ _ _ _ (sym c.check_input.ensures ∙ c.in-Ok.is) (omega (arith, c.if-room-count.false, c.room.ensures))
+pub returns : goal.returns
+returns c =
+    is_compared _ _ _ _ _ _ (sym c.check_input.ensures ∙ c.in_ok-check_input.was) (omega (arith, c.if-room-count.false, c.room.ensures))
     c.compare.ensures

@@ -1,5 +1,6 @@
 -- `writer::write_format` meets its contract: by what was asked first, then by the numbers and the fill. Assumes nothing.
-use Rattle.std.specs.Prelude.{Ok}
+use Rattle.std.specs.Prelude.{Ok, Err}
+use Rattle.std.proofs.Common.{rules}
 use mathlib.Core.Path.{◌≡◌, sym, ap, ◌∙◌}
 use mathlib.Core.Bool.{Bool, true}
 use mathlib.Core.List.{[]}
@@ -11,11 +12,12 @@ use Rattle.input.specs.InputLaws.{fine_of}
 use Rattle.asked.specs.Fields.{are_fields}
 use Rattle.wanted.specs.Wanted.{Bytes, Unfilled}
 use Rattle.writer.specs.CallLaws.{refused, no_options_lem, told, same_test, no_fill}
+use Rattle.writer.specs.declared.WriteError.TheVariants.{Refused}
 use Rattle.writer.proofs.write_format.Goals as goal
 use Rattle.writer.proofs.write_format.Goals.{After-are_fields}
 
 checked : (a : After-are_fields) → input_check 0 [] a.args.table.now a.args.edition ≡ Ok tt
-checked a = sym a.check_input.ensures ∙ a.in-Ok.is
+checked a = sym a.check_input.ensures ∙ a.in_ok-check_input.was
 
 some : (a : After-are_fields) → a.are_fields.result ≡ true
     → are_fields a.args.alignment a.args.width a.args.precision a.args.representation ≡ true
@@ -41,16 +43,18 @@ returns-then-filled c =
     (checked (goal.at.returns-then-filled c).After-are_fields) (some (goal.at.returns-then-filled c).After-are_fields c.if-not-are_fields.false) c.fields_of-fields.result c.fields_of-fields.ensures (Bytes b.fill.now)
     (ap (λ (x : Bool). pick x (Bytes b.fill.now) Unfilled) (sym c.if-filled.true)) c.write_filled.ensures
 
-pub returns-in-Err : goal.returns-in-Err
-returns-in-Err c =
+pub returns-in_err-check_input : goal.returns-in_err-check_input
+returns-in_err-check_input c =
     let b = c.args in
-    refused b.alignment b.width b.precision b.representation b.filled b.fill.now b.table.now b.edition b.buffer.now _
-    (sym c.check_input.ensures ∙ c.in-Err.is)
+    let e : c.from_residual.result ≡ Err (Refused _) = search rules in
+    rw e
+    (refused b.alignment b.width b.precision b.representation b.filled b.fill.now b.table.now b.edition b.buffer.now _
+    (sym c.check_input.ensures ∙ c.in_err-check_input.was))
 
-pub returns-else-filled : goal.returns-else-filled
-returns-else-filled c =
+pub returns : goal.returns
+returns c =
     let b = c.args in
     told b.alignment b.width b.precision b.representation b.filled b.fill.now b.table.now b.edition b.buffer.now
-    (checked (goal.at.returns-else-filled c).After-are_fields) (some (goal.at.returns-else-filled c).After-are_fields c.if-not-are_fields.false) c.fields_of-fields.result c.fields_of-fields.ensures Unfilled
+    (checked (goal.at.returns c).After-are_fields) (some (goal.at.returns c).After-are_fields c.if-not-are_fields.false) c.fields_of-fields.result c.fields_of-fields.ensures Unfilled
     (ap (λ (x : Bool). pick x (Bytes b.fill.now) Unfilled) (sym c.if-filled.false))
     (same_test (no_fill (properties_at b.table.now) b.edition c.fields_of-fields.result) c.put_format.ensures)
