@@ -35,11 +35,7 @@ fn own_up(owners: &mut [u8], n: usize, m: usize, owner: u8)
     requires { (n ≤ m) × (m ≤ length owners.old) }
     ensures { owners.new ≡ owned_up owner owners.old n m }
 {
-    let mut i = n;
-    while i < m {
-        owners[i] = owner;
-        i += 1;
-    }
+    owners[n..m].fill(owner);
 }
 
 // A desk, with what was added charged to it.

@@ -1,6 +1,6 @@
 -- What the loop of `put_fill` keeps.
 --     Filled               the fill stands n times in the row from index `at` on, and all else is as it was
---     fill_none, fill_one, fill_all    it holds at the start, after one more, and what it gives at the end
+--     fill_none, fill_one    it holds at the start, and after one more
 -- And what `put_padded` has after each of its calls.
 --     room_lead, room_text, room_trail    the room that the next call asks for
 --     all_put                             the whole
@@ -53,11 +53,6 @@ module _ (old : List ℕ) (at : ℕ) (fill : List ℕ) (times : ℕ) where
               ∙ write_behind old at end (repeated n fill) fill b o
               ∙ rw (add-one n) (ap (written old at) (one_behind n fill));
         }
-
-    pub fill_all : times ≤ n → (end ≡ at + times * length fill) × (row ≡ written old at (repeated times fill))
-    fill_all h =
-        let e : n ≡ times = omega (arith, v.within) in
-        (rw (← e) v.behind, rw (← e) v.holds)
 
 -- ---- the fills before, the text, the fills behind
 

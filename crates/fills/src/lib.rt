@@ -34,24 +34,18 @@ pub fn fills_of(width: u64, clusters: usize) -> usize
     if width == NONE {
         return 0;
     }
-    let wanted = width as usize;
-    if wanted < clusters {
-        return 0;
-    }
-    wanted - clusters
+    (width as usize).saturating_sub(clusters)
 }
 
 // How many of n fills stand before the text.
 fn leading_of(alignment: u64, n: usize) -> usize
     ensures { result ≡ leading alignment n }
 {
-    if alignment == CENTER {
-        return n / 2;
+    match alignment {
+        CENTER => n / 2,
+        RIGHT => n,
+        _ => 0,
     }
-    if alignment == RIGHT {
-        return n;
-    }
-    0
 }
 
 // Writes the fill so many times into a row of bytes, from index `at` on: the index behind them.
@@ -61,11 +55,9 @@ fn put_fill(buffer: &mut [u8], at: usize, fill: &[u8], times: usize) -> usize
         × (buffer.new ≡ written buffer.old at (repeated times fill.now)) }
 {
     let mut end = at;
-    let mut n = 0;
-    while n < times {
+    for _ in 0..times {
         copy_in(fill, buffer, end);
         end += fill.len();
-        n += 1;
     }
     end
 }

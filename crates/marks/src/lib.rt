@@ -12,14 +12,7 @@ use slide::GONE;
 fn are_given(marks: &[u32], n: usize) -> bool
     ensures { result ≡ all_given marks.now n }
 {
-    let mut i = 0;
-    while i < marks.len() {
-        if n <= marks[i] as usize {
-            return false;
-        }
-        i += 1;
-    }
-    true
+    marks.iter().all(|&m| (m as usize) < n)
 }
 
 // Whether the marks of both desks are indices that were given, and a translation row is long enough.
@@ -29,10 +22,7 @@ pub fn are_good(first: &[u32], second: &[u32], moved: &[u32], n: usize) -> bool
     if moved.len() < n {
         return false;
     }
-    if !are_given(first, n) {
-        return false;
-    }
-    are_given(second, n)
+    are_given(first, n) && are_given(second, n)
 }
 
 // Says `GONE` of the first n entries.
@@ -40,11 +30,7 @@ pub fn clear(moved: &mut [u32], n: usize)
     requires { n ≤ length moved.old }
     ensures { moved.new ≡ headed (replicate n gone) moved.old }
 {
-    let mut i = 0;
-    while i < n {
-        moved[i] = GONE;
-        i += 1;
-    }
+    moved[..n].fill(GONE);
 }
 
 // Says 0 of each mark.

@@ -1,10 +1,6 @@
--- `fills::put_fill` meets its contract: `Filled` is what the loop keeps, and how many fills are left is its measure. Assumes nothing.
-use Prim.Native.Nat.{◌-◌}
+-- `fills::put_fill` meets its contract: `Filled` is what the loop keeps. Assumes nothing.
 use Rattle.fills.proofs.Filling.{Filled}
 use Rattle.fills.proofs.put_fill.Given as goal
 
-abbrev pub invariant-loop-n : goal.invariant-loop-n
-invariant-loop-n l = Filled l.initial.buffer l.at l.fill l.times l.buffer l.end l.n
-
-abbrev pub decreases-loop-n : goal.decreases-loop-n
-decreases-loop-n l = l.times - l.n
+abbrev pub invariant-loop : goal.invariant-loop
+invariant-loop l = Filled l.initial.buffer l.at l.fill l.times l.buffer l.end l.counter

@@ -1,23 +1,12 @@
--- `marks::are_given` meets its contract: what is left from i on is given exactly where all are. Assumes nothing.
-use mathlib.Core.Path.{refl, sym, ◌∙◌}
-use native.Mathlib.Omega.{arith}
-use Rattle.marks.specs.MarksLaws.{given_none, given_bad, given_on}
+-- `marks::are_given` meets its contract: `all` asks each mark. Assumes nothing.
+use mathlib.Core.Path.{sym, ◌∙◌}
+use Rattle.std.proofs.Common.{rules, tests}
+use Rattle.std.proofs.lemmas.Iterator.{YieldsList-from_slice}
+use Rattle.std.proofs.lemmas.Iterator.Search.{all_from_yields_List}
+use Rattle.marks.specs.MarksLaws.{all_asked}
 use Rattle.marks.proofs.are_given.Goals as goal
-
-pub loop-i-init : goal.loop-i-init
-loop-i-init c = (omega arith, refl)
-
-pub overflow_cast-marks : goal.overflow_cast-marks
-overflow_cast-marks c = omega (arith, c.shared_slice_known-1.given c.loop-i.i)
-
-pub returns-then-n-marks : goal.returns-then-n-marks
-returns-then-n-marks c =
-    sym (given_bad _ _ c.loop-i.i (omega arith) (omega arith)) ∙ c.loop-i.invariant.1
-
-pub loop-i-preserved : goal.loop-i-preserved
-loop-i-preserved c =
-    (omega arith, given_on _ _ c.loop-i.i (omega arith) (omega arith) ∙ c.loop-i.invariant.1)
 
 pub returns : goal.returns
 returns c =
-    sym (given_none _ _ c.loop-i.i (omega arith)) ∙ c.loop-i.invariant.1
+    all_from_yields_List _ _ _ _ c.all.ensures.ran (YieldsList-from_slice c.args.marks.now cc) (λ x b q k. search (rules, tests))
+    ∙ sym (all_asked c.args.marks.now c.args.n)

@@ -8,10 +8,10 @@ pub returns-then-moved-n : goal.returns-then-moved-n
 unfolding good_marks
 returns-then-moved-n c = sym (search denied)
 
-pub returns-then-not-are_given : goal.returns-then-not-are_given
+pub returns-then-are_given : goal.returns-then-are_given
 unfolding good_marks
-returns-then-not-are_given c = sym (search denied)
+returns-then-are_given c = sym (search denied)
 
-pub returns : goal.returns
+pub returns-else-are_given : goal.returns-else-are_given
 unfolding good_marks
-returns c = sym (search denied)
+returns-else-are_given c = sym (search denied)
