@@ -1,5 +1,6 @@
 -- Laws of an addition for a desk.
 --     wrong, cut, unfit, fitting      the answer where the string is wrong or cut, or else where the desks are unfit, and where they are fit
+--     unwritten, uncounted    a refusal of the state or of the string hands out no new index, and leaves the counts
 --     Counted                 what an answer does to the counts
 --     fills_pool              what is in use does not pass the desk's room
 --     has_room                a new string has room there
@@ -29,6 +30,16 @@ use Rattle.desk_add.specs.PartsLaws.{part_added, part_bytes, part_entries}
 use Rattle.desks.specs.declared.Which.{Which}
 use Rattle.desks.specs.declared.Which.TheVariants.{First, Second}
 use Rattle.desk_add.specs.declared.AddedFor.{AddedFor}
+
+pub unwritten : (counts : Counts) (u : Result (Unit {0}) Utf8Error) → is_new counts (on_utf8 u (Err BadState)) ≡ false
+unwritten counts (Ok _) = refl
+unwritten counts (Err (utf8.BadAt i)) = refl
+unwritten counts (Err (utf8.CutAt i)) = refl
+
+pub uncounted : (counts : Counts) (u : Result (Unit {0}) Utf8Error) → counts_after counts (on_utf8 u (Err BadState)) ≡ counts
+uncounted counts (Ok _) = refl
+uncounted counts (Err (utf8.BadAt i)) = refl
+uncounted counts (Err (utf8.CutAt i)) = refl
 
 -- a refusal of the string, or of the state
 refused_is : (u : Result (Unit {0}) Utf8Error) → on_utf8 u (Err BadState) ≡ Err (refused_as u)

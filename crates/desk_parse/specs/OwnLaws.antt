@@ -1,8 +1,9 @@
 -- Laws of an owner given to the entries from n on: `owned_up owner owners n i`.
---     owned_none, owned_more    to none, and to one more
+--     owned_none, owned_more                  to none, and to one more
+--     Owning, own_none, own_one, own_all_lem      what a loop over the entries keeps
 -- Assumes nothing.
-use Rattle.std.specs.Prelude.{ℕ, suc, ◌+◌, ◌-◌, ◌<◌, ◌≤◌, ◌≡◌, List, [], ◌∷◌, ◌++◌, length, get_or, set, take, drop, replicate}
-use Rattle.std.proofs.Common.{arith, add-one, sym, ap, ◌∙◌, append_assoc, length-append, take-append-drop, length-take-le, drop-cons}
+use Rattle.std.specs.Prelude.{ℕ, suc, ◌+◌, ◌-◌, ◌<◌, ◌≤◌, ◌≡◌, refl, List, [], ◌∷◌, ◌++◌, length, get_or, set, take, drop, replicate}
+use Rattle.std.proofs.Common.{arith, add-one, sym, ap, ◌∙◌, append_assoc, length-set, length-append, take-append-drop, length-take-le, drop-cons}
 use Rattle.std.proofs.lemmas.List.{length-replicate, replicate-append-replicate, set_at}
 use Rattle.desk_parse.specs.Own.{owned_up}
 
@@ -25,3 +26,26 @@ module _ (owner : ℕ) (owners : List ℕ) where
       ∙ ap (λ (r : List ℕ). head ++ r)
       (sym (append_assoc given (owner ∷ []) rest) ∙ ap (λ (r : List ℕ). r ++ rest) (replicate-append-replicate (i - n) 1 owner))
       ∙ rw (more, add-one i)
+
+  -- what a loop over the entries keeps, for the entries n to m: those to i have the owner
+  module _ (n m : ℕ) where
+    pub record Owning (row : List ℕ) (i : ℕ) : Type 0 where
+      pub from : n ≤ i
+      pub to : i ≤ m
+      pub long : length row ≡ length owners
+      pub holds : row ≡ owned_up owner owners n i
+
+    pub own_none : n ≤ m → Owning owners n
+    own_none h = record { from = omega arith; to = h; long = refl; holds = owned_none n }
+
+    pub own_one : (row : List ℕ) (i : ℕ) → Owning row i → i < m → m ≤ length owners → Owning (set row i owner) (i + 1)
+    own_one row i o h l =
+        record {
+          from = omega (arith, o.from);
+          to = omega arith;
+          long = length-set row i owner ∙ o.long;
+          holds = ap (λ (r : List ℕ). set r i owner) o.holds ∙ owned_more n i o.from (omega arith);
+        }
+
+    pub own_all_lem : (row : List ℕ) (i : ℕ) → Owning row i → m ≤ i → row ≡ owned_up owner owners n m
+    own_all_lem row i o h = let e : i ≡ m = omega (arith, o.to) in o.holds ∙ ap (owned_up owner owners n) e

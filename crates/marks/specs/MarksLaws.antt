@@ -1,5 +1,7 @@
 -- Laws of marks, and of the translation row that carries them.
 --     all_asked, given_at_lem             `are_given`: each mark is asked; and each that was given is below n
+--     given_none, given_bad, given_on     what is left from i on is given exactly where all are
+--     cleared_one             one word more says gone
 --     mark_on, marked_long, marked_rest   `mark`: one mark more; the row is as long as it was, and behind the entries as it was
 --     marks_say                           after `clear` and two calls of `mark` a word says exactly whether its index is marked
 --     marks_rest                          and behind the entries the row is as it was
@@ -7,17 +9,32 @@
 -- Assumes nothing.
 use Rattle.std.specs.Prelude.{ℕ, zero, suc, ◌+◌, ◌<◌, ◌≤◌, ◌≡◌, refl, Bool, true, false, ◌&&◌, List, [], ◌∷◌, ltb, length, get_or, set, drop, replicate}
 use Rattle.std.specs.List.{list_all}
-use Rattle.std.proofs.Common.{arith, add-one, sym, ◌∙◌, length-set, drop-cons, get_or-set_same, get_or-set_other, drop-set-lt, eq-eqb, ne_eqb}
-use Rattle.std.proofs.lemmas.List.{length-replicate, get_or-replicate}
+use Rattle.std.proofs.Common.{arith, add-one, sym, ap, ◌∙◌, length-set, drop-cons, get_or-set_same, get_or-set_other, drop-set-lt, eq-eqb, ne_eqb, lt-ltb, le-ltb}
+use Rattle.std.proofs.lemmas.List.{length-replicate, get_or-replicate, replicate-append-replicate}
 use Rattle.std.proofs.Math.ListN.{get_or-append}
 use Rattle.std.proofs.Math.Seq.{drop-length}
 use Rattle.base.specs.Pick.{pick}
 use Rattle.base.specs.PickLaws.{by_lt, split_eq}
 use Rattle.slide.specs.Slide.{gone, headed, stays}
-use Rattle.slide.specs.HeadLaws.{head_drop, head_long}
+use Rattle.slide.specs.HeadLaws.{head_set, head_drop, head_long}
 use Rattle.marks.specs.Marks.{is_in, is_marked, all_given, good_marks, marked}
 
 -- ---- marks that were given
+
+module _ (marks : List ℕ) (n i : ℕ) where
+  given_one : i < length marks → all_given (drop i marks) n ≡ pick (ltb (get_or marks i 0) n) (all_given (drop (suc i) marks) n) false
+  unfolding all_given
+  given_one h = rw (drop-cons marks i 0 h)
+
+  pub given_bad : i < length marks → n ≤ get_or marks i 0 → all_given (drop i marks) n ≡ false
+  given_bad h l = given_one h ∙ rw (le-ltb (get_or marks i 0) n l)
+
+  pub given_on : i < length marks → get_or marks i 0 < n → all_given (drop (i + 1) marks) n ≡ all_given (drop i marks) n
+  given_on h l = sym (given_one h ∙ rw (lt-ltb (get_or marks i 0) n l) (rw (add-one i)))
+
+pub given_none : (marks : List ℕ) (n i : ℕ) → i ≡ length marks → all_given (drop i marks) n ≡ true
+unfolding all_given
+given_none marks n i e = rw (e, drop-length marks)
 
 pub all_asked : (marks : List ℕ) (n : ℕ) → all_given marks n ≡ list_all (λ (m : ℕ). ltb m n) marks
 unfolding all_given
@@ -40,6 +57,14 @@ pub given_at_lem : (marks : List ℕ) (n i : ℕ) → all_given marks n ≡ true
 given_at_lem [] n i e h = absurd (omega arith)
 given_at_lem (m ∷ marks) n zero e h = (first_given m marks n e).0
 given_at_lem (m ∷ marks) n (suc i) e h = given_at_lem marks n i (first_given m marks n e).1 (omega arith)
+
+-- ---- words that say gone
+
+pub cleared_one : (row old : List ℕ) (i : ℕ) → row ≡ headed (replicate i gone) old → i < length old → set row i gone ≡ headed (replicate (i + 1) gone) old
+cleared_one row old i e h =
+    ap (λ (r : List ℕ). set r i gone) e
+    ∙ head_set (replicate i gone) old i gone (sym (length-replicate i gone)) h
+    ∙ ap (λ (w : List ℕ). headed w old) (replicate-append-replicate i 1 gone)
 
 -- ---- words that are marked
 
