@@ -26,15 +26,11 @@ pub fn comment_turn(source: &[u8], table: &[u32], at: usize) -> Turn
     ensures { result ≡ turn_at (comment_turn (properties_at table.now)) (chars (drop at source.now)) }
 {
     let b = byte_at(source, at);
-    if b == HASH {
-        if byte_at(source, at + 1) == MINUS {
-            return Turn::Pass(2, 2);
-        }
+    if b == HASH && byte_at(source, at + 1) == MINUS {
+        return Turn::Pass(2, 2);
     }
-    if b == MINUS {
-        if byte_at(source, at + 1) == HASH {
-            return Turn::Close(2, 2);
-        }
+    if b == MINUS && byte_at(source, at + 1) == HASH {
+        return Turn::Close(2, 2);
     }
     if is_printable(b) {
         return Turn::Pass(1, 1);

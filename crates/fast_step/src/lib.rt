@@ -10,7 +10,7 @@ ghost use Rattle.token.specs.Kind.{error};
 ghost use Rattle.text.specs.Stands.{Stands};
 ghost use Rattle.state.specs.Lexer.{reach_of, settled, remembered};
 ghost use Rattle.lexer.specs.Fine.{Fine};
-ghost use Rattle.lexer.specs.Step.{is_full, half_of, half};
+ghost use Rattle.lexer.specs.Step.{half_of, half};
 ghost use Rattle.classes.specs.Classes.{ClassTable};
 ghost use Rattle.found.specs.Found.{found_taken};
 ghost use Rattle.short.specs.Short.{CodeFinds, LiteralFinds, TokenFinds};
@@ -20,23 +20,11 @@ use base::between;
 use base::chars::CURLY_OPEN;
 use fast_options::find_options;
 use found::{Found, copied, nothing, of};
-use lexer::{Half, What, read_half};
+use lexer::{Half, What, is_full, read_half};
 use position::{ByteOffset, Column, Place, Position, Span};
 use state::{Change, LITERAL, Lexer, RAW_END, RAW_START, TEMPLATE_EXPR_FORMAT};
 use text::byte_at;
 use token::{Token, kinds};
-
-// The change is a push, and no mode fits at this depth.
-fn is_full(change: Change, depth: usize) -> bool
-    ensures { result ≡ is_full change depth }
-{
-    match change {
-        Change::Keep => false,
-        Change::Push(_) => 63 < depth,
-        Change::Pop => false,
-        Change::Replace(_) => false,
-    }
-}
 
 // The lexer after a token that was found.
 fn after(lexer: Lexer, found: Found) -> Lexer
@@ -68,8 +56,7 @@ pub fn found_half(lexer: Lexer, found: Found) -> Half
     requires { eqb found.kind error ≡ false }
     ensures { result ≡ half_of lexer (found_taken found (settled lexer)) }
 {
-    let change = found.change;
-    if is_full(change, lexer.depth) {
+    if is_full(found.change, lexer.depth) {
         return Half {
             what: What::ModesFull,
             lexer,
@@ -82,7 +69,7 @@ pub fn found_half(lexer: Lexer, found: Found) -> Half
             detail: found.detail,
         }),
         lexer: after(lexer, found),
-        change,
+        change: found.change,
     }
 }
 
@@ -175,17 +162,14 @@ pub fn long_half(source: &[u8], table: &[u32], edition: u32, lexer: Lexer, near:
     ensures { result ≡ half (properties_at table.now) edition source.now lexer }
 {
     let long = find_long(source, table, copied(lexer), near);
-    let long_kind = long.kind;
-    if long_kind != kinds::ERROR {
+    if long.kind != kinds::ERROR {
         return found_half(lexer, long);
     }
     let half = read_half(source, table, edition, copied(lexer));
-    let what = half.what;
-    let change = half.change;
     Half {
-        what,
+        what: half.what,
         lexer: copied(half.lexer),
-        change,
+        change: half.change,
     }
 }
 
@@ -202,8 +186,7 @@ pub fn fast_half_near(
     ensures { result ≡ half (properties_at table.now) edition source.now lexer }
 {
     let short = find_short(source, table, classes, lexer);
-    let short_kind = short.kind;
-    if short_kind != kinds::ERROR {
+    if short.kind != kinds::ERROR {
         return found_half(lexer, short);
     }
     long_half(source, table, edition, lexer, near)

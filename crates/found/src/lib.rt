@@ -79,7 +79,6 @@ pub fn to(lexer: Lexer, kind: u8, end: Reach) -> Found
 pub fn of(taken: Taken) -> Found
     ensures { result ≡ found_of taken }
 {
-    let change = taken.change;
     let end = taken.lexer.place.span.end;
     Found {
         kind: taken.token.kind,
@@ -88,7 +87,7 @@ pub fn of(taken: Taken) -> Found
         line: end.line,
         column: end.column.0,
         indent: taken.lexer.indent,
-        change,
+        change: taken.change,
     }
 }
 

@@ -158,16 +158,10 @@ fn in_code(source: &[u8], table: &[u32], lexer: Lexer) -> Taken
 {
     let at = lexer.place.current_byte.0;
     let b = byte_at(source, at);
-    if b == SPACE {
+    if b == SPACE || b == TAB {
         return numbers::consume_whitespace(source, lexer);
     }
-    if b == TAB {
-        return numbers::consume_whitespace(source, lexer);
-    }
-    if b == LF {
-        return newlines::consume_newline(source, lexer);
-    }
-    if b == CR {
+    if b == LF || b == CR {
         return newlines::consume_newline(source, lexer);
     }
     if b == HASH {
@@ -224,7 +218,7 @@ fn take_token(source: &[u8], table: &[u32], edition: u32, lexer: Lexer) -> Taken
 }
 
 // The change is a push, and no mode fits at this depth.
-fn is_full(change: Change, depth: usize) -> bool
+pub fn is_full(change: Change, depth: usize) -> bool
     ensures { result ≡ is_full change depth }
 {
     match change {
@@ -247,10 +241,7 @@ fn stood_still(before: Lexer, taken: Taken) -> bool
 fn half_of(before: Lexer, taken: Taken) -> Half
     ensures { result ≡ half_of before taken }
 {
-    let token = taken.token;
-    let lexer = taken.lexer;
-    let change = taken.change;
-    if is_full(change, before.depth) {
+    if is_full(taken.change, before.depth) {
         return Half {
             what: What::ModesFull,
             lexer: before,
@@ -260,14 +251,14 @@ fn half_of(before: Lexer, taken: Taken) -> Half
     if stood_still(before, taken) {
         return Half {
             what: What::Stuck,
-            lexer: lexer.remember(token.kind),
-            change,
+            lexer: taken.lexer.remember(taken.token.kind),
+            change: taken.change,
         };
     }
     Half {
-        what: What::Token(token),
-        lexer: lexer.remember(token.kind),
-        change,
+        what: What::Token(taken.token),
+        lexer: taken.lexer.remember(taken.token.kind),
+        change: taken.change,
     }
 }
 
@@ -309,16 +300,15 @@ pub fn read_token(source: &[u8], table: &[u32], edition: u32, before: State) -> 
 {
     let mut codes = before.modes.codes;
     let half = read_half(source, table, edition, before.lexer);
-    let what = half.what;
-    let next = half.lexer;
-    let change = half.change;
-    let lexer = next.apply(&mut codes, change);
-    let depth = lexer.depth;
+    let lexer = half.lexer.apply(&mut codes, half.change);
     Step {
-        what,
+        what: half.what,
         state: State {
             lexer,
-            modes: Modes { codes, depth },
+            modes: Modes {
+                codes,
+                depth: lexer.depth,
+            },
         },
     }
 }

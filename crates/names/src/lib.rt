@@ -65,8 +65,7 @@ fn keyword_or_id(source: &[u8], lexer: Lexer, end: Reach) -> Taken
     requires { Stands source.now (reach_of lexer) × GoesOn source.now (reach_of lexer) end }
     ensures { result ≡ keyword_or_id (chars_from source.now (reach_of lexer)) end lexer }
 {
-    let previous_token = lexer.previous_token;
-    if previous_token == kinds::DOT {
+    if lexer.previous_token == kinds::DOT {
         return lexer.token_to(kinds::ID, end);
     }
     let reach = lexer.reach();

@@ -48,14 +48,13 @@ pub fn char_turn(source: &[u8], table: &[u32], at: usize) -> Turn
     ensures { result ≡ turn_at (plain_turn (properties_at table.now)) (chars (drop at source.now)) }
 {
     let c = text::char_at(source, table, at);
-    let code = c.code;
-    if code == CR {
+    if c.code == CR {
         if byte_at(source, at + 1) == LF {
             return Turn::Line(2);
         }
         return Turn::Stuck;
     }
-    if code == LF {
+    if c.code == LF {
         return Turn::Line(1);
     }
     Turn::Pass(c.len, property::width_of(c.properties))

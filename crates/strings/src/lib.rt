@@ -35,13 +35,7 @@ fn escape_turn(source: &[u8], at: usize, quote: u32) -> Turn
         }
         return Turn::Pass(2, 2);
     }
-    if c == CURLY_OPEN {
-        return Turn::Pass(2, 2);
-    }
-    if c == BACKSLASH {
-        return Turn::Pass(2, 2);
-    }
-    if c == quote {
+    if c == CURLY_OPEN || c == BACKSLASH || c == quote {
         return Turn::Pass(2, 2);
     }
     Turn::Pass(1, 1)
@@ -54,10 +48,7 @@ pub fn literal_turn(source: &[u8], table: &[u32], at: usize, quote: u32) -> Turn
     ensures { result ≡ turn_at (literal_turn (properties_at table.now) quote) (chars (drop at source.now)) }
 {
     let b = byte_at(source, at);
-    if b == quote {
-        return Turn::Close(0, 0);
-    }
-    if b == CURLY_OPEN {
+    if b == quote || b == CURLY_OPEN {
         return Turn::Close(0, 0);
     }
     if b == BACKSLASH {

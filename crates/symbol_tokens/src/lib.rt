@@ -14,22 +14,15 @@ fn symbol_change(mode: u16, kind: u8) -> Change
     ensures { result ≡ symbol_change mode kind }
 {
     if mode == state::TEMPLATE_EXPR * 512 {
-        if kind == kinds::CURLY_OPEN {
-            return Change::Push(state::TEMPLATE_EXPR_INLINE_MAP * 512);
-        }
-        if kind == kinds::COLON {
-            return Change::Push(state::TEMPLATE_EXPR_FORMAT * 512);
-        }
-        if kind == kinds::CURLY_CLOSE {
-            return Change::Pop;
-        }
-        return Change::Keep;
+        return match kind {
+            kinds::CURLY_OPEN => Change::Push(state::TEMPLATE_EXPR_INLINE_MAP * 512),
+            kinds::COLON => Change::Push(state::TEMPLATE_EXPR_FORMAT * 512),
+            kinds::CURLY_CLOSE => Change::Pop,
+            _ => Change::Keep,
+        };
     }
-    if mode == state::TEMPLATE_EXPR_INLINE_MAP * 512 {
-        if kind == kinds::CURLY_CLOSE {
-            return Change::Pop;
-        }
-        return Change::Keep;
+    if mode == state::TEMPLATE_EXPR_INLINE_MAP * 512 && kind == kinds::CURLY_CLOSE {
+        return Change::Pop;
     }
     Change::Keep
 }

@@ -15,14 +15,14 @@ find_long-long-requires c =
     (subst (Fine c.args.source.now) (sym c.copied.ensures) c.requires.0, c.requires.1)
 
 pub found_half-requires : goal.found_half-requires
-found_half-requires c = ne_eqb c.find_long-long.result.kind error c.if-long_kind-ne-ERROR.true
+found_half-requires c = ne_eqb c.find_long-long.result.kind error c.if-long-ne-ERROR.true
 
-pub returns-then-long_kind-ne-ERROR : goal.returns-then-long_kind-ne-ERROR
-returns-then-long_kind-ne-ERROR c =
+pub returns-then-long-ne-ERROR : goal.returns-then-long-ne-ERROR
+returns-then-long-ne-ERROR c =
     let found =
     subst (λ (x : Lexer). StepFinds c.args.source.now c.args.table.now x c.find_long-long.result) c.copied.ensures
     c.find_long-long.ensures in
-    c.found_half.ensures ∙ sym (found.is (ne_eqb c.find_long-long.result.kind error c.if-long_kind-ne-ERROR.true) c.args.edition)
+    c.found_half.ensures ∙ sym (found.is (ne_eqb c.find_long-long.result.kind error c.if-long-ne-ERROR.true) c.args.edition)
 
 pub read_half-half-requires : goal.read_half-half-requires
 read_half-half-requires c =

@@ -1,6 +1,7 @@
 -- `lexer::in_code` meets its contract: each return is an arm of `in_code`, by the byte. Assumes nothing.
 use native.Mathlib.Omega.{arith}
 use mathlib.Core.Path.{refl, sym, ◌∙◌}
+use mathlib.Core.Logic.{⊎_elim}
 use Rattle.fitness.specs.SmallLaws.{ascii_start}
 use Rattle.text.specs.Tests.{is_whitespace, is_line_end}
 use Rattle.lexer.specs.ArmLaws.{code_by_lem, above, other, no_digit, mid_letter, blank_arm, line_arm, comment_arm, double_arm, single_arm, ignored_arm}
@@ -9,26 +10,18 @@ use Rattle.lexer.proofs.in_code.Goals as goal
 pub returns-then-b-eq-SPACE : goal.returns-then-b-eq-SPACE
 unfolding is_whitespace is_line_end
 returns-then-b-eq-SPACE c =
-    code_by_lem _ _ c.args.lexer 32 (sym c.byte_at-b.ensures ∙ c.if-b-eq-SPACE.true) (omega arith)
-    (c.consume_whitespace.ensures ∙ sym (blank_arm _ 32 _ _ refl))
-
-pub returns-then-b-eq-TAB : goal.returns-then-b-eq-TAB
-unfolding is_whitespace is_line_end
-returns-then-b-eq-TAB c =
-    code_by_lem _ _ c.args.lexer 9 (sym c.byte_at-b.ensures ∙ c.if-b-eq-TAB.true) (omega arith)
-    (c.consume_whitespace-then-b-eq-TAB.ensures ∙ sym (blank_arm _ 9 _ _ refl))
+    ⊎_elim
+    (λ e. code_by_lem _ _ c.args.lexer 32 (sym c.byte_at-b.ensures ∙ e) (omega arith) (c.consume_whitespace.ensures ∙ sym (blank_arm _ 32 _ _ refl)))
+    (λ e. code_by_lem _ _ c.args.lexer 9 (sym c.byte_at-b.ensures ∙ e.1) (omega arith) (c.consume_whitespace.ensures ∙ sym (blank_arm _ 9 _ _ refl)))
+    c.then-b-eq-SPACE.either
 
 pub returns-then-b-eq-LF : goal.returns-then-b-eq-LF
 unfolding is_whitespace is_line_end
 returns-then-b-eq-LF c =
-    code_by_lem _ _ c.args.lexer 10 (sym c.byte_at-b.ensures ∙ c.if-b-eq-LF.true) (omega arith)
-    (c.consume_newline.ensures ∙ sym (line_arm _ 10 _ _ refl refl))
-
-pub returns-then-b-eq-CR : goal.returns-then-b-eq-CR
-unfolding is_whitespace is_line_end
-returns-then-b-eq-CR c =
-    code_by_lem _ _ c.args.lexer 13 (sym c.byte_at-b.ensures ∙ c.if-b-eq-CR.true) (omega arith)
-    (c.consume_newline-then-b-eq-CR.ensures ∙ sym (line_arm _ 13 _ _ refl refl))
+    ⊎_elim
+    (λ e. code_by_lem _ _ c.args.lexer 10 (sym c.byte_at-b.ensures ∙ e) (omega arith) (c.consume_newline.ensures ∙ sym (line_arm _ 10 _ _ refl refl)))
+    (λ e. code_by_lem _ _ c.args.lexer 13 (sym c.byte_at-b.ensures ∙ e.1) (omega arith) (c.consume_newline.ensures ∙ sym (line_arm _ 13 _ _ refl refl)))
+    c.then-b-eq-LF.either
 
 pub returns-then-b-eq-HASH : goal.returns-then-b-eq-HASH
 returns-then-b-eq-HASH c =

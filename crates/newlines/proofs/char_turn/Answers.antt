@@ -10,13 +10,13 @@ returns-then-byte_at-eq-LF c =
     let d = c.char_at-c.ensures in
     sym (plain_at _ _ _ _ _ d.at d.well ∙ search cases)
 
-pub returns-then-code-eq-CR : goal.returns-then-code-eq-CR
-returns-then-code-eq-CR c =
+pub returns-then-c-eq-CR : goal.returns-then-c-eq-CR
+returns-then-c-eq-CR c =
     let d = c.char_at-c.ensures in
     sym (plain_at _ _ _ _ _ d.at d.well ∙ search cases)
 
-pub returns-then-code-eq-LF : goal.returns-then-code-eq-LF
-returns-then-code-eq-LF c =
+pub returns-then-c-eq-LF : goal.returns-then-c-eq-LF
+returns-then-c-eq-LF c =
     let d = c.char_at-c.ensures in
     sym (plain_at _ _ _ _ _ d.at d.well ∙ search cases)
 

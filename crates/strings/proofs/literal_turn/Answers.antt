@@ -1,6 +1,7 @@
 -- `strings::literal_turn` meets its contract: it takes the tests of `literal_at` in their order. Assumes nothing.
 use native.Mathlib.Omega.{arith}
 use mathlib.Core.Path.{sym, ◌∙◌}
+use mathlib.Core.Logic.{⊎_elim}
 use Rattle.base.specs.CasesLaws.{cases}
 use Rattle.text.specs.Tests.{backslash}
 use Rattle.text.specs.FollowLaws.{one_ascii}
@@ -11,12 +12,9 @@ use Rattle.strings.proofs.literal_turn.Goals as goal
 pub returns-then-b-quote : goal.returns-then-b-quote
 returns-then-b-quote c =
     let p = c.requires in
-    sym (literal_at _ _ p.well_formed.0 p.well_formed.1 _ _ p.fit_table.1 ∙ search cases)
-
-pub returns-then-b-eq-CURLY_OPEN : goal.returns-then-b-eq-CURLY_OPEN
-returns-then-b-eq-CURLY_OPEN c =
-    let p = c.requires in
-    sym (literal_at _ _ p.well_formed.0 p.well_formed.1 _ _ p.fit_table.1 ∙ search cases)
+    sym
+    (literal_at _ _ p.well_formed.0 p.well_formed.1 _ _ p.fit_table.1
+    ∙ ⊎_elim (λ w. search cases) (λ w. search cases) c.then-b-quote.either)
 
 pub escape_turn-requires : goal.escape_turn-requires
 escape_turn-requires c =
