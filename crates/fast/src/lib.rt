@@ -113,17 +113,15 @@ pub fn scan_fast(
     ensures { Scans source.now table.now edition list.old result list.new }
 {
     let classes = classes();
-    match input::check_input(source, table, edition, SOURCE_MOST) {
-        Err(refusal) => Err(ScanError::Refused(refusal)),
-        Ok(()) => read_on(
-            Layout::Whole,
-            source,
-            table,
-            edition,
-            &classes,
-            State::new(),
-            list,
-            0,
-        ),
-    }
+    input::check_input(source, table, edition, SOURCE_MOST)?;
+    read_on(
+        Layout::Whole,
+        source,
+        table,
+        edition,
+        &classes,
+        State::new(),
+        list,
+        0,
+    )
 }

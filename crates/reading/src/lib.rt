@@ -8,6 +8,7 @@ pub mod answer;
 ghost use Rattle.std.specs.Prelude.{◌≡◌, ◌≤◌};
 ghost use Rattle.base.specs.Refusal.{source_most};
 ghost use Rattle.rows.specs.First.{depth_most};
+ghost use Rattle.reading.specs.declared.ScanError.TheVariants.{Refused};
 ghost use Rattle.reading.specs.Reading.{row_of};
 
 use input::Refusal;
@@ -26,7 +27,7 @@ pub enum Scan {
 }
 
 // Why a scan is refused (document 01, "Refusal numbers"), with the same two numbers where it had begun.
-#[derive(Clone, Copy)]
+#[derive(Clone, Copy, Debug, PartialEq, Eq)]
 pub enum ScanError {
     // One of refusals 1, 17, 2, 3 and 15, before any work: a source of over 1,048,576 bytes, a number that is no edition, an unfit table, bytes
     // that are wrong or cut.
@@ -35,6 +36,14 @@ pub enum ScanError {
     ListFull { count: usize, byte: usize },
     // Refusal 5: a token would push a 65th mode.
     ModesFull { count: usize, byte: usize },
+}
+
+impl From<Refusal> for ScanError {
+    ghost from_gives = { λ r e. e ≡ Refused r };
+
+    fn from(r: Refusal) -> ScanError {
+        ScanError::Refused(r)
+    }
 }
 
 // The record of a token, from the lexer after it (lexer.rs `LexedToken`); the depth is that of the lexer before it.

@@ -144,14 +144,15 @@ module _ {s from : List ℕ} {count : ℕ} {e : Edit} {t table : List ℕ} {edit
       }
 
   -- by what the reading behind them answers
-  pub is_behind_by : edit_fits s e t ≡ true → count ≤ room from → {line k : ℕ} {r y : Scanned} {new : List ℕ} → line ≡ start_of_line t e.place
-      → k ≡ kept_rows t line from count → ReadsBehind (properties_at table) edition t from k list r new → r ≡ y
-      → RescansReadable s from count e t table edition list (as_scan y) new
-  is_behind_by f h {line} {k} {r} {y} {new} l q b i =
-      subst (λ (x : Scanned). RescansReadable s from count e t table edition list (as_scan x) new) i (is_behind f h l q b)
+  pub is_behind_by : edit_fits s e t ≡ true → count ≤ room from → {line k : ℕ} {r y : Scanned} {z : Rescanned} {new : List ℕ} → line ≡ start_of_line t e.place
+      → k ≡ kept_rows t line from count → ReadsBehind (properties_at table) edition t from k list r new → r ≡ y → z ≡ as_scan y
+      → RescansReadable s from count e t table edition list z new
+  is_behind_by f h {line} {k} {r} {y} {z} {new} l q b i j =
+      subst (λ (x : Rescanned). RescansReadable s from count e t table edition list x new) (ap as_scan i ∙ sym j) (is_behind f h l q b)
 
-  pub is_refused : {x : Refusal} → input_check source_most t table edition ≡ Err x → Rescans s from count e t table edition list (as_scan (result.Err (Refused x))) list
-  is_refused c = record { answer = rw c; words = rw c }
+  pub is_refused : {x : Refusal} {r : Rescanned} → input_check source_most t table edition ≡ Err x → r ≡ as_scan (result.Err (Refused x))
+      → Rescans s from count e t table edition list r list
+  is_refused c q = record { answer = rw c q; words = rw c }
 
   pub is_readable : {r : Rescanned} {new : List ℕ} → input_check source_most t table edition ≡ result.Ok tt
       → RescansReadable s from count e t table edition list r new → Rescans s from count e t table edition list r new

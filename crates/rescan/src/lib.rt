@@ -17,10 +17,12 @@ ghost use Rattle.rows.specs.Row.{room};
 ghost use Rattle.stepping.specs.Invariant.{Ok};
 ghost use Rattle.kept.specs.Kept.{place_of, resumed};
 ghost use Rattle.keep.specs.Keep.{row_before};
+ghost use Rattle.reading.specs.declared.ScanError.TheVariants.{Refused};
+ghost use Rattle.rescan.specs.declared.RescanError.TheVariants.{Scan};
 ghost use Rattle.rescan.specs.Rescan.{ReadsBehind, Rescans, RescansReadable};
 
 use edit::{Edit, edit_fits, line_start};
-use input::SOURCE_MOST;
+use input::{Refusal, SOURCE_MOST};
 use keep::{kept_rows, row_before};
 use layout::Layout;
 use position::{ByteOffset, Column, Place, Position, Span};
@@ -29,7 +31,7 @@ use rows::Row;
 use state::{Lexer, State};
 
 // Why a rescan is refused; where it is not, it answers as a scan of the new source.
-#[derive(Clone, Copy)]
+#[derive(Clone, Copy, Debug, PartialEq, Eq)]
 pub enum RescanError {
     // As a scan of the new source: one of refusals 1, 17, 2, 3 and 15, 4 or 5.
     Scan(ScanError),
@@ -37,6 +39,22 @@ pub enum RescanError {
     BadEdit,
     // Refusal 8: the old list has no room for as many records as it should have. Its place is 0.
     BadState,
+}
+
+impl From<Refusal> for RescanError {
+    ghost from_gives = { λ r e. e ≡ Scan (Refused r) };
+
+    fn from(r: Refusal) -> RescanError {
+        RescanError::Scan(ScanError::Refused(r))
+    }
+}
+
+impl From<ScanError> for RescanError {
+    ghost from_gives = { λ s e. e ≡ Scan s };
+
+    fn from(e: ScanError) -> RescanError {
+        RescanError::Scan(e)
+    }
 }
 
 // The place that a record fixes.
@@ -127,10 +145,7 @@ fn rescan_readable(
     }
     let line = line_start(source, edit.place);
     let kept = kept_rows(source, line, old_list, old_count);
-    match read_behind(old_list, kept, source, table, edition, list) {
-        Ok(scan) => Ok(scan),
-        Err(error) => Err(RescanError::Scan(error)),
-    }
+    Ok(read_behind(old_list, kept, source, table, edition, list)?)
 }
 
 // Writes the records of a source at the start of the list, after an edit that led to it from an old source, whose list has `old_count`
@@ -150,8 +165,6 @@ pub fn rescan(
     ensures { Rescans old.now old_list.now old_count edit source.now table.now edition
         list.old result list.new }
 {
-    match input::check_input(source, table, edition, SOURCE_MOST) {
-        Err(refusal) => Err(RescanError::Scan(ScanError::Refused(refusal))),
-        Ok(()) => rescan_readable(old, old_list, old_count, edit, source, table, edition, list),
-    }
+    input::check_input(source, table, edition, SOURCE_MOST)?;
+    rescan_readable(old, old_list, old_count, edit, source, table, edition, list)
 }

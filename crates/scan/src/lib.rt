@@ -118,10 +118,8 @@ fn scan_in(
 ) -> Result<Scan, ScanError>
     ensures { ScansIn layout source.now table.now edition list.old result list.new }
 {
-    match input::check_input(source, table, edition, SOURCE_MOST) {
-        Err(refusal) => Err(ScanError::Refused(refusal)),
-        Ok(()) => read_on(layout, source, table, edition, State::new(), list, 0),
-    }
+    input::check_input(source, table, edition, SOURCE_MOST)?;
+    read_on(layout, source, table, edition, State::new(), list, 0)
 }
 
 // Into whole records (document 01).

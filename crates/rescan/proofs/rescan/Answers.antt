@@ -1,4 +1,5 @@
 -- `rescan::rescan` meets its contract: a refusal of `check_input` is the answer, and where there is none the rest answers. Assumes nothing.
+use Rattle.std.proofs.Common.{rules}
 use mathlib.Core.Path.{sym, ◌∙◌}
 use Rattle.input.specs.InputLaws.{fine_of}
 use Rattle.rescan.proofs.RescanLaws.{is_refused, is_readable}
@@ -6,11 +7,11 @@ use Rattle.rescan.proofs.rescan.Goals as goal
 
 pub rescan_readable-requires : goal.rescan_readable-requires
 rescan_readable-requires c =
-    fine_of _ _ _ _ (sym c.check_input.ensures ∙ c.in-Ok.is)
+    fine_of _ _ _ _ (sym c.check_input.ensures ∙ c.in_ok-check_input.was)
 
-pub returns-in-Err : goal.returns-in-Err
-returns-in-Err c = is_refused (sym c.check_input.ensures ∙ c.in-Err.is)
+pub returns-in_err-check_input : goal.returns-in_err-check_input
+returns-in_err-check_input c = is_refused (sym c.check_input.ensures ∙ c.in_err-check_input.was) (search rules)
 
-pub returns-in-Ok : goal.returns-in-Ok
-returns-in-Ok c =
-    is_readable (sym c.check_input.ensures ∙ c.in-Ok.is) c.rescan_readable.ensures
+pub returns : goal.returns
+returns c =
+    is_readable (sym c.check_input.ensures ∙ c.in_ok-check_input.was) c.rescan_readable.ensures

@@ -1,7 +1,8 @@
 -- `rescan::rescan_readable` meets its contract: each answer is a law of `RescansReadable`, and reading may go on behind whatever is kept.
 -- Assumes nothing.
 use native.Mathlib.Omega.{arith}
-use mathlib.Core.Path.{◌≡◌, sym, ap, subst, ◌∙◌}
+use Rattle.std.proofs.Common.{rules}
+use mathlib.Core.Path.{◌≡◌, refl, sym, ap, subst, ◌∙◌}
 use mathlib.Core.Bool.{true}
 use Prim.Native.Nat.{ℕ, ◌≤◌}
 use lib.ListN.{length}
@@ -52,12 +53,12 @@ read_behind-requires c =
       fit_of a.table.now c.requires.fit,
     )
 
-pub returns-in-Ok : goal.returns-in-Ok
-returns-in-Ok c =
-    is_behind_by (fits (goal.at.returns-in-Ok c).Else-not-edit_fits) (omega (arith, c.if-room-old_count.false, c.room.ensures))
-    c.line_start-line.ensures c.kept_rows-kept.ensures c.read_behind.ensures c.in-Ok.is
+pub returns : goal.returns
+returns c =
+    is_behind_by (fits (goal.at.returns c).Else-not-edit_fits) (omega (arith, c.if-room-old_count.false, c.room.ensures))
+    c.line_start-line.ensures c.kept_rows-kept.ensures c.read_behind.ensures c.in_ok-read_behind.was refl
 
-pub returns-in-Err : goal.returns-in-Err
-returns-in-Err c =
-    is_behind_by (fits (goal.at.returns-in-Err c).Else-not-edit_fits) (omega (arith, c.if-room-old_count.false, c.room.ensures))
-    c.line_start-line.ensures c.kept_rows-kept.ensures c.read_behind.ensures c.in-Err.is
+pub returns-in_err-read_behind : goal.returns-in_err-read_behind
+returns-in_err-read_behind c =
+    is_behind_by (fits (goal.at.returns-in_err-read_behind c).Else-not-edit_fits) (omega (arith, c.if-room-old_count.false, c.room.ensures))
+    c.line_start-line.ensures c.kept_rows-kept.ensures c.read_behind.ensures c.in_err-read_behind.was (search rules)
