@@ -31,7 +31,12 @@ placed long found counts forEntries forBytes =
     (pick (ltb forBytes (counts.bytes + long)) (Err PoolFull)
     (indexed counts.entries (one_more counts long))))
 
--- the answer where the bytes are well formed; wrong bytes are 3, and bytes that the end cuts are 15
+-- wrong bytes are 3, and bytes that the end cuts are 15
+abbrev pub of_utf8 : Utf8Error → AddError
+of_utf8 (utf8.BadAt i) = BadUtf8 i
+of_utf8 (utf8.CutAt i) = CutUtf8 i
+
+-- the answer where the bytes are well formed
 abbrev pub on_utf8 : Result (Unit {0}) Utf8Error → Result Added AddError → Result Added AddError
 on_utf8 (Ok _) r = r
 on_utf8 (Err (utf8.BadAt i)) r = Err (BadUtf8 i)

@@ -2,7 +2,7 @@
 --     placed_there, placed_no_entry, placed_few_bytes, placed_new, placed_same    the answer in a fit pool, on numbers
 --     old_bytes, old_entries, new_bytes_lem, new_entries_lem    the rows after an answer
 --     new_has_room                where a new index is handed out, the rows have room
---     wrong, cut, unfit, unrefused                      the answer, from what the checks of the string and of the pool say
+--     wrong, cut, refused, unfit, unrefused             the answer, from what the checks of the string and of the pool say
 --     settled, adds_fine          what `add_string` ensures, by the answer, and by `AddsToFit` where no check refuses
 --     grows                       an index answered leaves a pool that has grown so
 --     there_costs_nothing, refused_writes_nothing       when counts and rows stay
@@ -25,7 +25,7 @@ use Rattle.utf8.specs.CharsLaws.{fine_of_well}
 use Rattle.utf8.specs.declared.Utf8Error.{Utf8Error}
 use Rattle.utf8.specs.declared.Utf8Error.TheVariants as utf8
 use Rattle.pool_rows.specs.Rows.{start_of, length_of, string_at, strings_of, index_of, room_most, byte_room, entry_room, runs_to, fit_pool}
-use Rattle.pool.specs.Pool.{one_more, indexed, placed, on_utf8, added_to_fit, added, is_new, written, entered, bytes_after, entries_after}
+use Rattle.pool.specs.Pool.{one_more, indexed, placed, of_utf8, on_utf8, added_to_fit, added, is_new, written, entered, bytes_after, entries_after}
 use Rattle.pool.specs.Pool.{AddsToFit, AddsString, Grown, number_of}
 use Rattle.pool_rows.specs.StringsLaws.{index_most, kept_with, shown_with_lem, index_with, strings_long, strings_more, strings_same}
 use Rattle.pool_rows.specs.FitLaws.{room_within, entry_room_lem, Fit, fit_of, fit_by_lem, runs_more, runs_same, within}
@@ -236,6 +236,10 @@ module _ (string bytes entries : List ℕ) (counts : Counts) where
   pub cut : (i : ℕ) → check_from 0 string ≡ Err (utf8.CutAt i) → added string bytes entries counts ≡ Err (CutUtf8 i)
   unfolding added
   cut i e = rw e
+
+  pub refused : (e : Utf8Error) → check_from 0 string ≡ Err e → added string bytes entries counts ≡ Err (of_utf8 e)
+  refused (utf8.BadAt i) = wrong i
+  refused (utf8.CutAt i) = cut i
 
   pub unfit : check_from 0 string ≡ Ok tt → fit_pool bytes entries counts ≡ false → added string bytes entries counts ≡ Err BadState
   unfolding added

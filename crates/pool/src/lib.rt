@@ -7,9 +7,10 @@ pub mod answer;
 
 ghost use Rattle.std.specs.Prelude.{◌≡◌, true, ◌+◌, ◌*◌, ◌≤◌, ◌<◌, length};
 ghost use Rattle.pool_rows.specs.Rows.{fit_pool};
-ghost use Rattle.pool.specs.Pool.{placed, refusal_at, is_new, written, entered, AddsToFit, AddsString};
+ghost use Rattle.pool.specs.Pool.{of_utf8, placed, refusal_at, is_new, written, entered, AddsToFit, AddsString};
 
 use pool_rows::{Counts, find_string, is_pool_fit, room_of};
+use utf8::Utf8Error;
 
 // What adding a string answers where nothing is refused: the string's index, and the counts after the addition. Those are as before where the
 // string was there.
@@ -30,6 +31,17 @@ pub enum AddError {
     BadState,
     // Refusal 13: the string is not there, and no entry or too few bytes are free. Its place is 0.
     PoolFull,
+}
+
+impl From<Utf8Error> for AddError {
+    ghost from_gives = { λ e r. r ≡ of_utf8 e };
+
+    fn from(e: Utf8Error) -> AddError {
+        match e {
+            Utf8Error::BadAt(i) => AddError::BadUtf8(i),
+            Utf8Error::CutAt(i) => AddError::CutUtf8(i),
+        }
+    }
 }
 
 // The answer in a fit pool that has room for so many entries and bytes, for a string of so many bytes that the search found at an index, or
@@ -124,8 +136,7 @@ pub fn refusal_of(string: &[u8]) -> AddError
     ensures { result ≡ refusal_at string.now }
 {
     match utf8::check_utf8(string) {
-        Err(utf8::Utf8Error::BadAt(i)) => AddError::BadUtf8(i),
-        Err(utf8::Utf8Error::CutAt(i)) => AddError::CutUtf8(i),
+        Err(error) => AddError::from(error),
         Ok(()) => AddError::BadState,
     }
 }
@@ -142,14 +153,9 @@ pub fn add_string(
     ensures { AddsString string.now counts bytes.old entries.old
         bytes.new entries.new result }
 {
-    match utf8::check_utf8(string) {
-        Err(utf8::Utf8Error::BadAt(i)) => Err(AddError::BadUtf8(i)),
-        Err(utf8::Utf8Error::CutAt(i)) => Err(AddError::CutUtf8(i)),
-        Ok(()) => {
-            if !is_pool_fit(bytes, entries, counts) {
-                return Err(AddError::BadState);
-            }
-            add_to_fit(string, bytes, entries, counts)
-        }
+    utf8::check_utf8(string)?;
+    if !is_pool_fit(bytes, entries, counts) {
+        return Err(AddError::BadState);
     }
+    add_to_fit(string, bytes, entries, counts)
 }

@@ -3,7 +3,7 @@
 --     end_first, stuck_first            the pass over its list finds the first forbidden record
 --     profiles_end, profiles_stuck      so it gives the profile's answer
 --     profiled_same                     which is the same for tables that scan alike
---     profiles_by, profiles_err         from a scan's answer: one that is refused is the answer as it is
+--     profiles_by                       from a scan's answer: one that is refused is the answer as it is
 --     judged_out, judged_in             with a forbidden record, and without
 --     one_answer                        no second answer and no second list fits
 -- Assumes nothing.
@@ -26,11 +26,10 @@ use Rattle.reading.specs.ShownLaws.{reading_shown}
 use Rattle.reading.specs.WholeLaws.{ReadWhole, end_whole, stuck_whole}
 use Rattle.reading.specs.declared.Scan.{Scan}
 use Rattle.reading.specs.declared.Scan.TheVariants.{End, Stuck}
-use Rattle.reading.specs.declared.ScanError.{ScanError}
 use Rattle.rust.specs.TokenLexer.{new_token_lexer}
 use Rattle.rust.proofs.HandsLaws.{reading_hands}
 use Rattle.forbidden.specs.Forbidden.{first_forbidden}
-use Rattle.profile.specs.Profile.{Profiled, as_scan, judged, profiled_by, Profiles}
+use Rattle.profile.specs.Profile.{Profiled, judged, profiled_by, Profiles}
 use Rattle.forbidden.specs.Pass.{pass_from}
 use Rattle.forbidden.proofs.PassLaws.{pass_is}
 use Rattle.profile.specs.declared.ProfileError.TheVariants.{NotInProfile}
@@ -72,10 +71,6 @@ module _ (source table : List ℕ) (edition : ℕ) (old new : List ℕ) where
     pub profiles_by : {y : Scanned} {r : Profiled} → x ≡ y → r ≡ profiled_by (first_forbidden source table edition) y
         → Profiles source table edition old r new
     profiles_by e q = record { answer = q ∙ ap (profiled_by (first_forbidden source table edition)) (sym e ∙ p.answer); words = p.words }
-
-    -- a refusal of the scan, as it is
-    pub profiles_err : {e : ScanError} → x ≡ Err e → Profiles source table edition old (as_scan (Err e)) new
-    profiles_err e = profiles_by e refl
 
     pub end_room : {n b : ℕ} → x ≡ Ok (End n b) → n ≤ room new
     end_room {n} {b} e = let w = end_whole source table edition old new n b (is e) in has_room n _ w.0 w.1

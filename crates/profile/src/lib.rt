@@ -8,6 +8,7 @@ pub mod answer;
 
 ghost use Rattle.std.specs.Prelude.{◌≡◌, ◌≤◌};
 ghost use Rattle.rows.specs.Row.{room, shown_at};
+ghost use Rattle.profile.specs.declared.ProfileError.TheVariants.{Scan};
 ghost use Rattle.profile.specs.Profile.{judged, Profiles};
 ghost use Rattle.forbidden.specs.Pass.{is_inner, is_forbidden_by, opener_after, forbidden_at, opener_at, pass_from};
 
@@ -16,12 +17,20 @@ use rows::Row;
 use token::kinds::{CURLY_OPEN, STRING_START};
 
 // Why a scan by the profile is refused.
-#[derive(Clone, Copy)]
+#[derive(Clone, Copy, Debug, PartialEq, Eq)]
 pub enum ProfileError {
     // The scan was refused, as it is.
     Scan(ScanError),
     // Refusal 21: the scan was not refused and has `count` records, of which record `index` is the first of a forbidden token.
     NotInProfile { count: usize, index: usize },
+}
+
+impl From<ScanError> for ProfileError {
+    ghost from_gives = { λ s e. e ≡ Scan s };
+
+    fn from(e: ScanError) -> ProfileError {
+        ProfileError::Scan(e)
+    }
 }
 
 // Whether a "{" at this depth opens a template inside a template, where no token before it is forbidden. `opener` is the kind of the last
@@ -115,11 +124,9 @@ pub fn scan_profile(
 ) -> Result<Scan, ProfileError>
     ensures { Profiles source.now table.now edition list.old result list.new }
 {
-    match scan::scan(source, table, edition, &mut *list) {
-        Ok(scan) => match scan {
-            Scan::End { count, .. } => judge(list, count, scan),
-            Scan::Stuck { count, .. } => judge(list, count, scan),
-        },
-        Err(error) => Err(ProfileError::Scan(error)),
+    let scan = scan::scan(source, table, edition, &mut *list)?;
+    match scan {
+        Scan::End { count, .. } => judge(list, count, scan),
+        Scan::Stuck { count, .. } => judge(list, count, scan),
     }
 }
