@@ -3,7 +3,7 @@ use mathlib.Core.Path.{sym, ◌∙◌}
 use Rattle.fitness.specs.FitLaws.{fit_of}
 use Rattle.input.specs.InputLaws.{fine_of}
 use Rattle.pad_input.specs.Check.{pad_check}
-use Rattle.pad_input.proofs.Tests.{checks, hands}
+use Rattle.pad_input.proofs.Tests.{checks}
 use Rattle.pad_input.proofs.check_pad.Goals as goal
 
 pub returns-then-is_long : goal.returns-then-is_long
@@ -14,14 +14,16 @@ pub check_fill-requires : goal.check_fill-requires
 check_fill-requires c =
     fit_of _ (fine_of _ _ _ _ (sym c.check_input.ensures ∙ c.in-Ok.is)).fit
 
-pub returns-then-filled : goal.returns-then-filled
-unfolding pad_check
-returns-then-filled c = sym (search hands depth 14)
-
 pub returns-in-Err : goal.returns-in-Err
 unfolding pad_check
 returns-in-Err c = sym (search checks depth 14)
 
-pub returns-else-filled : goal.returns-else-filled
+pub returns-in-Some : goal.returns-in-Some
 unfolding pad_check
-returns-else-filled c = sym (search hands depth 14)
+returns-in-Some c =
+    rw (sym c.is_long.ensures ∙ c.if-is_long.false, sym c.check_input.ensures ∙ c.in-Ok.is, c.in-Some.is) c.check_fill.ensures
+
+pub returns-in-None : goal.returns-in-None
+unfolding pad_check
+returns-in-None c =
+    rw (sym c.is_long.ensures ∙ c.if-is_long.false, sym c.check_input.ensures ∙ c.in-Ok.is, c.in-None.is) c.check_format.ensures
