@@ -4,6 +4,7 @@
 --     at_break, at_end  what it gives where no rule joins the next character, and at the end
 --     nothing           the answer where there are no bytes
 -- Assumes nothing.
+use Rattle.std.specs.Prelude.{Ok}
 use Prim.Native.Nat.{ℕ, suc, ◌+◌, ◌≤◌}
 use native.Mathlib.Omega.{arith}
 use mathlib.Core.Path.{◌≡◌, sym, ap, ◌∙◌}
@@ -14,7 +15,6 @@ use Rattle.utf8.specs.Encode.{encode, encode_all, WellFormed}
 use Rattle.utf8.specs.Read.{read_at}
 use Rattle.utf8.specs.Chars.{chars, At}
 use Rattle.utf8.specs.CharsLaws.{at_char, rest_at, chars_end}
-use Rattle.utf8.specs.declared.Read.TheVariants.{Char}
 use Rattle.uax29.specs.Uax29.{joined}
 use Rattle.cluster.specs.First.{go_on, first_end}
 use Rattle.uax29.specs.State.{left_of, passed, joined_by}
@@ -61,7 +61,7 @@ module _ (look : ℕ → ℕ) (edition : ℕ) (s : List ℕ) where
     pub answer : from past i ≡ first_end look edition at (chars (drop at s))
 
   -- the first character has been passed
-  pub first : (at c n : ℕ) → WellFormed (drop at s) → read_at s at ≡ Char c n → Past at (passed (left_of []) (look c)) (at + n)
+  pub first : (at c n : ℕ) → WellFormed (drop at s) → read_at s at ≡ Ok (c, n) → Past at (passed (left_of []) (look c)) (at + n)
   first at c n w e =
       record {
         past = look c ∷ [];
@@ -74,7 +74,7 @@ module _ (look : ℕ → ℕ) (edition : ℕ) (s : List ℕ) where
     pub at_end : length s ≤ i → i ≡ first_end look edition at (chars (drop at s))
     at_end h = sym (ended v.past i h) ∙ v.answer
 
-    module _ (c n : ℕ) (e : read_at s i ≡ Char c n) where
+    module _ (c n : ℕ) (e : read_at s i ≡ Ok (c, n)) where
       by_past : joined edition v.past (look c) ≡ joined_by edition left (look c)
       by_past = sym (by_state edition v.past (look c)) ∙ ap (λ (l : Left). joined_by edition l (look c)) (sym v.state)
 

@@ -18,13 +18,13 @@ pub fn cluster_end(source: &[u8], table: &[u32], edition: u32, at: usize) -> usi
     requires { WellFormed (drop at source.now) × Rises table.now }
     ensures { result ≡ first_end (properties_at table.now) edition at (chars (drop at source.now)) }
 {
-    let utf8::Read::Char { code, len } = utf8::read_char(source, at) else {
+    let Ok((code, len)) = utf8::read_char(source, at) else {
         return at;
     };
     let mut left = Left::new().pass(property::lookup(table, code));
     let mut i = at + len;
     while i < source.len() {
-        let utf8::Read::Char { code, len } = utf8::read_char(source, i) else {
+        let Ok((code, len)) = utf8::read_char(source, i) else {
             return i;
         };
         let p = property::lookup(table, code);

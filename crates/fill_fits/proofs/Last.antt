@@ -1,6 +1,7 @@
 -- What the loop of `last_code` keeps: the last character from here on, after the one before, is the fill's last.
 --     Last: last_start, last_more, last_all    it holds at the start, after one more character, and what it gives at the end
 -- Assumes nothing.
+use Rattle.std.specs.Prelude.{Ok}
 use Prim.Native.Nat.{ℕ, ◌+◌, ◌<◌, ◌≤◌}
 use native.Mathlib.Omega.{arith}
 use mathlib.Core.Path.{◌≡◌, refl, sym, ap, ◌∙◌}
@@ -9,7 +10,6 @@ use lib.ListN.{length, drop}
 use Rattle.utf8.specs.Read.{read_at}
 use Rattle.utf8.specs.Chars.{chars}
 use Rattle.utf8.specs.CharsLaws.{Stops, at_char}
-use Rattle.utf8.specs.declared.Read.TheVariants.{Char}
 use Rattle.format_number.specs.PeekLaws.{none_left}
 use Rattle.fill_fits.specs.Apart.{last_of}
 
@@ -23,7 +23,7 @@ module _ (fill : List ℕ) where
 
   module _ (at last : ℕ) (v : Last fill at last) where
     -- one character more
-    pub last_more : (code len : ℕ) → read_at fill at ≡ Char code len → (0 < len) × Last fill (at + len) code
+    pub last_more : (code len : ℕ) → read_at fill at ≡ Ok (code, len) → (0 < len) × Last fill (at + len) code
     last_more code len e =
         let a = at_char fill at code len e in
         (a.some, record { within = a.fits; same = sym (ap (last_of last) a.step) ∙ v.same })

@@ -6,7 +6,7 @@
 --     no_chars, one_char, begins        by how many characters a fill has
 --     Many, many                        all of these of a fill's bytes
 -- Assumes nothing.
-use Rattle.std.specs.Prelude.{ℕ, ◌+◌, ◌<◌, ◌≤◌, ◌≡◌, refl, Bool, true, false, not, ◌&&◌, List, [], ◌∷◌, ◌++◌, eqb, length, take, drop}
+use Rattle.std.specs.Prelude.{ℕ, ◌+◌, ◌<◌, ◌≤◌, ◌≡◌, refl, Bool, true, false, not, ◌&&◌, List, [], ◌∷◌, ◌++◌, eqb, length, take, drop, Ok}
 use Rattle.std.proofs.Common.{arith, zero-add, sym, ap, subst, ◌∙◌, append-nil, length-append, length-drop, take-append-drop, eq-eqb, ne_eqb}
 use Rattle.std.proofs.Math.Seq.{take-length}
 use Rattle.base.specs.Pick.{pick}
@@ -16,7 +16,6 @@ use Rattle.utf8.specs.EncodeLaws.{all_append}
 use Rattle.utf8.specs.Read.{read_at}
 use Rattle.utf8.specs.Chars.{chars}
 use Rattle.utf8.specs.CharsLaws.{Stops, at_char, chars_well}
-use Rattle.utf8.specs.declared.Read.TheVariants.{Char}
 use Rattle.property.specs.Table.{last_from, properties_at}
 use Rattle.fitness.specs.Fit.{FitTable}
 use Rattle.fitness.specs.Small.{small_table}
@@ -135,7 +134,7 @@ peek_more c [] d e n = absurd (n e)
 peek_more c (x ∷ l) d e n = record { rest = l; is = ap {B = List ℕ} (λ (y : ℕ). c ∷ y ∷ l) (sym e) }
 
 -- what follows the first character of a fill
-module _ (fill : List ℕ) (c n : ℕ) (well : WellFormed fill) (e : read_at fill 0 ≡ Char c n) where
+module _ (fill : List ℕ) (c n : ℕ) (well : WellFormed fill) (e : read_at fill 0 ≡ Ok (c, n)) where
   front : chars fill ≡ c ∷ chars (drop n fill)
   front = (at_char fill 0 c n e).step ∙ ap {B = List ℕ} (λ (k : ℕ). c ∷ chars (drop k fill)) (zero-add n)
 

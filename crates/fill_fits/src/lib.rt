@@ -61,7 +61,7 @@ fn last_code(fill: &[u8]) -> u32
     let mut at = 0;
     let mut last = 0;
     loop {
-        let utf8::Read::Char { code, len } = utf8::read_char(fill, at) else {
+        let Ok((code, len)) = utf8::read_char(fill, at) else {
             return last;
         };
         last = code;
@@ -108,7 +108,7 @@ fn chars_fit(fill: &[u8], table: &[u32], edition: u32, fields: Fields) -> bool
     requires { WellFormed fill.now × FitTable table.now }
     ensures { result ≡ chars_fit (properties_at table.now) edition (wanted_by fields Unfilled) (chars fill.now) }
 {
-    let utf8::Read::Char { code, len } = utf8::read_char(fill, 0) else {
+    let Ok((code, len)) = utf8::read_char(fill, 0) else {
         return false;
     };
     let next = peek(fill, len);

@@ -17,7 +17,6 @@ use Rattle.utf8.specs.EncodeLaws.{encode_some}
 use Rattle.utf8.specs.Read.{read_at}
 use Rattle.utf8.specs.Chars.{chars, At}
 use Rattle.utf8.specs.CharsLaws.{Stops, at_char, After, after_chars}
-use Rattle.utf8.specs.declared.Read.TheVariants.{Char}
 use Rattle.format_options.specs.declared.Options.{Options}
 use Rattle.format_number.specs.PeekLaws.{none_left}
 use Rattle.format_options.specs.declared.Part.{Part}
@@ -82,7 +81,7 @@ module _ (look : ℕ → ℕ) (edition : ℕ) where
       pub ends : Stops (read_at s p.at) → ended p ≡ read_format look edition (chars s)
       ends t = nothing p g.fine ∙ ap (λ (l : List ℕ). reading_of (from 0 p l)) (sym (none_left s p.at t)) ∙ g.answer
 
-      module _ (c n : ℕ) (found : read_at s p.at ≡ Char c n) where
+      module _ (c n : ℕ) (found : read_at s p.at ≡ Ok (c, n)) where
         pub stands : Here s p.at c n
         stands = record { small = g.small; well = g.well; found = found }
 

@@ -2,11 +2,10 @@
 -- to do with a pool is `parse_two_stages` of `ReadLaws`.
 -- And what one turn of the code's loop does, at a byte place of the format string.
 -- Assumes nothing.
-use Rattle.std.specs.Prelude.{ℕ, suc, ◌+◌, ◌≤◌, ◌≡◌, List, ◌∷◌, length, take, drop, Option, Some, None}
+use Rattle.std.specs.Prelude.{ℕ, suc, ◌+◌, ◌≤◌, ◌≡◌, List, ◌∷◌, length, take, drop, Option, Some, None, Ok}
 use Rattle.base.specs.Refusal.{format_most}
 use Rattle.utf8.specs.Encode.{encode_all, WellFormed}
 use Rattle.utf8.specs.Read.{read_at}
-use Rattle.utf8.specs.declared.Read.TheVariants.{Char}
 use Rattle.format_options.specs.declared.Part.{Part}
 use Rattle.format_number.specs.Number.{peeked}
 use Rattle.format_arms.specs.Arms.{alignment, arm_of}
@@ -64,4 +63,4 @@ turn_at look edition p c cs = turn_of p (c ∷ cs) (body_at look edition p c cs)
 pub record Here (s : List ℕ) (i c n : ℕ) : Type 0 where
   pub small : length s ≤ format_most
   pub well : WellFormed (drop i s)
-  pub found : read_at s i ≡ Char c n
+  pub found : read_at s i ≡ Ok (c, n)

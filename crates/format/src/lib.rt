@@ -94,7 +94,7 @@ pub fn read_format(format: &[u8], table: &[u32], edition: u32) -> FormatRead
 {
     let mut p = Parsing::new();
     loop {
-        let utf8::Read::Char { code, len } = utf8::read_char(format, p.at) else {
+        let Ok((code, len)) = utf8::read_char(format, p.at) else {
             return end(p);
         };
         p = take_turn(format, table, edition, p, code, len);

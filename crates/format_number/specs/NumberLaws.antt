@@ -9,10 +9,9 @@ use Rattle.std.specs.Prelude.{ℕ, zero, suc, ◌+◌, ◌-◌, ◌*◌, ◌≤�
 use Rattle.std.proofs.Common.{arith, sym, ap, length-drop, lt-ltb, le-ltb}
 use Rattle.utf8.specs.Encode.{encode_all}
 use Rattle.utf8.specs.EncodeLaws.{encode1}
-use Rattle.utf8.specs.Read.{decode_head}
+use Rattle.utf8.specs.Read.{Read, decode_head}
 use Rattle.utf8.specs.Chars.{chars_in, chars, less}
-use Rattle.utf8.specs.declared.Read.{Read}
-use Rattle.utf8.specs.declared.Read.TheVariants.{Char, Bad, Cut}
+use Rattle.utf8.specs.declared.ReadError.TheVariants.{Bad, Cut}
 use Rattle.format_options.specs.Letters.{zero_digit, is_digit}
 use Rattle.format_options.specs.LettersLaws.{digit_is}
 use Rattle.format_options.specs.declared.FormatError.{FormatError}
@@ -103,9 +102,9 @@ chars_most (suc k) (b ∷ bs) = omega (arith, chars_most k bs)
 chars_most zero (b ∷ bs) = go (decode_head (b ∷ bs)) refl (λ n. chars_most n bs)
   where
     go : (r : Read) → decode_head (b ∷ bs) ≡ r → ((n : ℕ) → length (chars_in n bs) ≤ length bs) → length (chars (b ∷ bs)) ≤ suc (length bs)
-    go (Char c n) p ih = rw p (omega (arith, ih (less n)))
-    go Bad p ih = rw p (omega arith)
-    go Cut p ih = rw p (omega arith)
+    go (Ok (c, n)) p ih = rw p (omega (arith, ih (less n)))
+    go (Err Bad) p ih = rw p (omega arith)
+    go (Err Cut) p ih = rw p (omega arith)
 
 -- so there are no more digits than bytes
 pub digits_most : (s : List ℕ) (at first : ℕ) (r : Result Number FormatError) → r ≡ consume_u32 first (chars (drop at s)) → digits_of r ≤ length s

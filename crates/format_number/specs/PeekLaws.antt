@@ -3,15 +3,14 @@
 --     none_left, peek_within   where no character is read, none is left; where one is peeked, the string goes on
 --     AsciiHere, ascii_here    a peeked character below 128 is one byte
 -- Assumes nothing.
-use Rattle.std.specs.Prelude.{ℕ, ◌+◌, ◌<◌, ◌≡◌, refl, List, [], ◌∷◌, length, drop}
+use Rattle.std.specs.Prelude.{ℕ, ◌+◌, ◌<◌, ◌≡◌, refl, List, [], ◌∷◌, length, drop, Ok, Err}
 use Rattle.std.proofs.Common.{arith, sym, ap, subst, ◌∙◌}
 use Rattle.base.specs.PickLaws.{split_lt}
 use Rattle.utf8.specs.EncodeLaws.{encode1}
-use Rattle.utf8.specs.Read.{decode_head, read_at}
+use Rattle.utf8.specs.Read.{Read, decode_head, read_at}
 use Rattle.utf8.specs.Chars.{chars_in, chars}
 use Rattle.utf8.specs.CharsLaws.{Stops, at_char, chars_at, chars_end}
-use Rattle.utf8.specs.declared.Read.{Read}
-use Rattle.utf8.specs.declared.Read.TheVariants.{Char, Bad, Cut}
+use Rattle.utf8.specs.declared.ReadError.TheVariants.{Bad, Cut}
 use Rattle.format_options.specs.Letters.{no_char}
 use Rattle.format_number.specs.Number.{peeked}
 
@@ -21,9 +20,9 @@ chars_stop [] t = refl
 chars_stop (b ∷ bs) t = go (decode_head (b ∷ bs)) refl t
   where
     go : (r : Read) → decode_head (b ∷ bs) ≡ r → Stops r → chars (b ∷ bs) ≡ []
-    go (Char c n) p t = absurd t
-    go Bad p t = rw p
-    go Cut p t = rw p
+    go (Ok (c, n)) p t = absurd t
+    go (Err Bad) p t = rw p
+    go (Err Cut) p t = rw p
 
 -- what is peeked at i is the one byte there
 pub record AsciiHere (s : List ℕ) (i d : ℕ) : Type 0 where
@@ -31,7 +30,7 @@ pub record AsciiHere (s : List ℕ) (i d : ℕ) : Type 0 where
   pub rest : chars (drop i s) ≡ d ∷ chars (drop (i + 1) s)
 
 module _ (s : List ℕ) (i : ℕ) where
-  pub peek_char : (c n : ℕ) → read_at s i ≡ Char c n → c ≡ peeked (chars (drop i s))
+  pub peek_char : (c n : ℕ) → read_at s i ≡ Ok (c, n) → c ≡ peeked (chars (drop i s))
   unfolding peeked
   peek_char c n e = rw (chars_at s i c n e)
 
@@ -55,7 +54,7 @@ module _ (s : List ℕ) (i : ℕ) where
       never t = absurd (omega (arith, peek_none t))
 
       go : (r : Read) → read_at s i ≡ r → AsciiHere s i d
-      go (Char c n) p =
+      go (Ok (c, n)) p =
           let a = at_char s i c n p in
           let q : c ≡ d = peek_char c n p ∙ e in
           let k : c < 128 = omega arith in
@@ -64,5 +63,5 @@ module _ (s : List ℕ) (i : ℕ) where
             inside = omega (arith, a.fits);
             rest = a.step ∙ ap {B = List ℕ} (λ (m : ℕ). c ∷ chars (drop (i + m) s)) w ∙ ap {B = List ℕ} (λ x. x ∷ chars (drop (i + 1) s)) q;
           }
-      go Bad p = never (subst Stops (sym p) tt)
-      go Cut p = never (subst Stops (sym p) tt)
+      go (Err Bad) p = never (subst Stops (sym p) tt)
+      go (Err Cut) p = never (subst Stops (sym p) tt)

@@ -26,9 +26,8 @@ pub fn peek(format: &[u8], at: usize) -> u32
     ensures { result ≡ peeked (chars (drop at format.now)) }
 {
     match utf8::read_char(format, at) {
-        utf8::Read::Char { code, len: _ } => code,
-        utf8::Read::Bad => NO_CHAR,
-        utf8::Read::Cut => NO_CHAR,
+        Ok((code, _)) => code,
+        Err(_) => NO_CHAR,
     }
 }
 

@@ -1,11 +1,10 @@
 -- What holds of the lexer between two steps: it is within the source, with line and column bounded by the bytes before it, and at the
 -- start of a character or inside one that an unknown symbol cut, where the scan is over.
 -- Assumes nothing.
-use Rattle.std.specs.Prelude.{ℕ, ◌+◌, ◌*◌, ◌≤◌, ◌<◌, ◌≡◌, false, List, length, get_or, drop}
+use Rattle.std.specs.Prelude.{ℕ, ◌+◌, ◌*◌, ◌≤◌, ◌<◌, ◌≡◌, false, List, length, get_or, drop, Ok}
 use Rattle.base.specs.Refusal.{source_most}
 use Rattle.utf8.specs.Encode.{WellFormed}
 use Rattle.utf8.specs.Read.{is_tail, read_at}
-use Rattle.utf8.specs.declared.Read.TheVariants.{Char}
 use Rattle.token.specs.Kind.{error}
 use Rattle.state.specs.Lexer.{reach_of}
 use Rattle.state.specs.declared.Lexer.{Lexer}
@@ -24,5 +23,5 @@ pub record Cuts (s : List ℕ) (i kind j : ℕ) : Type 0 where
   pub one_byte_lem : j ≡ i + 1
   pub code : ℕ
   pub len : ℕ
-  pub character : read_at s i ≡ Char code len
+  pub character : read_at s i ≡ Ok (code, len)
   pub longer : 1 < len

@@ -2,6 +2,7 @@
 --     two, three, four     which it is, of so many bytes
 --     room                 its bytes are there
 -- Assumes nothing.
+use Rattle.std.specs.Prelude.{Ok, Err}
 use Prim.Native.Nat.{ℕ, ◌+◌, ◌≤◌, ◌<◌}
 use native.Mathlib.Omega.{arith}
 use native.Mathlib.Nat.{add-zero}
@@ -12,12 +13,12 @@ use lib.Seq.{get_or-drop}
 use borrow.Author.Tests.{lt-ltb, le-ltb}
 use Rattle.base.specs.PickLaws.{split_lt}
 use Rattle.utf8.specs.Encode.{WellFormed}
-use Rattle.utf8.specs.Read.{seq_len, head_of, decode_head, read_at}
+use Rattle.utf8.specs.Read.{Read, seq_len, head_of, decode_head, read_at}
 use Rattle.utf8.specs.GrammarLaws.{lead, seq2, seq3}
 use Rattle.utf8.specs.ReadLaws.{sound}
 use Rattle.utf8.specs.Lengths.{char_of}
 use Rattle.utf8.specs.CharsLaws.{at_char}
-use Rattle.utf8.specs.declared.Read.TheVariants.{Char, Bad}
+use Rattle.utf8.specs.declared.ReadError.TheVariants.{Bad}
 use Rattle.text.specs.FollowLaws.{here}
 use Rattle.text.proofs.Found.{short, long}
 
@@ -27,15 +28,15 @@ unfolding seq_len
 none_low a h k = rw (le-ltb a 0x80 h, lt-ltb a 0xc2 k)
 
 -- where one stands, its lead byte opens one
-opened : (l : List ℕ) (c n : ℕ) → decode_head l ≡ Char c n → seq_len (get_or l 0 0) ≡ 0 → ⊥
+opened : (l : List ℕ) (c n : ℕ) → decode_head l ≡ Ok (c, n) → seq_len (get_or l 0 0) ≡ 0 → ⊥
 unfolding decode_head head_of
 opened l c n e z =
     let o = sound l c n e in
-    let f : Bad ≡ Char c n = rw (le-ltb (length l) 1 (omega (arith, o.some, o.fits)), z) at e in
+    let f : ◌≡◌ {A = Read} (Err Bad) (Ok (c, n)) = rw (le-ltb (length l) 1 (omega (arith, o.some, o.fits)), z) at e in
     let y : ◌≡◌ {A = ℕ} 0 1 = cc in
     omega arith
 
-pub room : (s : List ℕ) (i : ℕ) {c n : ℕ} → read_at s i ≡ Char c n → i + n ≤ length s
+pub room : (s : List ℕ) (i : ℕ) {c n : ℕ} → read_at s i ≡ Ok (c, n) → i + n ≤ length s
 room s i {c} {n} e = (at_char s i c n e).fits
 
 module _ (s : List ℕ) (i : ℕ) (w : WellFormed (drop i s)) (h : i < length s) (k : 128 ≤ get_or s i 0) where

@@ -1,9 +1,8 @@
 -- Document 01, "The property table": a run with its numbers at hand, and a character above 127. No public contract cites these.
 -- Assumes nothing.
-use Rattle.std.specs.Prelude.{ℕ, ◌+◌, ◌≤◌, ◌<◌, ◌≡◌, List, eqb, length, get_or}
+use Rattle.std.specs.Prelude.{ℕ, ◌+◌, ◌≤◌, ◌<◌, ◌≡◌, List, eqb, length, get_or, Ok}
 use Rattle.base.specs.Pick.{pick}
 use Rattle.utf8.specs.Read.{read_at}
-use Rattle.utf8.specs.declared.Read.TheVariants as read
 use Rattle.property.specs.Parts.{properties_of}
 use Rattle.property.specs.Table.{properties_at, start_at}
 use Rattle.name_runs.specs.declared.Run.{Run}
@@ -28,4 +27,4 @@ pub record RunHas (table : List ℕ) (code : ℕ) (r : Run) : Type 0 where
 
 -- the character stands at the place i of s
 abbrev pub PointIs : List ℕ → ℕ → Point → Type 0
-PointIs s i p = read_at s i ≡ read.Char p.code p.len
+PointIs s i p = read_at s i ≡ Ok (p.code, p.len)

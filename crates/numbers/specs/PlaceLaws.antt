@@ -16,8 +16,8 @@ use Rattle.base.specs.CasesLaws.{pick_yes, pick_no, or_yes, or_no, and_yes, and_
 use Rattle.base.specs.Refusal.{source_most}
 use Rattle.position.specs.Position.{column_most}
 use Rattle.position.specs.declared.Reach.{Reach}
+use Rattle.utf8.specs.Answer.{code_of}
 use Rattle.utf8.specs.Chars.{chars}
-use Rattle.utf8.specs.declared.Read.TheVariants.{Char}
 use Rattle.text.specs.Bytes.{byte_at}
 use Rattle.text.specs.Tests.{is_digit}
 use Rattle.text.specs.Count.{count_while}
@@ -111,8 +111,7 @@ module _ (f : ℕ → Bool) (ascii : (c : ℕ) → f c ≡ true → c < 128) whe
       ∙ sym
       (passes_not (byte_at s i)
       (split_lt (byte_at s i) 128
-      (λ b. let e : Char c.code c.len ≡ Char (byte_at s i) 1 = sym c.read ∙ ascii_read s i (byte_at s i) refl b in
-      let g : c.code ≡ byte_at s i = cc in
+      (λ b. let g : c.code ≡ byte_at s i = ap code_of (sym c.read ∙ ascii_read s i (byte_at s i) refl b) in
       omega arith)
       (λ b. b))))))
       (λ k. rw (chars_end s i k, le-ltb i (length s) k) (sym (passes_not 256 (omega arith))))

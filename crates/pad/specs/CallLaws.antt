@@ -1,18 +1,22 @@
 -- Laws of the call's answer.
 --     refused, told    what `pad` ensures, by what the checks answered
 --     is_checked, is_short, is_padded    the answer by what the checks answer, and, where they refuse nothing, where there is no room, and else
+--     given_if         a fill that is not given is not looked at
 --     one_answer       no second answer and no second buffer fit
 --     kept             a refusal leaves the buffer
 --     few_bytes, fits  how many bytes are needed stays below 2^64
 -- Assumes nothing.
-use Rattle.std.specs.Prelude.{ℕ, ◌*◌, ◌<◌, ◌≤◌, ◌≡◌, refl, List, Bool, true, length, Result, Ok, Err}
+use Rattle.std.specs.Prelude.{ℕ, ◌*◌, ◌<◌, ◌≤◌, ◌≡◌, refl, List, [], Bool, true, false, length, is_some, unwrap_or, Result, Ok, Err}
+use Rattle.std.specs.Bool.{then_some}
+use Rattle.std.specs.Option.{option_copied}
+use Rattle.std.specs.Borrow.{Bor}
 use Rattle.std.proofs.Common.{arith, mul-le-mul, sym, ap, ◌∙◌, lt-ltb, le-ltb}
 use Rattle.base.specs.Refusal.{none}
 use Rattle.pool.specs.Pool.{written}
 use Rattle.fills.specs.Pad.{width_most, is_width, fills, padded_length}
 use Rattle.fills.specs.PadLaws.{fills_within}
 use Rattle.property.specs.Table.{properties_at}
-use Rattle.pad_input.specs.Check.{text_most, pad_check}
+use Rattle.pad_input.specs.Check.{text_most, long_fill, pad_check}
 use Rattle.pad.specs.Call.{padded_by, in_room, buffer_after, PadsText, fill_of, on_check, padded_text, pad_answer, Pads, number_of}
 use Rattle.pad_input.specs.declared.PadRefusal.{PadRefusal}
 use Rattle.pad.specs.declared.PadError.{PadError}
@@ -79,6 +83,15 @@ module _ (text : List ℕ) (alignment width : ℕ) (given : Bool) (fill table : 
       go : (a : Result ℕ PadError) → (number_of a ≡ none → ⊥) → buffer_after a (padded_text text alignment width given fill table edition) old ≡ old
       go (Ok k) n = absurd (n refl)
       go (Err e) n = refl
+
+module _ (text : List ℕ) (alignment width : ℕ) (fill : Bor (List ℕ)) (table : List ℕ) (edition : ℕ) (old new : List ℕ) (r : Result ℕ PadError) where
+  abbrev pub PadsWith : Bool → List ℕ → Type 0
+  PadsWith given bytes = Pads text alignment width given bytes table edition old new r
+
+  pub given_if : (given : Bool) → PadsWith (is_some (then_some given fill)) (unwrap_or (option_copied (then_some given fill)) []) → PadsWith given fill.now
+  unfolding pad_check long_fill
+  given_if true v = v
+  given_if false v = record { answer = v.answer; contents = v.contents }
 
 -- ---- how many bytes are needed
 

@@ -5,7 +5,8 @@
 
 pub mod answer;
 
-ghost use Rattle.std.specs.Prelude.{◌≡◌, true, ◌≤◌, length};
+ghost use Rattle.std.specs.Prelude.{◌≡◌, true, ◌≤◌, [], length, is_some, unwrap_or};
+ghost use Rattle.std.specs.Option.{option_copied};
 ghost use Rattle.utf8.specs.Encode.{WellFormed};
 ghost use Rattle.property.specs.Table.{properties_at};
 ghost use Rattle.fitness.specs.Fit.{FitTable};
@@ -19,7 +20,7 @@ use input::Refusal;
 use pad_input::{PadRefusal, check_pad};
 
 // What `pad` refuses.
-#[derive(Clone, Copy)]
+#[derive(Clone, Copy, Debug, PartialEq, Eq)]
 pub enum PadError {
     // 1 of the text or of a fill that is given, 17, 2, 3 and 15 of the text: they come before any work, as do the next two.
     Refused(Refusal),
@@ -75,18 +76,23 @@ pub fn pad(
     text: &[u8],
     alignment: u64,
     width: u64,
-    filled: bool,
-    fill: &[u8],
+    fill: Option<&[u8]>,
     table: &[u32],
     edition: u32,
     buffer: &mut [u8],
 ) -> Result<usize, PadError>
-    ensures { Pads text.now alignment width filled fill.now table.now edition
+    ensures { Pads text.now alignment width
+        (is_some fill.entry) (unwrap_or (option_copied fill.entry) []) table.now edition
         buffer.old buffer.new result }
 {
-    check_pad(text, alignment, width, filled, fill, table, edition)?;
-    if filled {
-        return pad_text(text, alignment, width, fill, table, edition, buffer);
-    }
-    pad_text(text, alignment, width, b" ", table, edition, buffer)
+    check_pad(text, alignment, width, fill, table, edition)?;
+    pad_text(
+        text,
+        alignment,
+        width,
+        fill.unwrap_or(b" "),
+        table,
+        edition,
+        buffer,
+    )
 }

@@ -2,7 +2,8 @@
 // of the text or of the fill ill-formed, or the format none, in this order, as one answer. It knows nothing of what is then written.
 #![tactic(auto)]
 
-ghost use Rattle.std.specs.Prelude.{◌≡◌};
+ghost use Rattle.std.specs.Prelude.{◌≡◌, [], is_some, unwrap_or};
+ghost use Rattle.std.specs.Option.{option_copied};
 ghost use Rattle.property.specs.Table.{properties_at};
 ghost use Rattle.fitness.specs.Fit.{FitTable};
 ghost use Rattle.pad_input.specs.declared.PadRefusal.TheVariants.{Refused};
@@ -16,7 +17,7 @@ use input::{Refusal, check_input};
 const TEXT_MOST: usize = 65535;
 
 // What the checks refuse.
-#[derive(Clone, Copy)]
+#[derive(Clone, Copy, Debug, PartialEq, Eq)]
 pub enum PadRefusal {
     // 1 of the text or of a fill that is given, 17, 2, 3 and 15 of the text.
     Refused(Refusal),
@@ -35,10 +36,13 @@ impl From<Refusal> for PadRefusal {
 }
 
 // Whether a fill is given and too long.
-fn is_long(filled: bool, fill: &[u8]) -> bool
-    ensures { result ≡ long_fill filled fill.now }
+fn is_long(fill: Option<&[u8]>) -> bool
+    ensures { result ≡ long_fill (is_some fill.entry) (unwrap_or (option_copied fill.entry) []) }
 {
-    filled && TEXT_MOST < fill.len()
+    match fill {
+        Some(fill) => TEXT_MOST < fill.len(),
+        None => false,
+    }
 }
 
 // Whether two numbers are an alignment and a width.
@@ -85,19 +89,19 @@ pub fn check_pad(
     text: &[u8],
     alignment: u64,
     width: u64,
-    filled: bool,
-    fill: &[u8],
+    fill: Option<&[u8]>,
     table: &[u32],
     edition: u32,
 ) -> Result<(), PadRefusal>
-    ensures { result ≡ pad_check text.now alignment width filled fill.now table.now edition }
+    ensures { result ≡ pad_check text.now alignment width
+        (is_some fill.entry) (unwrap_or (option_copied fill.entry) []) table.now edition }
 {
-    if is_long(filled, fill) {
+    if is_long(fill) {
         return Err(PadRefusal::Refused(Refusal::TooLong));
     }
     check_input(text, table, edition, TEXT_MOST)?;
-    if filled {
-        return check_fill(alignment, width, fill, table, edition);
+    match fill {
+        Some(fill) => check_fill(alignment, width, fill, table, edition),
+        None => check_format(alignment, width),
     }
-    check_format(alignment, width)
 }

@@ -3,11 +3,10 @@
 use Rattle.std.specs.Prelude.{ℕ, ◌≡◌, List, Result}
 use Rattle.base.specs.Refusal.{none, bad_utf8, cut_utf8}
 use Rattle.utf8.specs.Encode.{WellFormed}
-use Rattle.utf8.specs.Read.{read_at}
+use Rattle.utf8.specs.Read.{Read, read_at}
 use Rattle.utf8.specs.Chars.{check_from}
 use Rattle.utf8.specs.Meaning.{Arriving, Damaged, CheckIs}
 use Rattle.utf8.specs.Answer.{number_of, place_of}
-use Rattle.utf8.specs.declared.Read.{Read}
 use Rattle.utf8.specs.declared.Utf8Error.{Utf8Error}
 use Rattle.promises.specs.Said.{Said, says}
 

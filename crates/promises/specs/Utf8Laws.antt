@@ -9,7 +9,7 @@ use Rattle.utf8.specs.Encode.{WellFormed}
 use Rattle.utf8.specs.Meaning.{ReadIs, Arriving, Damaged, CheckIs}
 use Rattle.utf8.specs.MeaningLaws.{read_is, one_read, check_is, one_check}
 use Rattle.utf8.specs.Answer.{number_of, place_of}
-use Rattle.utf8.specs.declared.Read.{Read}
+use Rattle.utf8.specs.Read.{Read}
 use Rattle.utf8.specs.declared.Utf8Error.{Utf8Error}
 use Rattle.utf8.specs.declared.Utf8Error.TheVariants.{BadAt, CutAt}
 use Rattle.promises.specs.Utf8.{ReadCharEnsures, CheckUtf8Ensures, check_says, CheckUtf8Promise}

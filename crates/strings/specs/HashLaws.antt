@@ -6,13 +6,12 @@
 -- Assumes nothing.
 use Prim.Native.Nat.{ℕ, zero, suc, ◌+◌, ◌-◌, ◌≤◌, ◌<◌}
 use Rattle.std.proofs.Common.{arith, sym, subst, ◌∙◌, eq-eqb, ne_eqb, eqb-true}
-use Rattle.std.specs.Prelude.{◌≡◌, List, [], ◌∷◌, length, drop}
+use Rattle.std.specs.Prelude.{◌≡◌, List, [], ◌∷◌, length, drop, Ok}
 use Rattle.std.proofs.Math.Path.{refl, ap}
 use Rattle.base.specs.PickLaws.{split_lt, split_eq}
 use Rattle.utf8.specs.Encode.{WellFormed}
 use Rattle.utf8.specs.Read.{read_at}
 use Rattle.utf8.specs.Chars.{chars}
-use Rattle.utf8.specs.declared.Read.TheVariants.{Char}
 use Rattle.text.specs.Bytes.{byte_at}
 use Rattle.text.specs.Tests.{hash}
 use Rattle.text.specs.CountLaws.{skip_one}
@@ -37,7 +36,7 @@ module _ (s : List ℕ) where
   other zero c cs n = refl
   other (suc most) c cs n = rw (ne_eqb c hash n, hashes)
 
-  is_hash : (j c n : ℕ) → read_at s j ≡ Char c n → j < length s → c ≡ hash → byte_at s j ≡ hash
+  is_hash : (j c n : ℕ) → read_at s j ≡ Ok (c, n) → j < length s → c ≡ hash → byte_at s j ≡ hash
   is_hash j c n r k e = eqb-true (byte_at s j) hash (sym (head_is s j c n hash r k (omega arith)) ∙ eq-eqb c hash e)
 
   pub hash_none : (most j : ℕ) → WellFormed (drop j s) → (byte_at s j ≡ hash → ⊥) → hashes most (chars (drop j s)) ≡ 0

@@ -2,6 +2,7 @@
 --     ascii_is, read_is          an ASCII byte, with the properties that the code gives it; a character that is read, and looked up
 --     short, long                what stands where the lead byte says up to three bytes, or four
 -- Assumes nothing.
+use Rattle.std.specs.Prelude.{Ok}
 use Prim.Native.Nat.{ℕ, ◌<◌}
 use mathlib.Core.Path.{◌≡◌, sym, ap, subst, ◌∙◌}
 use mathlib.Core.List.{List}
@@ -12,7 +13,6 @@ use Rattle.utf8.specs.Read.{seq_len, read_at}
 use Rattle.utf8.specs.Lengths.{char_of}
 use Rattle.utf8.specs.LengthsLaws.{char_read}
 use Rattle.utf8.specs.CharsLaws.{at_char, rest_at, ascii_at}
-use Rattle.utf8.specs.declared.Read.TheVariants as read
 use Rattle.property.specs.Table.{properties_at}
 use Rattle.fitness.specs.Fit.{FitTable}
 use Rattle.text.specs.Ascii.{ascii_properties}
@@ -21,7 +21,7 @@ use Rattle.text.specs.CountLaws.{ascii_properties_lem}
 use Rattle.text.specs.FollowLaws.{here}
 
 module _ (s : List ℕ) (i : ℕ) (w : WellFormed (drop i s)) where
-  pub read_is : (table : List ℕ) (c n p : ℕ) → read_at s i ≡ read.Char c n → p ≡ properties_at table c
+  pub read_is : (table : List ℕ) (c n p : ℕ) → read_at s i ≡ Ok (c, n) → p ≡ properties_at table c
       → CharIs s table i (record { code = c; len = n; properties = p })
   read_is table c n p e f = record { at = at_char s i c n e; properties = f; well = rest_at s i c n w e }
 

@@ -7,7 +7,7 @@
 --     Skips, skip_none, skip_one, skip_run  ASCII characters that are passed are so many bytes too
 --     count_within, run_stands              where a run ends, a character begins within the source, or it is the end
 -- Assumes nothing.
-use Rattle.std.specs.Prelude.{ℕ, zero, suc, ◌+◌, ◌-◌, ◌≤◌, ◌<◌, ◌≡◌, refl, Bool, true, false, not, ◌&&◌, ◌||◌, List, ◌∷◌, eqb, length, get_or, drop}
+use Rattle.std.specs.Prelude.{ℕ, zero, suc, ◌+◌, ◌-◌, ◌≤◌, ◌<◌, ◌≡◌, refl, Bool, true, false, not, ◌&&◌, ◌||◌, List, ◌∷◌, eqb, length, get_or, drop, Ok}
 use Rattle.std.proofs.Common.{arith, sym, ap, subst, ◌∙◌, drop-drop, eqb-true, lt-ltb}
 use Rattle.base.specs.PickLaws.{split_lt}
 use Rattle.base.specs.Range.{inside}
@@ -18,7 +18,6 @@ use Rattle.utf8.specs.Encode.{WellFormed}
 use Rattle.utf8.specs.Read.{read_at}
 use Rattle.utf8.specs.Chars.{chars, At}
 use Rattle.utf8.specs.CharsLaws.{at_char, rest_at, ascii_at, ascii_byte}
-use Rattle.utf8.specs.declared.Read.TheVariants.{Char}
 use Rattle.property.specs.Parts.{xid_continue, width_of}
 use Rattle.property.specs.Table.{last_from, properties_at}
 use Rattle.fitness.specs.Small.{small_table}
@@ -145,7 +144,7 @@ module _ (f : ℕ → Bool) (ascii : (c : ℕ) → f c ≡ true → c < 128) (s 
   pub count_more : i < length s → f (get_or s i 0) ≡ true
       → (count_while f (chars (drop i s)) ≡ suc (count_while f (chars (drop (i + 1) s)))) × WellFormed (drop (i + 1) s)
   count_more h t =
-      let r : read_at s i ≡ Char (get_or s i 0) 1 = ascii_at s i h (ascii (get_or s i 0) t) in
+      let r : read_at s i ≡ Ok (get_or s i 0, 1) = ascii_at s i h (ascii (get_or s i 0) t) in
       let a = at_char s i (get_or s i 0) 1 r in
       (ap (count_while f) a.step ∙ count_yes f (get_or s i 0) _ t, rest_at s i (get_or s i 0) 1 w r)
 

@@ -9,7 +9,7 @@
 -- Assumes nothing.
 use Prim.Native.Nat.{ℕ, zero, suc, ◌+◌, ◌-◌, ◌≤◌, ◌<◌}
 use Rattle.std.proofs.Common.{arith, sym, subst, ◌∙◌, drop_of_length-le, lt-ltb, le-ltb, ne_eqb}
-use Rattle.std.specs.Prelude.{◌≡◌, eqb, length, get_or, drop}
+use Rattle.std.specs.Prelude.{◌≡◌, eqb, length, get_or, drop, Ok, Err}
 use Rattle.std.proofs.Math.Path.{refl, ap}
 use mathlib.Core.List.{List, [], ◌∷◌, ◌++◌, append_assoc}
 use Rattle.base.specs.PickLaws.{by_lt, split_lt}
@@ -18,11 +18,11 @@ use Rattle.position.specs.Position.{column_most}
 use Rattle.position.specs.Place.{along_by, line_by}
 use Rattle.position.specs.declared.Reach.{Reach}
 use Rattle.utf8.specs.Encode.{encode, WellFormed}
-use Rattle.utf8.specs.Read.{read_at}
+use Rattle.utf8.specs.Read.{Read, read_at}
+use Rattle.utf8.specs.Answer.{code_of}
 use Rattle.utf8.specs.Chars.{chars, chars_in, At}
 use Rattle.utf8.specs.CharsLaws.{Stops, at_char, rest_at, never_stops, ascii_at, ascii_byte}
-use Rattle.utf8.specs.declared.Read.{Read}
-use Rattle.utf8.specs.declared.Read.TheVariants.{Char, Bad, Cut}
+use Rattle.utf8.specs.declared.ReadError.TheVariants.{Bad, Cut}
 use Rattle.text.specs.Bytes.{byte_at}
 use Rattle.text.specs.Count.{len_utf8, bytes_of}
 use Rattle.text.specs.Follow.{next_is, Followed, Closed, Open, Stopped, drop_bytes, follow_in, follow, turn_at}
@@ -36,7 +36,7 @@ use Rattle.text.specs.declared.Turn.TheVariants.{Pass, Line, Close, Stuck}
 pub record Here (s : List ℕ) (i : ℕ) : Type 0 where
   pub code : ℕ
   pub len : ℕ
-  pub read : read_at s i ≡ Char code len
+  pub read : read_at s i ≡ Ok (code, len)
   pub at : At s i code len
   pub well : WellFormed (drop (i + len) s)
 
@@ -44,9 +44,9 @@ pub here : (s : List ℕ) (i : ℕ) → WellFormed (drop i s) → i < length s �
 here s i w h = go (read_at s i) refl
   where
     go : (r : Read) → read_at s i ≡ r → Here s i
-    go (Char c n) e = record { code = c; len = n; read = e; at = at_char s i c n e; well = rest_at s i c n w e }
-    go Bad e = absurd (never_stops s i w h (subst Stops (sym e) tt))
-    go Cut e = absurd (never_stops s i w h (subst Stops (sym e) tt))
+    go (Ok (c, n)) e = record { code = c; len = n; read = e; at = at_char s i c n e; well = rest_at s i c n w e }
+    go (Err Bad) e = absurd (never_stops s i w h (subst Stops (sym e) tt))
+    go (Err Cut) e = absurd (never_stops s i w h (subst Stops (sym e) tt))
 
 pub chars_end : (s : List ℕ) (i : ℕ) → length s ≤ i → chars (drop i s) ≡ []
 unfolding chars_in
@@ -63,22 +63,22 @@ pub byte_within : (s : List ℕ) (i d : ℕ) → byte_at s i ≡ d → d < 256 �
 byte_within s i d e h = split_lt i (length s) (λ k. k) (λ k. absurd (omega (arith, sym (byte_past s i k) ∙ e)))
 
 -- an ASCII byte is the character there
-pub ascii_read : (s : List ℕ) (i d : ℕ) → byte_at s i ≡ d → d < 128 → read_at s i ≡ Char d 1
+pub ascii_read : (s : List ℕ) (i d : ℕ) → byte_at s i ≡ d → d < 128 → read_at s i ≡ Ok (d, 1)
 ascii_read s i d e h =
     let k : i < length s = byte_within s i d e (omega arith) in
     let b : get_or s i 0 ≡ d = sym (byte_inside s i k) ∙ e in
-    ascii_at s i k (rw b h) ∙ ap (λ (c : ℕ). Char c 1) b
+    ascii_at s i k (rw b h) ∙ ap {B = Read} (λ c. Ok (c, 1)) b
 
 pub ascii_head : (s : List ℕ) (i d : ℕ) → byte_at s i ≡ d → d < 128 → At s i d 1
 ascii_head s i d e h = at_char s i d 1 (ascii_read s i d e h)
 
 -- a character c stands at i: it is the ASCII character d exactly where the byte is
-pub head_is : (s : List ℕ) (i c n d : ℕ) → read_at s i ≡ Char c n → i < length s → d < 128 → eqb c d ≡ eqb (byte_at s i) d
+pub head_is : (s : List ℕ) (i c n d : ℕ) → read_at s i ≡ Ok (c, n) → i < length s → d < 128 → eqb c d ≡ eqb (byte_at s i) d
 head_is s i c n d e k h =
     split_lt c 128 (λ a. let b = (ascii_byte s i c n e a).0 in ap (λ (x : ℕ). eqb x d) (sym (byte_inside s i k ∙ b)))
     (λ a. ne_eqb c d (λ x. omega arith)
     ∙ sym
-    (ne_eqb (byte_at s i) d (λ x. let f : Char c n ≡ Char d 1 = sym e ∙ ascii_read s i d x h in let g : c ≡ d = cc in omega arith)))
+    (ne_eqb (byte_at s i) d (λ x. let g : c ≡ d = ap code_of (sym e ∙ ascii_read s i d x h) in omega arith)))
 
 -- a peek at an ASCII character is a test of the byte
 pub next_is_lem : (s : List ℕ) (i d : ℕ) → WellFormed (drop i s) → d < 128 → next_is d (chars (drop i s)) ≡ eqb (byte_at s i) d

@@ -1,4 +1,3 @@
-pub mod Answers
 pub mod Lead
 pub mod Tags
 pub mod Turns

@@ -1,12 +1,11 @@
--- What the `else` of `let Read::Char { .. } = read_char(..) else { .. }` is told: the answer's variant is the second or the third.
+-- What the `else` of `let Ok((..)) = read_char(..) else { .. }` is told: the answer is a refusal.
 -- Assumes nothing.
+use Rattle.std.specs.Prelude.{Ok, Err}
 use mathlib.Core.Path.{◌≡◌, refl}
 use Prim.Native.Nat.{ℕ}
 use Rattle.utf8.specs.CharsLaws.{Stops}
-use Rattle.utf8.specs.declared.Read.{Read}
-use Rattle.utf8.specs.declared.Read.TheVariants.{Char, Bad, Cut}
+use Rattle.utf8.specs.Read.{Read}
 
-pub stopped : (r : Read) → ((c n : ℕ) → r ≡ Char c n → ⊥) → Stops r
-stopped (Char c n) h = absurd (h c n refl)
-stopped Bad h = tt
-stopped Cut h = tt
+pub stopped : (r : Read) → ((x : ℕ × ℕ) → r ≡ Ok x → ⊥) → Stops r
+stopped (Ok x) h = absurd (h x refl)
+stopped (Err _) h = tt

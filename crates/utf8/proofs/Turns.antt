@@ -4,6 +4,7 @@
 --     passed             a turn over a character of that length
 --     passed_block       a turn over a block, each byte of which is passed
 -- Assumes nothing.
+use Rattle.std.specs.Prelude.{Ok, Err}
 use Prim.Native.Nat.{ℕ, zero, suc, ◌+◌, ◌-◌, ◌%◌, ◌<◌, ◌≤◌}
 use native.Mathlib.Omega.{arith}
 use native.Mathlib.Nat.{add-zero}
@@ -16,13 +17,12 @@ use lib.Dec.{leb, eqb}
 use borrow.Author.Tests.{eqb-true, leb-true}
 use Rattle.base.specs.AllLaws.{and_left, and_right, good_at}
 use Rattle.base.specs.ListLaws.{rest_all}
-use Rattle.utf8.specs.Read.{seq_len, decode_head, read_at}
+use Rattle.utf8.specs.Read.{Read, seq_len, decode_head, read_at}
 use Rattle.utf8.specs.Lengths.{len_of, is_single, is_block}
 use Rattle.utf8.specs.LengthsLaws.{one_len}
 use Rattle.utf8.specs.Chars.{check_from}
 use Rattle.utf8.specs.CharsLaws.{at_char, check_at}
-use Rattle.utf8.specs.declared.Read.{Read}
-use Rattle.utf8.specs.declared.Read.TheVariants.{Char, Bad, Cut}
+use Rattle.utf8.specs.declared.ReadError.TheVariants.{Bad, Cut}
 
 pub record Going (s : List ℕ) (i : ℕ) : Type 0 where
   pub inside : i ≤ length s
@@ -39,9 +39,9 @@ module _ (s : List ℕ) (i : ℕ) where
 
 module _ (s : List ℕ) (i : ℕ) (g : Going s i) where
   passed_by : (r : Read) → read_at s i ≡ r → 0 < len_of r → Going s (i + len_of r)
-  passed_by (Char c n) e h = record { inside = (at_char s i c n e).fits; rest = sym (check_at s i c n e) ∙ g.rest }
-  passed_by Bad e h = absurd (omega arith)
-  passed_by Cut e h = absurd (omega arith)
+  passed_by (Ok (c, n)) e h = record { inside = (at_char s i c n e).fits; rest = sym (check_at s i c n e) ∙ g.rest }
+  passed_by (Err Bad) e h = absurd (omega arith)
+  passed_by (Err Cut) e h = absurd (omega arith)
 
   pub passed : (n : ℕ) → 0 < n → n ≡ len_of (read_at s i) → Going s (i + n)
   passed n h e = subst (λ (k : ℕ). Going s (i + k)) (sym e) (passed_by (read_at s i) refl (omega arith))

@@ -3,8 +3,8 @@
 -- Assumes nothing.
 use Rattle.std.specs.Prelude.{ℕ, Result, Ok, Err}
 use Rattle.base.specs.Refusal.{none, bad_utf8, cut_utf8}
-use Rattle.utf8.specs.declared.Read.{Read}
-use Rattle.utf8.specs.declared.Read.TheVariants.{Char, Bad, Cut}
+use Rattle.utf8.specs.Read.{Read}
+use Rattle.utf8.specs.declared.ReadError.TheVariants.{Bad, Cut}
 use Rattle.utf8.specs.declared.Utf8Error.{Utf8Error}
 use Rattle.utf8.specs.declared.Utf8Error.TheVariants.{BadAt, CutAt}
 
@@ -12,15 +12,14 @@ use Rattle.utf8.specs.declared.Utf8Error.TheVariants.{BadAt, CutAt}
 
 -- the number
 abbrev pub read_number : Read → ℕ
-read_number (Char code len) = none
-read_number Bad = bad_utf8
-read_number Cut = cut_utf8
+read_number (Ok _) = none
+read_number (Err Bad) = bad_utf8
+read_number (Err Cut) = cut_utf8
 
 -- the code point; 0 where there is no character
 abbrev pub code_of : Read → ℕ
-code_of (Char code len) = code
-code_of Bad = 0
-code_of Cut = 0
+code_of (Ok (code, len)) = code
+code_of (Err _) = 0
 
 -- ---- all bytes
 

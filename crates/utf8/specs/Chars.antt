@@ -3,17 +3,16 @@
 -- Assumes nothing.
 use Rattle.std.specs.Prelude.{ℕ, zero, suc, ◌+◌, ◌<◌, ◌≤◌, ◌≡◌, List, [], ◌∷◌, ◌++◌, length, drop, Result, Ok, Err}
 use Rattle.utf8.specs.Encode.{Scalar, encode}
-use Rattle.utf8.specs.Read.{decode_head}
-use Rattle.utf8.specs.declared.Read.{Read}
-use Rattle.utf8.specs.declared.Read.TheVariants.{Char, Bad, Cut}
+use Rattle.utf8.specs.Read.{Read, decode_head}
+use Rattle.utf8.specs.declared.ReadError.TheVariants.{Bad, Cut}
 use Rattle.utf8.specs.declared.Utf8Error.{Utf8Error}
 use Rattle.utf8.specs.declared.Utf8Error.TheVariants.{BadAt, CutAt}
 
 -- f of the character, or what is said of wrong bytes, or of cut ones
 abbrev pub on_read : {A : Type 0} → Read → (ℕ → ℕ → A) → A → A → A
-on_read (Char c n) f bad cut = f c n
-on_read Bad f bad cut = bad
-on_read Cut f bad cut = cut
+on_read (Ok (c, n)) f bad cut = f c n
+on_read (Err Bad) f bad cut = bad
+on_read (Err Cut) f bad cut = cut
 
 -- one less
 abbrev pub less : ℕ → ℕ

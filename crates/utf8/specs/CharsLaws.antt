@@ -19,12 +19,11 @@ use Rattle.base.specs.PickLaws.{split_lt}
 use Rattle.base.specs.Range.{inside}
 use Rattle.utf8.specs.Encode.{Scalars, encode, encode_all, WellFormed}
 use Rattle.utf8.specs.EncodeLaws.{encode1, all_append, scalars_drop}
-use Rattle.utf8.specs.Read.{seq_len, second_ok, fourth, third, second, head_of, decode_head, read_at}
+use Rattle.utf8.specs.Read.{Read, seq_len, second_ok, fourth, third, second, head_of, decode_head, read_at}
 use Rattle.utf8.specs.GrammarLaws.{Sound, found1}
 use Rattle.utf8.specs.ReadLaws.{sound, complete}
 use Rattle.utf8.specs.Chars.{chars_in, chars, check_in, check_from, At}
-use Rattle.utf8.specs.declared.Read.{Read}
-use Rattle.utf8.specs.declared.Read.TheVariants.{Char, Bad, Cut}
+use Rattle.utf8.specs.declared.ReadError.TheVariants.{Bad, Cut}
 use Rattle.utf8.specs.declared.Utf8Error.TheVariants.{BadAt, CutAt}
 
 unfoldable pub computes : Unit {0}
@@ -48,33 +47,33 @@ check_skip i (suc k) (b ∷ bs) = check_skip (suc i) k bs ∙ ap (λ (j : ℕ). 
 -- ---- one step from the front
 
 -- a list that begins with a character of n bytes is no empty one, and n is not 0
-split_head : (P : List ℕ → ℕ → Type 0) (l : List ℕ) (c n : ℕ) → decode_head l ≡ Char c n
-    → ((b : ℕ) (bs : List ℕ) (m : ℕ) → decode_head (b ∷ bs) ≡ Char c (suc m) → P (b ∷ bs) (suc m)) → P l n
+split_head : (P : List ℕ → ℕ → Type 0) (l : List ℕ) (c n : ℕ) → decode_head l ≡ Ok (c, n)
+    → ((b : ℕ) (bs : List ℕ) (m : ℕ) → decode_head (b ∷ bs) ≡ Ok (c, suc m) → P (b ∷ bs) (suc m)) → P l n
 split_head P l c n e f = go l n e (sound l c n e).some (sound l c n e).fits
   where
-    go : (l : List ℕ) (n : ℕ) → decode_head l ≡ Char c n → 0 < n → n ≤ length l → P l n
+    go : (l : List ℕ) (n : ℕ) → decode_head l ≡ Ok (c, n) → 0 < n → n ≤ length l → P l n
     go l zero e h k = absurd (omega arith)
     go [] (suc m) e h k = absurd (omega arith)
     go (b ∷ bs) (suc m) e h k = f b bs m e
 
-chars_head : (l : List ℕ) (c n : ℕ) → decode_head l ≡ Char c n → chars l ≡ c ∷ chars (drop n l)
+chars_head : (l : List ℕ) (c n : ℕ) → decode_head l ≡ Ok (c, n) → chars l ≡ c ∷ chars (drop n l)
 unfolding chars_in
 chars_head l c n e =
     split_head (λ l n. chars l ≡ c ∷ chars (drop n l)) l c n e
     (λ b bs m p. rw p (ap {B = List ℕ} (λ r. c ∷ r) (chars_skip m bs)))
 
-check_head : (i : ℕ) (l : List ℕ) (c n : ℕ) → decode_head l ≡ Char c n → check_from i l ≡ check_from (i + n) (drop n l)
+check_head : (i : ℕ) (l : List ℕ) (c n : ℕ) → decode_head l ≡ Ok (c, n) → check_from i l ≡ check_from (i + n) (drop n l)
 unfolding check_in
 check_head i l c n e =
     split_head (λ l n. check_from i l ≡ check_from (i + n) (drop n l)) l c n e
     (λ b bs m p. rw p (check_skip (suc i) m bs ∙ ap (λ (j : ℕ). check_from j (drop m bs)) (omega arith)))
 
-check_bad : (i : ℕ) (l : List ℕ) → 0 < length l → decode_head l ≡ Bad → check_from i l ≡ Err (BadAt i)
+check_bad : (i : ℕ) (l : List ℕ) → 0 < length l → decode_head l ≡ Err Bad → check_from i l ≡ Err (BadAt i)
 unfolding check_in
 check_bad i [] h e = absurd (omega arith)
 check_bad i (b ∷ bs) h e = rw e
 
-check_cut : (i : ℕ) (l : List ℕ) → 0 < length l → decode_head l ≡ Cut → check_from i l ≡ Err (CutAt i)
+check_cut : (i : ℕ) (l : List ℕ) → 0 < length l → decode_head l ≡ Err Cut → check_from i l ≡ Err (CutAt i)
 unfolding check_in
 check_cut i [] h e = absurd (omega arith)
 check_cut i (b ∷ bs) h e = rw e
@@ -82,13 +81,13 @@ check_cut i (b ∷ bs) h e = rw e
 -- ---- the same at a place of the whole
 
 module _ (s : List ℕ) (i : ℕ) where
-  pub chars_at : (c n : ℕ) → read_at s i ≡ Char c n → chars (drop i s) ≡ c ∷ chars (drop (i + n) s)
+  pub chars_at : (c n : ℕ) → read_at s i ≡ Ok (c, n) → chars (drop i s) ≡ c ∷ chars (drop (i + n) s)
   chars_at c n e = rw (← drop-drop n i s) (chars_head (drop i s) c n e)
 
-  pub check_at : (c n : ℕ) → read_at s i ≡ Char c n → check_from i (drop i s) ≡ check_from (i + n) (drop (i + n) s)
+  pub check_at : (c n : ℕ) → read_at s i ≡ Ok (c, n) → check_from i (drop i s) ≡ check_from (i + n) (drop (i + n) s)
   check_at c n e = rw (← drop-drop n i s) (check_head i (drop i s) c n e)
 
-  pub at_char : (c n : ℕ) → read_at s i ≡ Char c n → At s i c n
+  pub at_char : (c n : ℕ) → read_at s i ≡ Ok (c, n) → At s i c n
   at_char c n e =
       let w = sound (drop i s) c n e in
       let h : n ≤ length s - i = rw length-drop at w.fits in
@@ -102,13 +101,13 @@ module _ (s : List ℕ) (i : ℕ) where
         step = chars_at c n e;
       }
 
-  pub bad_at : i < length s → read_at s i ≡ Bad → check_from i (drop i s) ≡ Err (BadAt i)
+  pub bad_at : i < length s → read_at s i ≡ Err Bad → check_from i (drop i s) ≡ Err (BadAt i)
   bad_at h e = check_bad i (drop i s) (rw length-drop (omega arith)) e
 
-  pub cut_at : i < length s → read_at s i ≡ Cut → check_from i (drop i s) ≡ Err (CutAt i)
+  pub cut_at : i < length s → read_at s i ≡ Err Cut → check_from i (drop i s) ≡ Err (CutAt i)
   cut_at h e = check_cut i (drop i s) (rw length-drop (omega arith)) e
 
-  pub end_cut : length s ≤ i → read_at s i ≡ Cut
+  pub end_cut : length s ≤ i → read_at s i ≡ Err Cut
   unfolding decode_head
   end_cut h = rw (drop_of_length-le s h)
 
@@ -122,17 +121,17 @@ module _ (s : List ℕ) (i : ℕ) where
 
 -- ---- ASCII: a byte below 128 is a character by itself, and a character below 128 is one byte
 
-pub ascii_at : (s : List ℕ) (i : ℕ) → i < length s → get_or s i 0 < 0x80 → read_at s i ≡ Char (get_or s i 0) 1
+pub ascii_at : (s : List ℕ) (i : ℕ) → i < length s → get_or s i 0 < 0x80 → read_at s i ≡ Ok (get_or s i 0, 1)
 ascii_at s i h k = ap decode_head (drop-cons s i 0 h) ∙ found1 (get_or s i 0) (drop (suc i) s) k
 
-pub ascii_byte : (s : List ℕ) (i c n : ℕ) → read_at s i ≡ Char c n → c < 0x80 → (get_or s i 0 ≡ c) × (n ≡ 1)
+pub ascii_byte : (s : List ℕ) (i c n : ℕ) → read_at s i ≡ Ok (c, n) → c < 0x80 → (get_or s i 0 ≡ c) × (n ≡ 1)
 ascii_byte s i c n e k =
     let w = sound (drop i s) c n e in
     let p : drop i s ≡ c ∷ drop n (drop i s) = w.bytes ∙ ap (λ (r : List ℕ). r ++ drop n (drop i s)) (encode1 c k) in
     let q : get_or s (i + 0) 0 ≡ c = sym (get_or-drop i s 0 0) ∙ ap (λ (r : List ℕ). get_or r 0 0) p in
     (rw add-zero at q, sym w.width ∙ ap length (encode1 c k))
 
-pub not_ascii : (s : List ℕ) (i c n : ℕ) → read_at s i ≡ Char c n → 0x80 ≤ get_or s i 0 → 0x80 ≤ c
+pub not_ascii : (s : List ℕ) (i c n : ℕ) → read_at s i ≡ Ok (c, n) → 0x80 ≤ get_or s i 0 → 0x80 ≤ c
 not_ascii s i c n e k = split_lt c 0x80 (λ h. omega (arith, (ascii_byte s i c n e h).0)) (λ h. h)
 
 -- ---- over the encoding of characters
@@ -176,9 +175,8 @@ chars_well l w = rw (own_chars l w) (w.same, w.scalars)
 
 -- no character
 abbrev pub Stops : Read → Type 0
-Stops (Char c n) = ⊥
-Stops Bad = Unit {0}
-Stops Cut = Unit {0}
+Stops (Ok _) = ⊥
+Stops (Err _) = Unit {0}
 
 pub record Stopped (l : List ℕ) : Type 0 where
   pub points : List ℕ
@@ -213,10 +211,10 @@ stopped_in (suc k) (b ∷ bs) = stopped_in k bs
 stopped_in zero (b ∷ bs) = go (decode_head (b ∷ bs)) refl (λ n. stopped_in n bs)
   where
     go : (r : Read) → decode_head (b ∷ bs) ≡ r → ((n : ℕ) → Stopped (drop n bs)) → Stopped (b ∷ bs)
-    go (Char c zero) p ih = absurd (omega (arith, (sound (b ∷ bs) c 0 p).some))
-    go (Char c (suc n)) p ih = stopped_later (b ∷ bs) c (suc n) (sound (b ∷ bs) c (suc n) p) (ih n)
-    go Bad p ih = stopped_here (b ∷ bs) (subst Stops (sym p) tt)
-    go Cut p ih = stopped_here (b ∷ bs) (subst Stops (sym p) tt)
+    go (Ok (c, zero)) p ih = absurd (omega (arith, (sound (b ∷ bs) c 0 p).some))
+    go (Ok (c, suc n)) p ih = stopped_later (b ∷ bs) c (suc n) (sound (b ∷ bs) c (suc n) p) (ih n)
+    go (Err Bad) p ih = stopped_here (b ∷ bs) (subst Stops (sym p) tt)
+    go (Err Cut) p ih = stopped_here (b ∷ bs) (subst Stops (sym p) tt)
 
 pub stopped : (l : List ℕ) → Stopped l
 stopped l = stopped_in 0 l
@@ -225,9 +223,9 @@ never_fine : (i : ℕ) (l : List ℕ) → 0 < length l → Stops (decode_head l)
 never_fine i l h s e = go (decode_head l) refl s
   where
     go : (r : Read) → decode_head l ≡ r → Stops r → ⊥
-    go (Char c n) p s = s
-    go Bad p s = let q = check_bad i l h p in let z : ◌≡◌ {A = ℕ} 0 1 = cc in omega arith
-    go Cut p s = let q = check_cut i l h p in let z : ◌≡◌ {A = ℕ} 0 1 = cc in omega arith
+    go (Ok (c, n)) p s = s
+    go (Err Bad) p s = let q = check_bad i l h p in let z : ◌≡◌ {A = ℕ} 0 1 = cc in omega arith
+    go (Err Cut) p s = let q = check_cut i l h p in let z : ◌≡◌ {A = ℕ} 0 1 = cc in omega arith
 
 pub well_of_fine : (i : ℕ) (l : List ℕ) → check_from i l ≡ Ok tt → WellFormed l
 well_of_fine i l e = let r = stopped l in go r.points r.scalars r.rest r.same r.stops
@@ -242,7 +240,7 @@ well_of_fine i l e = let r = stopped l in go r.points r.scalars r.rest r.same r.
 -- ---- inside well-formed bytes
 
 -- what follows a character is well formed again
-pub rest_at : (s : List ℕ) (i c n : ℕ) → WellFormed (drop i s) → read_at s i ≡ Char c n → WellFormed (drop (i + n) s)
+pub rest_at : (s : List ℕ) (i c n : ℕ) → WellFormed (drop i s) → read_at s i ≡ Ok (c, n) → WellFormed (drop (i + n) s)
 rest_at s i c n w e = well_of_fine (i + n) (drop (i + n) s) (sym (check_at s i c n e) ∙ fine_of_well i (drop i s) w)
 
 -- what stands behind some characters: they end inside, and the other characters are left

@@ -6,14 +6,13 @@
 --     found1 .. found4   bytes that pass the tests are read as that code point
 --     back2 .. back4     the bytes of an encoding stand for the code point that was encoded
 -- Assumes nothing.
-use Rattle.std.specs.Prelude.{ℕ, suc, ◌+◌, ◌*◌, ◌/◌, ◌%◌, ◌<◌, ◌≤◌, ◌≡◌, List, [], ◌∷◌, ◌++◌, Bool, true, length, drop}
+use Rattle.std.specs.Prelude.{ℕ, suc, ◌+◌, ◌*◌, ◌/◌, ◌%◌, ◌<◌, ◌≤◌, ◌≡◌, List, [], ◌∷◌, ◌++◌, Bool, true, length, drop, Ok}
 use Rattle.std.proofs.Common.{arith, eq-or-lt_of_le, sym, ◌∙◌, ⊎_elim, lt-ltb, le-ltb}
 use Rattle.base.specs.PickLaws.{by_lt, by_eq}
 use Rattle.base.specs.RangeLaws.{inside_is, is_inside}
 use Rattle.utf8.specs.Encode.{Scalar, encode}
 use Rattle.utf8.specs.EncodeLaws.{encode1, encode2, encode3, encode4}
 use Rattle.utf8.specs.Read.{seq_len, second_ok, code2, code3, code4, fourth, third, second, head_of, decode_head}
-use Rattle.utf8.specs.declared.Read.TheVariants.{Char}
 
 -- ---- what the tests on the bytes say
 
@@ -147,17 +146,17 @@ unfolding seq_len
 seq4 a h k =
     rw (le-ltb a 0x80 (omega arith), le-ltb a 0xc2 (omega arith), le-ltb a 0xe0 (omega arith), le-ltb a 0xf0 h, lt-ltb a 0xf5 k)
 
-pub found1 : (a : ℕ) (r : List ℕ) → a < 0x80 → decode_head (a ∷ r) ≡ Char a 1
+pub found1 : (a : ℕ) (r : List ℕ) → a < 0x80 → decode_head (a ∷ r) ≡ Ok (a, 1)
 unfolding decode_head head_of
 found1 a r h = rw (le-ltb (suc (length r)) 1 (omega arith), seq1 a h)
 
-pub found2 : (a b : ℕ) (r : List ℕ) → 0xc2 ≤ a → a < 0xe0 → Second a b → decode_head (a ∷ b ∷ r) ≡ Char (code2 a b) 2
+pub found2 : (a b : ℕ) (r : List ℕ) → 0xc2 ≤ a → a < 0xe0 → Second a b → decode_head (a ∷ b ∷ r) ≡ Ok (code2 a b, 2)
 unfolding decode_head head_of second
 found2 a b r h k s =
     let n = suc (suc (length r)) in
     rw (le-ltb n 1 (omega arith), seq2 a h k, le-ltb n 2 (omega arith), is_second a b s)
 
-pub found3 : (a b d : ℕ) (r : List ℕ) → 0xe0 ≤ a → a < 0xf0 → Second a b → 0x80 ≤ d → d ≤ 0xbf → decode_head (a ∷ b ∷ d ∷ r) ≡ Char (code3 a b d) 3
+pub found3 : (a b d : ℕ) (r : List ℕ) → 0xe0 ≤ a → a < 0xf0 → Second a b → 0x80 ≤ d → d ≤ 0xbf → decode_head (a ∷ b ∷ d ∷ r) ≡ Ok (code3 a b d, 3)
 unfolding decode_head head_of second third
 found3 a b d r h k s l m =
     let n = suc (suc (suc (length r))) in
@@ -165,7 +164,7 @@ found3 a b d r h k s l m =
     (le-ltb n 1 (omega arith), seq3 a h k, le-ltb n 2 (omega arith), is_second a b s, le-ltb n 3 (omega arith), is_inside d 0x80 0xbf l m)
 
 pub found4 : (a b d f : ℕ) (r : List ℕ) → 0xf0 ≤ a → a < 0xf5 → Second a b → 0x80 ≤ d → d ≤ 0xbf → 0x80 ≤ f → f ≤ 0xbf
-    → decode_head (a ∷ b ∷ d ∷ f ∷ r) ≡ Char (code4 a b d f) 4
+    → decode_head (a ∷ b ∷ d ∷ f ∷ r) ≡ Ok (code4 a b d f, 4)
 unfolding decode_head head_of second third fourth
 found4 a b d f r h k s l m o t =
     let n = suc (suc (suc (suc (length r)))) in

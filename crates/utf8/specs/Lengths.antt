@@ -1,17 +1,14 @@
 -- How many bytes a character has, and which one stands where its lead byte opens so many (RFC 3629, section 4, UTF8-1 to UTF8-4).
 -- Assumes nothing.
-use Rattle.std.specs.Prelude.{ℕ, ◌+◌, ◌-◌, ◌%◌, List, Bool, ◌&&◌, length, get_or, take, drop, leb, eqb}
+use Rattle.std.specs.Prelude.{ℕ, ◌+◌, ◌-◌, ◌%◌, List, Bool, ◌&&◌, length, get_or, take, drop, leb, eqb, Ok, Err}
 use Rattle.base.specs.Pick.{pick}
 use Rattle.base.specs.All.{all_good}
-use Rattle.utf8.specs.Read.{seq_len, second_ok, code2, code3, code4}
-use Rattle.utf8.specs.declared.Read.{Read}
-use Rattle.utf8.specs.declared.Read.TheVariants.{Char, Bad, Cut}
+use Rattle.utf8.specs.Read.{Read, seq_len, second_ok, code2, code3, code4}
 
 -- the bytes of the character that was read; 0 where there is none
 abbrev pub len_of : Read → ℕ
-len_of (Char c n) = n
-len_of Bad = 0
-len_of Cut = 0
+len_of (Ok (c, n)) = n
+len_of (Err _) = 0
 
 -- the lead byte opens n bytes, there are so many, and the second may follow it
 abbrev pub opens_by : List ℕ → ℕ → Bool
@@ -34,5 +31,5 @@ char_of n s i =
     let a = get_or s i 0 in
     let b = get_or s (i + 1) 0 in
     let c = get_or s (i + 2) 0 in
-    pick (eqb n 1) (Char a 1)
-    (pick (eqb n 2) (Char (code2 a b) 2) (pick (eqb n 3) (Char (code3 a b c) 3) (Char (code4 a b c (get_or s (i + 3) 0)) 4)))
+    pick (eqb n 1) (Ok (a, 1))
+    (pick (eqb n 2) (Ok (code2 a b, 2)) (pick (eqb n 3) (Ok (code3 a b c, 3)) (Ok (code4 a b c (get_or s (i + 3) 0), 4))))

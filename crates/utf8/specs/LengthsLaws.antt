@@ -3,7 +3,7 @@
 --     one_len, two_len, three_len   how long the first character is, by the tests on its bytes
 --     opens_room                    where `opens_by` holds there are so many bytes
 -- Assumes nothing.
-use Rattle.std.specs.Prelude.{ℕ, ◌<◌, ◌≤◌, ◌≡◌, List, Bool, ◌&&◌, length, get_or, drop, leb}
+use Rattle.std.specs.Prelude.{ℕ, ◌<◌, ◌≤◌, ◌≡◌, List, Bool, ◌&&◌, length, get_or, drop, leb, Ok, Err}
 use Rattle.std.proofs.Common.{arith, add-zero, sym, ◌∙◌, get_or-drop}
 use Rattle.std.proofs.Math.Path.{refl, ap}
 use Rattle.std.proofs.Math.Bool.{true, false, and_assoc}
@@ -12,22 +12,21 @@ use borrow.Author.Tests.{le-ltb, eq-eqb, ne_eqb, le-leb, lt-leb, leb-true}
 use Rattle.base.specs.Pick.{pick}
 use Rattle.base.specs.PickLaws.{by_test, by_lt, by_eq, split_lt, split_eq}
 use Rattle.base.specs.AllLaws.{and_left, and_right}
-use Rattle.utf8.specs.Read.{seq_len, second_ok, is_tail, code2, code3, code4, fourth, third, second, head_of, decode_head, read_at}
+use Rattle.utf8.specs.Read.{Read, seq_len, second_ok, is_tail, code2, code3, code4, fourth, third, second, head_of, decode_head, read_at}
 use Rattle.utf8.specs.ReadLaws.{sound}
 use Rattle.utf8.specs.Lengths.{len_of, opens_by, char_of}
-use Rattle.utf8.specs.declared.Read.{Read}
-use Rattle.utf8.specs.declared.Read.TheVariants.{Char, Bad, Cut}
+use Rattle.utf8.specs.declared.ReadError.TheVariants.{Bad, Cut}
 
 -- l begins with some character
 module _ (c n : ℕ) where
   -- so it is x, if it is r
   abbrev Only : Read → Read → Type 0
-  Only x r = r ≡ Char c n → r ≡ x
+  Only x r = r ≡ Ok (c, n) → r ≡ x
 
-  no_cut : (x : Read) → Only x Cut
+  no_cut : (x : Read) → Only x (Err Cut)
   no_cut x p = absurd (let z : ◌≡◌ {A = ℕ} 0 1 = cc in omega arith)
 
-  no_bad : (x : Read) → Only x Bad
+  no_bad : (x : Read) → Only x (Err Bad)
   no_bad x p = absurd (let z : ◌≡◌ {A = ℕ} 0 1 = cc in omega arith)
 
   either : (t : Bool) (x y r : Read) → Only y r → Only (pick t x y) (pick t x r)
@@ -39,13 +38,13 @@ module _ (c n : ℕ) where
     at k = get_or l k 0
 
     abbrev of4 : Read
-    of4 = Char (code4 (at 0) (at 1) (at 2) (at 3)) 4
+    of4 = Ok (code4 (at 0) (at 1) (at 2) (at 3), 4)
 
     abbrev of3 : ℕ → Read
-    of3 k = pick (eqb k 3) (Char (code3 (at 0) (at 1) (at 2)) 3) of4
+    of3 k = pick (eqb k 3) (Ok (code3 (at 0) (at 1) (at 2), 3)) of4
 
     abbrev of2 : ℕ → Read
-    of2 k = pick (eqb k 2) (Char (code2 (at 0) (at 1)) 2) (of3 k)
+    of2 k = pick (eqb k 2) (Ok (code2 (at 0) (at 1), 2)) (of3 k)
 
     fourth_only : Only of4 (fourth l)
     unfolding fourth
@@ -80,10 +79,10 @@ module _ (c n : ℕ) where
 -- how long the first character is
 module _ (l : List ℕ) where
   -- what it is not
-  not_len : (m : ℕ) → 0 < m → (r : Read) → decode_head l ≡ r → ((c : ℕ) → decode_head l ≡ Char c m → ⊥) → eqb (len_of r) m ≡ false
-  not_len m h (Char c n) e f = ne_eqb n m (λ q. f c (e ∙ ap (Char c) q))
-  not_len m h Bad e f = ne_eqb 0 m (λ q. omega arith)
-  not_len m h Cut e f = ne_eqb 0 m (λ q. omega arith)
+  not_len : (m : ℕ) → 0 < m → (r : Read) → decode_head l ≡ r → ((c : ℕ) → decode_head l ≡ Ok (c, m) → ⊥) → eqb (len_of r) m ≡ false
+  not_len m h (Ok (c, n)) e f = ne_eqb n m (λ q. f c (e ∙ ap {B = Read} (λ k. Ok (c, k)) q))
+  not_len m h (Err Bad) e f = ne_eqb 0 m (λ q. omega arith)
+  not_len m h (Err Cut) e f = ne_eqb 0 m (λ q. omega arith)
 
   cut_len : (m : ℕ) → 0 < m → length l < m → eqb (len_of (decode_head l)) m ≡ false
   cut_len m h k = not_len m h (decode_head l) refl (λ c e. omega (arith, (sound l c m e).fits))
@@ -122,7 +121,7 @@ module _ (l : List ℕ) where
         len_by_lem 2 (second_ok (get_or l 0 0) (get_or l 1 0)) (omega arith) (omega arith)
         (λ e h. rw (le-ltb (length l) 1 some, e, le-ltb (length l) 2 h) (tested (second_ok (get_or l 0 0) (get_or l 1 0))))
       where
-        tested : (t : Bool) → eqb (len_of (pick t (Char (code2 (get_or l 0 0) (get_or l 1 0)) 2) Bad)) 2 ≡ t
+        tested : (t : Bool) → eqb (len_of (pick t (Ok (code2 (get_or l 0 0) (get_or l 1 0), 2)) (Err Bad))) 2 ≡ t
         tested true = refl
         tested false = refl
 
@@ -136,12 +135,12 @@ module _ (l : List ℕ) where
         ∙ len_by_lem 3 (a && b) (omega arith) (omega arith)
         (λ e h. rw (le-ltb (length l) 1 some, e, le-ltb (length l) 2 (omega arith), le-ltb (length l) 3 h) (tested a b))
       where
-        tested : (t u : Bool) → eqb (len_of (pick t (pick u (Char (code3 (get_or l 0 0) (get_or l 1 0) (get_or l 2 0)) 3) Bad) Bad)) 3 ≡ (t && u)
+        tested : (t u : Bool) → eqb (len_of (pick t (pick u (Ok (code3 (get_or l 0 0) (get_or l 1 0) (get_or l 2 0), 3)) (Err Bad)) (Err Bad))) 3 ≡ (t && u)
         tested true true = refl
         tested true false = refl
         tested false u = refl
 
-pub char_read : (s : List ℕ) (i c n : ℕ) → read_at s i ≡ Char c n → read_at s i ≡ char_of (seq_len (get_or s i 0)) s i
+pub char_read : (s : List ℕ) (i c n : ℕ) → read_at s i ≡ Ok (c, n) → read_at s i ≡ char_of (seq_len (get_or s i 0)) s i
 char_read s i c n p =
     let first : get_or (drop i s) 0 0 ≡ get_or s i 0 = get_or-drop i s 0 0 ∙ ap (λ (k : ℕ). get_or s k 0) (add-zero i) in
     rw (first, get_or-drop i s 1 0, get_or-drop i s 2 0, get_or-drop i s 3 0) at (char_head c n (drop i s) p)

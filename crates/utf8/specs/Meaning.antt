@@ -3,8 +3,8 @@
 -- Assumes nothing.
 use Rattle.std.specs.Prelude.{ℕ, ◌+◌, ◌<◌, ◌≤◌, ◌≡◌, List, ◌++◌, length, take, drop, Result, Ok, Err}
 use Rattle.utf8.specs.Encode.{Scalar, encode, WellFormed, Begins}
-use Rattle.utf8.specs.declared.Read.{Read}
-use Rattle.utf8.specs.declared.Read.TheVariants.{Char, Bad, Cut}
+use Rattle.utf8.specs.Read.{Read}
+use Rattle.utf8.specs.declared.ReadError.TheVariants.{Bad, Cut}
 use Rattle.utf8.specs.declared.Utf8Error.{Utf8Error}
 use Rattle.utf8.specs.declared.Utf8Error.TheVariants.{BadAt, CutAt}
 
@@ -16,9 +16,9 @@ pub record CharAt (s : List ℕ) (i c n : ℕ) : Type 0 where
 
 -- r says what stands at the place i of s
 abbrev pub ReadIs : List ℕ → ℕ → Read → Type 0
-ReadIs s i (Char c n) = CharAt s i c n
-ReadIs s i Cut = Begins (drop i s)
-ReadIs s i Bad = ((c n : ℕ) → CharAt s i c n → ⊥) × (Begins (drop i s) → ⊥)
+ReadIs s i (Ok (c, n)) = CharAt s i c n
+ReadIs s i (Err Cut) = Begins (drop i s)
+ReadIs s i (Err Bad) = ((c n : ℕ) → CharAt s i c n → ⊥) × (Begins (drop i s) → ⊥)
 
 -- the first n bytes of s are well formed, they are not all, and no longer beginning of s is well formed
 pub record Longest (s : List ℕ) (n : ℕ) : Type 0 where

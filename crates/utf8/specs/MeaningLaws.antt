@@ -12,39 +12,38 @@ use Rattle.std.proofs.lemmas.List.{drop-append-le}
 use Rattle.base.specs.PickLaws.{split_lt}
 use Rattle.utf8.specs.Encode.{Scalars, encode, encode_all, WellFormed}
 use Rattle.utf8.specs.EncodeLaws.{one_well, more_well}
-use Rattle.utf8.specs.Read.{decode_head, read_at}
+use Rattle.utf8.specs.Read.{Read, decode_head, read_at}
 use Rattle.utf8.specs.ReadLaws.{complete, cut_begins, begins_cut}
 use Rattle.utf8.specs.Chars.{check_from}
 use Rattle.utf8.specs.CharsLaws.{at_char, bad_at, cut_at, check_past, Stops, stopped, fine_of_well, well_of_fine, never_stops}
 use Rattle.utf8.specs.Meaning.{CharAt, ReadIs, Longest, CheckIs}
-use Rattle.utf8.specs.declared.Read.{Read}
-use Rattle.utf8.specs.declared.Read.TheVariants.{Char, Bad, Cut}
+use Rattle.utf8.specs.declared.ReadError.TheVariants.{Bad, Cut}
 use Rattle.utf8.specs.declared.Utf8Error.{Utf8Error}
 use Rattle.utf8.specs.declared.Utf8Error.TheVariants.{BadAt, CutAt}
 
 -- ---- one character
 
 module _ (s : List ℕ) (i : ℕ) where
-  is_char : (c n : ℕ) → CharAt s i c n → read_at s i ≡ Char c n
-  is_char c n w = rw w.bytes (complete c (drop (i + n) s) w.scalar ∙ ap (Char c) w.width)
+  is_char : (c n : ℕ) → CharAt s i c n → read_at s i ≡ Ok (c, n)
+  is_char c n w = rw w.bytes (complete c (drop (i + n) s) w.scalar ∙ ap {B = Read} (λ k. Ok (c, k)) w.width)
 
   pub read_is : (r : Read) → read_at s i ≡ r → ReadIs s i r
-  read_is (Char c n) e = let a = at_char s i c n e in record { scalar = a.scalar; width = a.width; bytes = a.bytes }
-  read_is Cut e = cut_begins (drop i s) e
-  read_is Bad e = (
+  read_is (Ok (c, n)) e = let a = at_char s i c n e in record { scalar = a.scalar; width = a.width; bytes = a.bytes }
+  read_is (Err Cut) e = cut_begins (drop i s) e
+  read_is (Err Bad) e = (
     λ c n w. let f = is_char c n w in let z : ◌≡◌ {A = ℕ} 0 1 = cc in omega arith,
     λ b. let f = begins_cut (drop i s) b in let z : ◌≡◌ {A = ℕ} 0 1 = cc in omega arith,
   )
 
   pub is_read : (r : Read) → ReadIs s i r → read_at s i ≡ r
-  is_read (Char c n) w = is_char c n w
-  is_read Cut b = begins_cut (drop i s) b
-  is_read Bad w = go (read_at s i) refl
+  is_read (Ok (c, n)) w = is_char c n w
+  is_read (Err Cut) b = begins_cut (drop i s) b
+  is_read (Err Bad) w = go (read_at s i) refl
     where
-      go : (r : Read) → read_at s i ≡ r → read_at s i ≡ Bad
-      go (Char c n) e = absurd (w.0 c n (read_is (Char c n) e))
-      go Cut e = absurd (w.1 (read_is Cut e))
-      go Bad e = e
+      go : (r : Read) → read_at s i ≡ r → read_at s i ≡ Err Bad
+      go (Ok (c, n)) e = absurd (w.0 c n (read_is (Ok (c, n)) e))
+      go (Err Cut) e = absurd (w.1 (read_is (Err Cut) e))
+      go (Err Bad) e = e
 
   pub one_read : (r q : Read) → ReadIs s i r → ReadIs s i q → r ≡ q
   one_read r q v w = sym (is_read r v) ∙ is_read q w
@@ -63,7 +62,7 @@ rest_well : (s : List ℕ) (n : ℕ) → n ≤ length s → WellFormed (take n s
 rest_well s n h v w = well_of_fine n (drop n s) (sym (check_behind s n h v) ∙ fine_of_well 0 s w)
 
 -- a character that stands at n in the first m bytes stands there in all
-char_in_all : (s : List ℕ) (n m c k : ℕ) → n ≤ m → m ≤ length s → read_at (take m s) n ≡ Char c k → read_at s n ≡ Char c (length (encode c))
+char_in_all : (s : List ℕ) (n m c k : ℕ) → n ≤ m → m ≤ length s → read_at (take m s) n ≡ Ok (c, k) → read_at s n ≡ Ok (c, length (encode c))
 char_in_all s n m c k h l e =
     let a = at_char (take m s) n c k e in
     let behind : drop n s ≡ encode c ++ (drop (n + k) (take m s) ++ drop m s) =
@@ -85,12 +84,12 @@ longest s n v h t = record { well = v; short = h; none_longer = longer }
         go (read_at (take m s) n) refl (λ u. never_stops (take m s) n rest (omega arith) u)
       where
         go : (r : Read) → read_at (take m s) n ≡ r → (Stops (read_at (take m s) n) → ⊥) → ⊥
-        go (Char c j) e f = subst Stops (char_in_all s n m c j (omega arith) l e) t
-        go Bad e f = f (subst Stops (sym e) tt)
-        go Cut e f = f (subst Stops (sym e) tt)
+        go (Ok (c, j)) e f = subst Stops (char_in_all s n m c j (omega arith) l e) t
+        go (Err Bad) e f = f (subst Stops (sym e) tt)
+        go (Err Cut) e f = f (subst Stops (sym e) tt)
 
 -- where a character stands behind a well-formed beginning, there is a longer one
-longer_by_char : (s : List ℕ) (n c k : ℕ) → WellFormed (take n s) → read_at s n ≡ Char c k → WellFormed (take (n + k) s)
+longer_by_char : (s : List ℕ) (n c k : ℕ) → WellFormed (take n s) → read_at s n ≡ Ok (c, k) → WellFormed (take (n + k) s)
 longer_by_char s n c k v e =
     let a = at_char s n c k e in
     rw (take-add n k s, a.bytes, take_at (encode c) (drop (n + k) s) k a.width) (more_well v (one_well c a.scalar))
@@ -101,9 +100,9 @@ module _ (s : List ℕ) where
   stuck n w h t = go (read_at s n) refl
     where
       go : (r : Read) → read_at s n ≡ r → CheckIs s (check_from 0 s)
-      go (Char c k) e = absurd (subst Stops e t)
-      go Bad e = rw (check_behind s n (omega arith) w, bad_at s n h e) (record { before = longest s n w h t; begins_none = (read_is s n Bad e).1 })
-      go Cut e = rw (check_behind s n (omega arith) w, cut_at s n h e) (record { before = longest s n w h t; begins = read_is s n Cut e })
+      go (Ok (c, k)) e = absurd (subst Stops e t)
+      go (Err Bad) e = rw (check_behind s n (omega arith) w, bad_at s n h e) (record { before = longest s n w h t; begins_none = (read_is s n (Err Bad) e).1 })
+      go (Err Cut) e = rw (check_behind s n (omega arith) w, cut_at s n h e) (record { before = longest s n w h t; begins = read_is s n (Err Cut) e })
 
   answer : (cs : List ℕ) → Scalars cs → (rest : List ℕ) → s ≡ encode_all cs ++ rest → Stops (decode_head rest) → CheckIs s (check_from 0 s)
   answer cs w [] p t =
@@ -119,7 +118,7 @@ module _ (s : List ℕ) where
   pub check_is : (r : Result (Unit {0}) Utf8Error) → check_from 0 s ≡ r → CheckIs s r
   check_is r e = let t = stopped s in subst (CheckIs s) e (answer t.points t.scalars t.rest t.same t.stops)
 
-  stops_at : (n : ℕ) → Longest s n → (c k : ℕ) → read_at s n ≡ Char c k → ⊥
+  stops_at : (n : ℕ) → Longest s n → (c k : ℕ) → read_at s n ≡ Ok (c, k) → ⊥
   stops_at n g c k e =
       let a = at_char s n c k e in
       g.none_longer (n + k) (omega (arith, a.some)) a.fits (longer_by_char s n c k g.well e)
@@ -132,7 +131,7 @@ module _ (s : List ℕ) where
   is_check (Err (BadAt n)) w =
       let g = w.before in
       check_behind s n (omega (arith, g.short)) g.well
-      ∙ bad_at s n g.short (is_read s n Bad (λ c k v. stops_at n g c k (is_read s n (Char c k) v), w.begins_none))
+      ∙ bad_at s n g.short (is_read s n (Err Bad) (λ c k v. stops_at n g c k (is_read s n (Ok (c, k)) v), w.begins_none))
 
   pub one_check : (r q : Result (Unit {0}) Utf8Error) → CheckIs s r → CheckIs s q → r ≡ q
   one_check r q v w = sym (is_check r v) ∙ is_check q w

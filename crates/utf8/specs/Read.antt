@@ -2,11 +2,15 @@
 -- The first byte says how many there are; then each is tested, and where the bytes end before it, they are cut.
 -- That this finds exactly what section 3 encodes is proved in `ReadLaws` and `MeaningLaws`.
 -- Assumes nothing.
-use Rattle.std.specs.Prelude.{ℕ, ◌+◌, ◌*◌, ◌%◌, List, Bool, length, get_or, drop, ltb, eqb}
+use Rattle.std.specs.Prelude.{ℕ, ◌+◌, ◌*◌, ◌%◌, List, Bool, length, get_or, drop, ltb, eqb, Ok, Err, Result}
 use Rattle.base.specs.Pick.{pick}
 use Rattle.base.specs.Range.{inside}
-use Rattle.utf8.specs.declared.Read.{Read}
-use Rattle.utf8.specs.declared.Read.TheVariants.{Char, Bad, Cut}
+use Rattle.utf8.specs.declared.ReadError.{ReadError}
+use Rattle.utf8.specs.declared.ReadError.TheVariants.{Bad, Cut}
+
+-- what stands at a place: a character, as its code point and how many bytes it has, or why there is none
+abbrev pub Read : Type 0
+Read = Result (ℕ × ℕ) ReadError
 
 -- how many bytes a character has that opens with the byte a; 0: none does
 unfoldable pub seq_len : ℕ → ℕ
@@ -52,30 +56,30 @@ code4 a b c d = a % 8 * 262144 + b % 64 * 4096 + c % 64 * 64 + d % 64
 -- l from its fourth byte on, which is the last
 unfoldable pub fourth : List ℕ → Read
 fourth l =
-    pick (ltb (length l) 4) Cut
-    (pick (is_tail (get_or l 3 0)) (Char (code4 (get_or l 0 0) (get_or l 1 0) (get_or l 2 0) (get_or l 3 0)) 4) Bad)
+    pick (ltb (length l) 4) (Err Cut)
+    (pick (is_tail (get_or l 3 0)) (Ok (code4 (get_or l 0 0) (get_or l 1 0) (get_or l 2 0) (get_or l 3 0), 4)) (Err Bad))
 
 -- l from its third byte on, of n
 unfoldable pub third : ℕ → List ℕ → Read
 third n l =
-    pick (ltb (length l) 3) Cut
+    pick (ltb (length l) 3) (Err Cut)
     (pick (is_tail (get_or l 2 0))
-    (pick (eqb n 3) (Char (code3 (get_or l 0 0) (get_or l 1 0) (get_or l 2 0)) 3) (fourth l))
-    Bad)
+    (pick (eqb n 3) (Ok (code3 (get_or l 0 0) (get_or l 1 0) (get_or l 2 0), 3)) (fourth l))
+    (Err Bad))
 
 -- l from its second byte on, of n
 unfoldable pub second : ℕ → List ℕ → Read
 second n l =
-    pick (ltb (length l) 2) Cut
-    (pick (second_ok (get_or l 0 0) (get_or l 1 0)) (pick (eqb n 2) (Char (code2 (get_or l 0 0) (get_or l 1 0)) 2) (third n l)) Bad)
+    pick (ltb (length l) 2) (Err Cut)
+    (pick (second_ok (get_or l 0 0) (get_or l 1 0)) (pick (eqb n 2) (Ok (code2 (get_or l 0 0) (get_or l 1 0), 2)) (third n l)) (Err Bad))
 
 -- l, whose first byte opens a character of n bytes
 unfoldable pub head_of : ℕ → List ℕ → Read
-head_of n l = pick (eqb n 0) Bad (pick (eqb n 1) (Char (get_or l 0 0) 1) (second n l))
+head_of n l = pick (eqb n 0) (Err Bad) (pick (eqb n 1) (Ok (get_or l 0 0, 1)) (second n l))
 
 -- the first character of l. The empty list begins every character
 unfoldable pub decode_head : List ℕ → Read
-decode_head l = pick (ltb (length l) 1) Cut (head_of (seq_len (get_or l 0 0)) l)
+decode_head l = pick (ltb (length l) 1) (Err Cut) (head_of (seq_len (get_or l 0 0)) l)
 
 -- what stands at the place i of s
 abbrev pub read_at : List ℕ → ℕ → Read

@@ -5,7 +5,7 @@
 --     begins_cut    where they are, it answers `Cut`
 -- What follows of `Bad`, and that no second answer fits, is in `MeaningLaws`.
 -- Assumes nothing.
-use Rattle.std.specs.Prelude.{ℕ, suc, ◌+◌, ◌/◌, ◌%◌, ◌<◌, ◌≤◌, ◌≡◌, ◌⊎◌, Bool, true, false, ltb, eqb, length, get_or, drop}
+use Rattle.std.specs.Prelude.{ℕ, suc, ◌+◌, ◌/◌, ◌%◌, ◌<◌, ◌≤◌, ◌≡◌, ◌⊎◌, Bool, true, false, ltb, eqb, length, get_or, drop, Ok, Err}
 use Rattle.std.proofs.Common.{arith, sym, ap, ◌∙◌, inl, ⊎_elim, length-append, drop_of_length-le, drop-cons, le-ltb}
 use Rattle.std.proofs.Math.Path.{refl, subst}
 use Rattle.std.proofs.Math.Logic.{inr}
@@ -17,10 +17,9 @@ use Rattle.base.specs.PickLaws.{by_test, by_lt, by_eq, split_lt, split_eq}
 use Rattle.base.specs.RangeLaws.{inside_is}
 use Rattle.utf8.specs.Encode.{Scalar, encode, Begins}
 use Rattle.utf8.specs.EncodeLaws.{begins_less}
-use Rattle.utf8.specs.Read.{seq_len, second_ok, is_tail, code2, code3, code4, fourth, third, second, head_of, decode_head}
+use Rattle.utf8.specs.Read.{Read, seq_len, second_ok, is_tail, code2, code3, code4, fourth, third, second, head_of, decode_head}
 use Rattle.utf8.specs.GrammarLaws.{lead, Second, second_is_lem, Sound, sound1, sound2, sound3, sound4, found1, found2, found3, found4, back2, back3, back4}
-use Rattle.utf8.specs.declared.Read.{Read}
-use Rattle.utf8.specs.declared.Read.TheVariants.{Char, Bad, Cut}
+use Rattle.utf8.specs.declared.ReadError.TheVariants.{Bad, Cut}
 
 -- ---- bytes that are cut begin a character: a byte that may follow is put after them, until there are enough
 
@@ -71,9 +70,9 @@ cut0 = record { code = 0; scalar = omega arith; more = 0 ∷ []; left = omega ar
 -- ---- what each answer says of the bytes
 
 abbrev Good : List ℕ → Read → Type 0
-Good l (Char c n) = Sound l c n
-Good l Bad = Unit {0}
-Good l Cut = Begins l
+Good l (Ok (c, n)) = Sound l c n
+Good l (Err Bad) = Unit {0}
+Good l (Err Cut) = Begins l
 
 module _ (l : List ℕ) where
   abbrev at : ℕ → ℕ
@@ -155,20 +154,20 @@ module _ (l : List ℕ) where
   unfolding decode_head
   good = by_lt (Good l) (length l) 1 (λ h. subst Begins (sym (none 0 h)) cut0) (λ h. good1 (seq_len (at 0)) refl h)
 
-  pub sound : (c n : ℕ) → decode_head l ≡ Char c n → Sound l c n
+  pub sound : (c n : ℕ) → decode_head l ≡ Ok (c, n) → Sound l c n
   sound c n e = subst (Good l) e good
 
-  pub cut_begins : decode_head l ≡ Cut → Begins l
+  pub cut_begins : decode_head l ≡ Err Cut → Begins l
   cut_begins e = subst (Good l) e good
 
 -- ---- what is right is found
 
-pub complete : (c : ℕ) (r : List ℕ) → Scalar c → decode_head (encode c ++ r) ≡ Char c (length (encode c))
+pub complete : (c : ℕ) (r : List ℕ) → Scalar c → decode_head (encode c ++ r) ≡ Ok (c, length (encode c))
 unfolding encode
 complete c r w =
     by_lt P c 0x80 (λ h. found1 c r h)
     (λ h. by_lt P c 0x800
-    (λ k. found2 (0xc0 + c / 64) (0x80 + c % 64) r (omega arith) (omega arith) (omega arith) ∙ ap (λ (x : ℕ). Char x 2) (back2 c k))
+    (λ k. found2 (0xc0 + c / 64) (0x80 + c % 64) r (omega arith) (omega arith) (omega arith) ∙ ap {B = Read} (λ x. Ok (x, 2)) (back2 c k))
     (λ k. by_lt P c 0x10000
     (λ m. found3 (0xe0 + c / 4096) (0x80 + c / 64 % 64) (0x80 + c % 64) r (omega arith) (omega arith)
     (record {
@@ -180,27 +179,27 @@ complete c r w =
       f4 = omega arith;
     })
     (omega arith) (omega arith)
-    ∙ ap (λ (x : ℕ). Char x 3) (back3 c m))
+    ∙ ap {B = Read} (λ x. Ok (x, 3)) (back3 c m))
     (λ m. found4 (0xf0 + c / 262144) (0x80 + c / 4096 % 64) (0x80 + c / 64 % 64) (0x80 + c % 64) r (omega arith) (omega arith) (omega arith)
     (omega arith) (omega arith) (omega arith) (omega arith)
-    ∙ ap (λ (x : ℕ). Char x 4) (back4 c w.small))))
+    ∙ ap {B = Read} (λ x. Ok (x, 4)) (back4 c w.small))))
   where
     P : List ℕ → Type 0
-    P l = decode_head (l ++ r) ≡ Char c (length l)
+    P l = decode_head (l ++ r) ≡ Ok (c, length l)
 
 -- ---- what begins a character is cut: more bytes change no other answer
 
 abbrev Stays : Read → Read → Type 0
-Stays r q = (r ≡ Cut) ⊎ (q ≡ r)
+Stays r q = (r ≡ Err Cut) ⊎ (q ≡ r)
 
 both : (t : Bool) {a b c d : Read} → (t ≡ true → Stays a c) → (t ≡ false → Stays b d) → Stays (pick t a b) (pick t c d)
 both true f g = f refl
 both false f g = g refl
 
 module _ (l m : List ℕ) where
-  long : (k : ℕ) {a b : Read} → (k ≤ length l → Stays a b) → Stays (pick (ltb (length l) k) Cut a) (pick (ltb (length (l ++ m)) k) Cut b)
+  long : (k : ℕ) {a b : Read} → (k ≤ length l → Stays a b) → Stays (pick (ltb (length l) k) (Err Cut) a) (pick (ltb (length (l ++ m)) k) (Err Cut) b)
   long k {a} {b} f =
-      by_lt (λ (r : Read). Stays r (pick (ltb (length (l ++ m)) k) Cut b)) (length l) k (λ h. inl refl)
+      by_lt (λ (r : Read). Stays r (pick (ltb (length (l ++ m)) k) (Err Cut) b)) (length l) k (λ h. inl refl)
       (λ h. rw (le-ltb (length (l ++ m)) k (omega (arith, length-append l m))) (f h))
 
   same : (k : ℕ) → k < length l → get_or (l ++ m) k 0 ≡ get_or l k 0
@@ -235,11 +234,11 @@ module _ (l m : List ℕ) where
       (both (eqb (seq_len (get_or l 0 0)) 0) (λ e. inr refl)
       (λ e. both (eqb (seq_len (get_or l 0 0)) 1) (λ f. inr refl) (λ f. stays2 (seq_len (get_or l 0 0))))))
 
-pub begins_cut : (l : List ℕ) → Begins l → decode_head l ≡ Cut
+pub begins_cut : (l : List ℕ) → Begins l → decode_head l ≡ Err Cut
 begins_cut l b =
     let c = b.code in
     let n = length (encode c) in
-    let whole : decode_head (l ++ b.more) ≡ Char c n = ap decode_head (sym b.same ∙ sym (append-nil (encode c))) ∙ complete c [] b.scalar in
+    let whole : decode_head (l ++ b.more) ≡ Ok (c, n) = ap decode_head (sym b.same ∙ sym (append-nil (encode c))) ∙ complete c [] b.scalar in
     ⊎_elim (λ e. e)
     (λ e. let w = sound l c n (sym e ∙ whole) in
     absurd (omega (arith, w.fits, b.left, ap length b.same, length-append l b.more)))

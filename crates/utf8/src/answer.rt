@@ -3,39 +3,37 @@ ghost use Rattle.std.specs.Prelude.{◌≡◌};
 ghost use Rattle.utf8.specs.Lengths.{len_of};
 ghost use Rattle.utf8.specs.Answer.{read_number, code_of, number_of, place_of};
 
-use crate::{Read, Utf8Error};
+use crate::{ReadError, Utf8Error};
 use base::refusals::{BAD_UTF8, CUT_UTF8, NO_REFUSAL};
 
 // The number of a reading's refusal; 0 where there is none.
-pub fn read_number(read: Read) -> u32
+pub fn read_number(read: Result<(u32, usize), ReadError>) -> u32
     ensures { result ≡ read_number read }
 {
     match read {
-        Read::Char { code: _, len: _ } => NO_REFUSAL,
-        Read::Bad => BAD_UTF8,
-        Read::Cut => CUT_UTF8,
+        Ok(_) => NO_REFUSAL,
+        Err(ReadError::Bad) => BAD_UTF8,
+        Err(ReadError::Cut) => CUT_UTF8,
     }
 }
 
 // The code point; 0 where there is no character.
-pub fn read_code(read: Read) -> u32
+pub fn read_code(read: Result<(u32, usize), ReadError>) -> u32
     ensures { result ≡ code_of read }
 {
     match read {
-        Read::Char { code, len: _ } => code,
-        Read::Bad => 0,
-        Read::Cut => 0,
+        Ok((code, _)) => code,
+        Err(_) => 0,
     }
 }
 
 // How many bytes it has; 0 where there is no character.
-pub fn read_len(read: Read) -> usize
+pub fn read_len(read: Result<(u32, usize), ReadError>) -> usize
     ensures { result ≡ len_of read }
 {
     match read {
-        Read::Char { code: _, len } => len,
-        Read::Bad => 0,
-        Read::Cut => 0,
+        Ok((_, len)) => len,
+        Err(_) => 0,
     }
 }
 

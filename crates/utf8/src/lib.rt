@@ -15,11 +15,9 @@ use base::between;
 // How many bytes are passed at once where each is a character of its own.
 const BLOCK: usize = 128;
 
-// What stands at a place.
-#[derive(Clone, Copy)]
-pub enum Read {
-    // A character: its code point, and how many bytes it has.
-    Char { code: u32, len: usize },
+// Why no character stands at a place.
+#[derive(Clone, Copy, Debug, PartialEq, Eq)]
+pub enum ReadError {
     // No character begins with these bytes.
     Bad,
     // The bytes to the end are a proper beginning of a character; where there is none left, that is a beginning of every character.
@@ -89,86 +87,78 @@ pub fn join4(a: u8, b: u8, c: u8, d: u8) -> u32
 }
 
 // From the fourth byte on: the three before it are right.
-fn read_fourth(l: &[u8]) -> Read
+#[tactic(auto, unfolding(crate::specs::Read::fourth))]
+fn read_fourth(l: &[u8]) -> Result<(u32, usize), ReadError>
     ensures { result ≡ fourth l.now }
 {
     if l.len() < 4 {
-        return Read::Cut;
+        return Err(ReadError::Cut);
     }
     if !between(l[3], 0x80, 0xbf) {
-        return Read::Bad;
+        return Err(ReadError::Bad);
     }
-    Read::Char {
-        code: join4(l[0], l[1], l[2], l[3]),
-        len: 4,
-    }
+    Ok((join4(l[0], l[1], l[2], l[3]), 4))
 }
 
 // From the third byte on: the two before it are right, and the sequence has n bytes.
-fn read_third(n: usize, l: &[u8]) -> Read
+#[tactic(auto, unfolding(crate::specs::Read::third))]
+fn read_third(n: usize, l: &[u8]) -> Result<(u32, usize), ReadError>
     ensures { result ≡ third n l.now }
 {
     if l.len() < 3 {
-        return Read::Cut;
+        return Err(ReadError::Cut);
     }
     if !between(l[2], 0x80, 0xbf) {
-        return Read::Bad;
+        return Err(ReadError::Bad);
     }
     if n == 3 {
-        return Read::Char {
-            code: join3(l[0], l[1], l[2]),
-            len: 3,
-        };
+        return Ok((join3(l[0], l[1], l[2]), 3));
     }
     read_fourth(l)
 }
 
 // From the second byte on: the first opens a sequence of n bytes.
-fn read_second(n: usize, l: &[u8]) -> Read
+#[tactic(auto, unfolding(crate::specs::Read::second))]
+fn read_second(n: usize, l: &[u8]) -> Result<(u32, usize), ReadError>
     ensures { result ≡ second n l.now }
 {
     if l.len() < 2 {
-        return Read::Cut;
+        return Err(ReadError::Cut);
     }
     if !second_ok(l[0], l[1]) {
-        return Read::Bad;
+        return Err(ReadError::Bad);
     }
     if n == 2 {
-        return Read::Char {
-            code: join2(l[0], l[1]),
-            len: 2,
-        };
+        return Ok((join2(l[0], l[1]), 2));
     }
     read_third(n, l)
 }
 
 // The first character of l: its lead byte says how long it is, before any other byte is tested.
-fn read_head(l: &[u8]) -> Read
+#[tactic(auto, unfolding(crate::specs::Read::decode_head, crate::specs::Read::head_of))]
+fn read_head(l: &[u8]) -> Result<(u32, usize), ReadError>
     ensures { result ≡ decode_head l.now }
 {
     if l.len() < 1 {
-        return Read::Cut;
+        return Err(ReadError::Cut);
     }
     let a = l[0];
     let n = lead_len(a);
     if n == 0 {
-        return Read::Bad;
+        return Err(ReadError::Bad);
     }
     if n == 1 {
-        return Read::Char {
-            code: a as u32,
-            len: 1,
-        };
+        return Ok((a as u32, 1));
     }
     read_second(n, l)
 }
 
-// What stands at a place of s. At the end of s and past it nothing is left, which is `Cut`.
-pub fn read_char(s: &[u8], at: usize) -> Read
+// The character at a place of s: its code point, and how many bytes it has. At the end of s and past it nothing is left, which is `Cut`.
+pub fn read_char(s: &[u8], at: usize) -> Result<(u32, usize), ReadError>
     ensures { result ≡ read_at s.now at }
 {
     if s.len() <= at {
-        return Read::Cut;
+        return Err(ReadError::Cut);
     }
     read_head(&s[at..])
 }
@@ -255,13 +245,13 @@ pub fn check_utf8(s: &[u8]) -> Result<(), Utf8Error>
             continue;
         }
         match read_char(s, i) {
-            Read::Char { code: _, len } => {
+            Ok((_, len)) => {
                 i += len;
             }
-            Read::Bad => {
+            Err(ReadError::Bad) => {
                 return Err(Utf8Error::BadAt(i));
             }
-            Read::Cut => {
+            Err(ReadError::Cut) => {
                 return Err(Utf8Error::CutAt(i));
             }
         }

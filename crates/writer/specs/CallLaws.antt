@@ -3,10 +3,14 @@
 --     fill_fits_lem, fill_unfit, no_fill    whether a string is written, by the fill
 --     same_test, not_one    a string under a test
 --     refused, no_options_lem, told    what `write_format` ensures, by what it asks
+--     given_if         a fill that is not given is not looked at
 --     one_answer       no second answer and no second buffer fit
 --     kept             a refusal leaves the buffer
 -- Assumes nothing.
-use Rattle.std.specs.Prelude.{ℕ, ◌+◌, ◌<◌, ◌≤◌, ◌≡◌, List, [], ◌++◌, Bool, true, false, leb, length, Result, Ok, Err}
+use Rattle.std.specs.Prelude.{ℕ, ◌+◌, ◌<◌, ◌≤◌, ◌≡◌, List, [], ◌++◌, Bool, true, false, leb, length, is_some, unwrap_or, Result, Ok, Err}
+use Rattle.std.specs.Bool.{then_some}
+use Rattle.std.specs.Option.{option_copied}
+use Rattle.std.specs.Borrow.{Bor}
 use Rattle.std.proofs.Common.{arith, ap, ◌∙◌, length-append, lt-ltb, le-ltb, le-leb}
 use Rattle.std.proofs.Math.Path.{refl, sym, subst}
 use Rattle.std.proofs.lemmas.Bool.{lt-leb}
@@ -136,3 +140,11 @@ module _ (alignment width precision representation : ℕ) (given : Bool) (fill t
       go : (a : Result ℕ WriteError) → (number_of a ≡ none → ⊥) → buffer_after a format old ≡ old
       go (Ok k) n = absurd (n refl)
       go (Err e) n = refl
+
+module _ (alignment width precision representation : ℕ) (fill : Bor (List ℕ)) (table : List ℕ) (edition : ℕ) (old new : List ℕ) (r : Result ℕ WriteError) where
+  abbrev pub WritesWith : Bool → List ℕ → Type 0
+  WritesWith given bytes = Writes alignment width precision representation given bytes table edition old new r
+
+  pub given_if : (given : Bool) → WritesWith (is_some (then_some given fill)) (unwrap_or (option_copied (then_some given fill)) []) → WritesWith given fill.now
+  given_if true v = v
+  given_if false v = record { answer = v.answer; contents = v.contents }

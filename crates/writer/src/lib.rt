@@ -5,7 +5,8 @@
 
 pub mod answer;
 
-ghost use Rattle.std.specs.Prelude.{◌≡◌, true, ◌≤◌, length, ◌++◌, leb};
+ghost use Rattle.std.specs.Prelude.{◌≡◌, true, ◌≤◌, [], length, ◌++◌, leb, is_some, unwrap_or};
+ghost use Rattle.std.specs.Option.{option_copied};
 ghost use Rattle.property.specs.Table.{properties_at};
 ghost use Rattle.fitness.specs.Fit.{FitTable};
 ghost use Rattle.base.specs.Refusal.{format_most};
@@ -82,13 +83,13 @@ pub fn write_format(
     width: u64,
     precision: u64,
     representation: u64,
-    filled: bool,
-    fill: &[u8],
+    fill: Option<&[u8]>,
     table: &[u32],
     edition: u32,
     buffer: &mut [u8],
 ) -> Result<usize, WriteError>
-    ensures { Writes alignment width precision representation filled fill.now table.now edition
+    ensures { Writes alignment width precision representation
+        (is_some fill.entry) (unwrap_or (option_copied fill.entry) []) table.now edition
         buffer.old buffer.new result }
 {
     check_input(b"", table, edition, 0)?;
@@ -96,8 +97,8 @@ pub fn write_format(
         return Err(WriteError::NoSuchFormat);
     }
     let fields = fields_of(alignment, width, precision, representation);
-    if filled {
-        return write_filled(fields, fill, table, edition, buffer);
+    match fill {
+        Some(fill) => write_filled(fields, fill, table, edition, buffer),
+        None => put_format(fields, b"", buffer),
     }
-    put_format(fields, b"", buffer)
 }

@@ -10,14 +10,14 @@ pub returns-in_default : goal.returns-in_default
 returns-in_default c =
     let a = c.args in
     sym (no_chars (properties_at a.table.now) a.edition a.fields a.fill.now
-    (subst Stops c.read_char.ensures (stopped c.read_char.result c.in_default.not-Char)))
+    (subst Stops c.read_char.ensures (stopped c.read_char.result c.in_default.not-Ok)))
 
 pub returns-then-next-eq-NO_CHAR : goal.returns-then-next-eq-NO_CHAR
 returns-then-next-eq-NO_CHAR c =
     c.one_fits.ensures
-    ∙ sym (one_char c.args.fill.now _ _ c.requires.0 (sym c.read_char.ensures ∙ c.in-Char.is)
+    ∙ sym (one_char c.args.fill.now _ _ c.requires.0 (sym c.read_char.ensures ∙ c.in-Ok.is)
     (properties_at c.args.table.now) c.args.edition c.args.fields (sym c.peek-next.ensures ∙ c.if-next-eq-NO_CHAR.true))
 
 pub many_fits-requires : goal.many_fits-requires
 many_fits-requires c =
-    (begins c.args.fill.now _ _ c.requires.0 (sym c.read_char.ensures ∙ c.in-Char.is) _ c.peek-next.ensures c.if-next-eq-NO_CHAR.false, c.requires.0, c.requires.1)
+    (begins c.args.fill.now _ _ c.requires.0 (sym c.read_char.ensures ∙ c.in-Ok.is) _ c.peek-next.ensures c.if-next-eq-NO_CHAR.false, c.requires.0, c.requires.1)

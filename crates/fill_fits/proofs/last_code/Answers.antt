@@ -6,21 +6,21 @@ use Rattle.utf8.specs.CharsLaws.{Stops}
 use Rattle.utf8.proofs.Tags.{stopped}
 use Rattle.fill_fits.proofs.Last.{Last, last_start, last_more, last_all}
 use Rattle.fill_fits.proofs.last_code.Goals as goal
-use Rattle.fill_fits.proofs.last_code.Goals.{In-Char}
+use Rattle.fill_fits.proofs.last_code.Goals.{In-Ok}
 
 pub loop-code-init : goal.loop-code-init
 loop-code-init c = last_start _
 
 pub returns-in_default : goal.returns-in_default
 returns-in_default c =
-    last_all _ _ _ c.loop-code.invariant (subst Stops c.read_char.ensures (stopped c.read_char.result c.in_default.not-Char))
+    last_all _ _ _ c.loop-code.invariant (subst Stops c.read_char.ensures (stopped c.read_char.result c.in_default.not-Ok))
 
-turn : (c : In-Char)
-    → (0 < c.in-Char.len)
-    × Last c.args.fill.now (c.loop-code.at + c.in-Char.len) c.in-Char.code
+turn : (c : In-Ok)
+    → (0 < c.in-Ok.len)
+    × Last c.args.fill.now (c.loop-code.at + c.in-Ok.len) c.in-Ok.code
 turn c =
     last_more c.args.fill.now c.loop-code.at c.loop-code.last c.loop-code.invariant _ _
-    (sym c.read_char.ensures ∙ c.in-Char.is)
+    (sym c.read_char.ensures ∙ c.in-Ok.is)
 
 pub overflow_add-at : goal.overflow_add-at
 overflow_add-at c = omega (arith, (turn c).1.within, c.well_formed.0)

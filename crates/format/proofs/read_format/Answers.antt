@@ -1,5 +1,6 @@
 -- `format::read_format` meets its contract. The loop's invariant is `Going`: nothing has failed, and the reading from here on is the whole
 -- reading. Assumes nothing.
+use Rattle.std.specs.Prelude.{Ok}
 use native.Mathlib.Omega.{arith}
 use Prim.Native.Nat.{ℕ}
 use mathlib.Core.Path.{◌≡◌, sym, subst, ◌∙◌}
@@ -7,7 +8,6 @@ use mathlib.Core.Bool.{Bool, true, false}
 use mathlib.Core.List.{List}
 use Rattle.utf8.specs.Read.{read_at}
 use Rattle.utf8.specs.CharsLaws.{Stops}
-use Rattle.utf8.specs.declared.Read.TheVariants.{Char}
 use Rattle.utf8.proofs.Tags.{stopped}
 use Rattle.property.specs.Table.{properties_at}
 use Rattle.format.proofs.Going.{begins, ends, stands, Turned, turned}
@@ -20,8 +20,8 @@ src t = t.args.format.now
 abbrev look : After-is_err → ℕ → ℕ
 look t = properties_at t.args.table.now
 
-found : (t : After-is_err) → read_at (src t) t.loop-code.p.at ≡ Char t.in-Char.code t.in-Char.len
-found t = sym t.read_char.ensures ∙ t.in-Char.is
+found : (t : After-is_err) → read_at (src t) t.loop-code.p.at ≡ Ok (t.in-Ok.code, t.in-Ok.len)
+found t = sym t.read_char.ensures ∙ t.in-Ok.is
 
 after : (t : After-is_err) (y : Bool) → t.is_err.result ≡ y
     → Turned (look t) t.args.edition (src t) _ t.loop-code.invariant _ _ (found t) y t.take_turn-p.result
@@ -34,11 +34,11 @@ loop-code-init c = rw c.new-p.ensures (begins (properties_at c.args.table.now) _
 pub returns-in_default : goal.returns-in_default
 returns-in_default c =
     c.end.ensures
-    ∙ ends _ _ _ _ c.loop-code.invariant (subst Stops c.read_char.ensures (stopped c.read_char.result c.in_default.not-Char))
+    ∙ ends _ _ _ _ c.loop-code.invariant (subst Stops c.read_char.ensures (stopped c.read_char.result c.in_default.not-Ok))
 
 pub take_turn-p-requires : goal.take_turn-p-requires
 take_turn-p-requires c =
-    (stands _ _ _ _ c.loop-code.invariant _ _ (sym c.read_char.ensures ∙ c.in-Char.is), c.requires.2)
+    (stands _ _ _ _ c.loop-code.invariant _ _ (sym c.read_char.ensures ∙ c.in-Ok.is), c.requires.2)
 
 -- the arm has failed
 pub returns-then-is_err : goal.returns-then-is_err

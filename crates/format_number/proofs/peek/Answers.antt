@@ -4,17 +4,12 @@ use Rattle.utf8.specs.CharsLaws.{Stops}
 use Rattle.format_number.specs.PeekLaws.{peek_char, peek_none}
 use Rattle.format_number.proofs.peek.Goals as goal
 
-pub returns-in-Char : goal.returns-in-Char
-returns-in-Char c =
+pub returns-in-Ok : goal.returns-in-Ok
+returns-in-Ok c =
     let a = c.args in
-    peek_char a.format.now a.at _ _ (sym c.read_char.ensures ∙ c.in-Char.is)
+    peek_char a.format.now a.at _ _ (sym c.read_char.ensures ∙ c.in-Ok.is)
 
-pub returns-in-Bad : goal.returns-in-Bad
-returns-in-Bad c =
+pub returns-in-Err : goal.returns-in-Err
+returns-in-Err c =
     let a = c.args in
-    peek_none a.format.now a.at (subst Stops (sym c.in-Bad.is ∙ c.read_char.ensures) tt)
-
-pub returns-in-Cut : goal.returns-in-Cut
-returns-in-Cut c =
-    let a = c.args in
-    peek_none a.format.now a.at (subst Stops (sym c.in-Cut.is ∙ c.read_char.ensures) tt)
+    peek_none a.format.now a.at (subst Stops (sym c.in-Err.is ∙ c.read_char.ensures) tt)

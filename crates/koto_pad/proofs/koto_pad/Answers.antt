@@ -1,11 +1,16 @@
 -- `koto_pad::koto_pad` meets its contract: each number is that of the answer. Assumes nothing.
 use mathlib.Core.Path.{ap, ◌∙◌}
 use Rattle.pad.specs.Call.{number_of, place_of, len_of}
+use Rattle.pad.specs.CallLaws.{given_if}
+use Rattle.koto_pad.specs.Pads.{is_given}
 use Rattle.koto_pad.proofs.koto_pad.Goals as goal
 
 pub returns : goal.returns
 returns c =
-    let p = c.pad-padded.ensures in
+    let a = c.args in
+    let p =
+    given_if a.text.now a.alignment a.width a.fill a.table.now a.edition a.buffer.now _ _ (is_given a.filled)
+    (rw c.then_some.ensures at c.pad-padded.ensures) in
     record {
       number = c.number_of.ensures ∙ ap number_of p.answer;
       len_is = c.len_of.ensures ∙ ap len_of p.answer;

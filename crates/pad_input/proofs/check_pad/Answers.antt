@@ -15,17 +15,17 @@ pub check_fill-requires : goal.check_fill-requires
 check_fill-requires c =
     fit_of _ (fine_of _ _ _ _ (sym c.check_input.ensures ∙ c.in_ok-check_input.was)).fit
 
-pub returns-then-filled : goal.returns-then-filled
-unfolding pad_check
-returns-then-filled c =
-    rw (sym c.is_long.ensures ∙ c.if-is_long.false, sym c.check_input.ensures ∙ c.in_ok-check_input.was, c.if-filled.true) c.check_fill.ensures
-
 pub returns-in_err-check_input : goal.returns-in_err-check_input
 unfolding pad_check
 returns-in_err-check_input c =
     rw (sym c.is_long.ensures ∙ c.if-is_long.false, sym c.check_input.ensures ∙ c.in_err-check_input.was) (search rules)
 
-pub returns : goal.returns
+pub returns-in-Some : goal.returns-in-Some
 unfolding pad_check
-returns c =
-    rw (sym c.is_long.ensures ∙ c.if-is_long.false, sym c.check_input.ensures ∙ c.in_ok-check_input.was, c.if-filled.false) c.check_format.ensures
+returns-in-Some c =
+    rw (sym c.is_long.ensures ∙ c.if-is_long.false, sym c.check_input.ensures ∙ c.in_ok-check_input.was, c.in-Some.is) c.check_fill.ensures
+
+pub returns-in-None : goal.returns-in-None
+unfolding pad_check
+returns-in-None c =
+    rw (sym c.is_long.ensures ∙ c.if-is_long.false, sym c.check_input.ensures ∙ c.in_ok-check_input.was, c.in-None.is) c.check_format.ensures

@@ -1,13 +1,11 @@
 -- `pad_input::is_long` meets its contract: each return is a case of its definition. Assumes nothing.
-use mathlib.Core.Path.{sym}
-use Rattle.base.specs.CasesLaws.{cases}
 use Rattle.pad_input.specs.Check.{long_fill}
 use Rattle.pad_input.proofs.is_long.Goals as goal
 
-pub returns-then-filled : goal.returns-then-filled
+pub returns-in-Some : goal.returns-in-Some
 unfolding long_fill
-returns-then-filled c = sym (search cases)
+returns-in-Some c = rw c.in-Some.is
 
-pub returns-else-filled : goal.returns-else-filled
+pub returns-in-None : goal.returns-in-None
 unfolding long_fill
-returns-else-filled c = sym (search cases)
+returns-in-None c = rw c.in-None.is

@@ -1,16 +1,16 @@
 -- `utf8::check_utf8` meets its contract. The loop's invariant: what the definition answers from here on is what it answers from the start.
 -- A turn is one step of it: `passed` over a character, `bad_at` and `cut_at` where there is none.
 -- Assumes nothing.
+use Rattle.std.specs.Prelude.{Ok}
 use native.Mathlib.Omega.{arith}
 use Prim.Native.Nat.{◌+◌, ◌<◌}
 use mathlib.Core.Path.{◌≡◌, refl, sym, ap, ◌∙◌}
 use Rattle.utf8.specs.Read.{read_at}
 use Rattle.utf8.specs.Lengths.{len_of}
 use Rattle.utf8.specs.CharsLaws.{at_char, bad_at, cut_at, check_end}
-use Rattle.utf8.specs.declared.Read.TheVariants.{Char}
 use Rattle.utf8.proofs.Turns.{Going, single, measured, passed, passed_block}
 use Rattle.utf8.proofs.check_utf8.Goals as goal
-use Rattle.utf8.proofs.check_utf8.Goals.{Else-is_block, In-Char, Then-is_block, Then-is_three, Then-is_two}
+use Rattle.utf8.proofs.check_utf8.Goals.{Else-is_block, In-Ok, Then-is_block, Then-is_three, Then-is_two}
 
 pub loop-i-init : goal.loop-i-init
 loop-i-init c = record { inside = omega arith; rest = refl }
@@ -68,17 +68,17 @@ loop-i-smaller-then-is_two c = omega (arith, (on2 c).inside)
 pub loop-i-preserved-then-is_two : goal.loop-i-preserved-then-is_two
 loop-i-preserved-then-is_two c = on2 c
 
-found : (c : In-Char) → read_at c.args.s.now c.loop-i.i ≡ Char c.in-Char.code c.in-Char.len
-found c = sym c.read_char.ensures ∙ c.in-Char.is
+found : (c : In-Ok) → read_at c.args.s.now c.loop-i.i ≡ Ok (c.in-Ok.field-0-0, c.in-Ok.len)
+found c = sym c.read_char.ensures ∙ c.in-Ok.is
 
-some : (c : In-Char) → 0 < c.in-Char.len
+some : (c : In-Ok) → 0 < c.in-Ok.len
 some c = (at_char c.args.s.now c.loop-i.i _ _ (found c)).some
 
-on : (c : In-Char) → Going c.args.s.now (c.loop-i.i + c.in-Char.len)
-on c = passed c.args.s.now c.loop-i.i c.loop-i.invariant c.in-Char.len (some c) (sym (ap len_of (found c)))
+on : (c : In-Ok) → Going c.args.s.now (c.loop-i.i + c.in-Ok.len)
+on c = passed c.args.s.now c.loop-i.i c.loop-i.invariant c.in-Ok.len (some c) (sym (ap len_of (found c)))
 
-pub overflow_add-i-in-Char : goal.overflow_add-i-in-Char
-overflow_add-i-in-Char c = omega (arith, (on c).inside)
+pub overflow_add-i-in-Ok : goal.overflow_add-i-in-Ok
+overflow_add-i-in-Ok c = omega (arith, (on c).inside)
 
 pub loop-i-smaller : goal.loop-i-smaller
 loop-i-smaller c = omega (arith, (on c).inside, some c)
@@ -86,13 +86,13 @@ loop-i-smaller c = omega (arith, (on c).inside, some c)
 pub loop-i-preserved : goal.loop-i-preserved
 loop-i-preserved c = on c
 
-pub returns-in-Bad : goal.returns-in-Bad
-returns-in-Bad c =
-    sym (bad_at _ _ c.loop-i-test.true (sym c.read_char.ensures ∙ c.in-Bad.is)) ∙ c.loop-i.invariant.rest
+pub returns-in-Err-Bad : goal.returns-in-Err-Bad
+returns-in-Err-Bad c =
+    sym (bad_at _ _ c.loop-i-test.true (sym c.read_char.ensures ∙ rw c.in-Err-Bad.field-0-is at c.in-Err-Bad.is)) ∙ c.loop-i.invariant.rest
 
-pub returns-in-Cut : goal.returns-in-Cut
-returns-in-Cut c =
-    sym (cut_at _ _ c.loop-i-test.true (sym c.read_char.ensures ∙ c.in-Cut.is)) ∙ c.loop-i.invariant.rest
+pub returns-in-Err-Cut : goal.returns-in-Err-Cut
+returns-in-Err-Cut c =
+    sym (cut_at _ _ c.loop-i-test.true (sym c.read_char.ensures ∙ rw c.in-Err-Cut.field-0-is at c.in-Err-Cut.is)) ∙ c.loop-i.invariant.rest
 
 pub returns : goal.returns
 returns c = sym (check_end _ _ c.loop-i-test.false) ∙ c.loop-i.invariant.rest

@@ -1,10 +1,10 @@
 -- `writer::write_format` meets its contract: by what was asked first, then by the numbers and the fill. Assumes nothing.
-use Rattle.std.specs.Prelude.{Ok, Err}
+use Rattle.std.specs.Prelude.{Ok, Err, is_some, unwrap_or}
 use Rattle.std.proofs.Common.{rules}
-use mathlib.Core.Path.{◌≡◌, sym, ap, ◌∙◌}
-use mathlib.Core.Bool.{Bool, true}
+use Rattle.std.specs.Option.{option_copied}
+use mathlib.Core.Path.{◌≡◌, sym, ◌∙◌}
+use mathlib.Core.Bool.{true}
 use mathlib.Core.List.{[]}
-use Rattle.base.specs.Pick.{pick}
 use Rattle.property.specs.Table.{properties_at}
 use Rattle.fitness.specs.FitLaws.{fit_of}
 use Rattle.input.specs.Input.{input_check}
@@ -26,7 +26,7 @@ some a e = sym a.are_fields.ensures ∙ e
 pub returns-then-not-are_fields : goal.returns-then-not-are_fields
 returns-then-not-are_fields c =
     let b = c.args in
-    no_options_lem b.alignment b.width b.precision b.representation b.filled b.fill.now b.table.now b.edition b.buffer.now
+    no_options_lem b.alignment b.width b.precision b.representation (is_some b.fill) (unwrap_or (option_copied b.fill) []) b.table.now b.edition b.buffer.now
     (checked (goal.at.returns-then-not-are_fields c).After-are_fields) (sym c.are_fields.ensures ∙ c.if-not-are_fields.true)
 
 pub fields_of-fields-requires : goal.fields_of-fields-requires
@@ -36,25 +36,25 @@ pub write_filled-requires : goal.write_filled-requires
 write_filled-requires c =
     fit_of _ (fine_of _ _ _ _ (checked (goal.at.write_filled-requires c).After-are_fields)).fit
 
-pub returns-then-filled : goal.returns-then-filled
-returns-then-filled c =
+pub returns-in-Some : goal.returns-in-Some
+returns-in-Some c =
     let b = c.args in
-    told b.alignment b.width b.precision b.representation b.filled b.fill.now b.table.now b.edition b.buffer.now
-    (checked (goal.at.returns-then-filled c).After-are_fields) (some (goal.at.returns-then-filled c).After-are_fields c.if-not-are_fields.false) c.fields_of-fields.result c.fields_of-fields.ensures (Bytes b.fill.now)
-    (ap (λ (x : Bool). pick x (Bytes b.fill.now) Unfilled) (sym c.if-filled.true)) c.write_filled.ensures
+    told b.alignment b.width b.precision b.representation (is_some b.fill) (unwrap_or (option_copied b.fill) []) b.table.now b.edition b.buffer.now
+    (checked (goal.at.returns-in-Some c).After-are_fields) (some (goal.at.returns-in-Some c).After-are_fields c.if-not-are_fields.false) c.fields_of-fields.result c.fields_of-fields.ensures (Bytes c.in-Some.fill.now)
+    (rw c.in-Some.is) c.write_filled.ensures
 
 pub returns-in_err-check_input : goal.returns-in_err-check_input
 returns-in_err-check_input c =
     let b = c.args in
     let e : c.from_residual.result ≡ Err (Refused _) = search rules in
     rw e
-    (refused b.alignment b.width b.precision b.representation b.filled b.fill.now b.table.now b.edition b.buffer.now _
+    (refused b.alignment b.width b.precision b.representation (is_some b.fill) (unwrap_or (option_copied b.fill) []) b.table.now b.edition b.buffer.now _
     (sym c.check_input.ensures ∙ c.in_err-check_input.was))
 
-pub returns : goal.returns
-returns c =
+pub returns-in-None : goal.returns-in-None
+returns-in-None c =
     let b = c.args in
-    told b.alignment b.width b.precision b.representation b.filled b.fill.now b.table.now b.edition b.buffer.now
-    (checked (goal.at.returns c).After-are_fields) (some (goal.at.returns c).After-are_fields c.if-not-are_fields.false) c.fields_of-fields.result c.fields_of-fields.ensures Unfilled
-    (ap (λ (x : Bool). pick x (Bytes b.fill.now) Unfilled) (sym c.if-filled.false))
+    told b.alignment b.width b.precision b.representation (is_some b.fill) (unwrap_or (option_copied b.fill) []) b.table.now b.edition b.buffer.now
+    (checked (goal.at.returns-in-None c).After-are_fields) (some (goal.at.returns-in-None c).After-are_fields c.if-not-are_fields.false) c.fields_of-fields.result c.fields_of-fields.ensures Unfilled
+    (rw c.in-None.is)
     (same_test (no_fill (properties_at b.table.now) b.edition c.fields_of-fields.result) c.put_format.ensures)
