@@ -9,8 +9,12 @@ ghost use Rattle.std.specs.Prelude.{◌≡◌, true, ◌+◌, ◌*◌, ◌≤◌
 ghost use Rattle.pool_rows.specs.Rows.{fit_pool};
 ghost use Rattle.pool.specs.Pool.{of_utf8, placed, refusal_at, is_new, written, entered, AddsToFit, AddsString};
 
+<<<<<<< HEAD
 use pool_rows::{Counts, find_string, is_pool_fit, room_of};
 use utf8::Utf8Error;
+=======
+use pool_rows::{Counts, Flat, find_string, is_pool_fit, room_of};
+>>>>>>> F2
 
 // What adding a string answers where nothing is refused: the string's index, and the counts after the addition. Those are as before where the
 // string was there.
@@ -119,7 +123,7 @@ pub fn add_to_fit(
 {
     let n = counts.entries as usize;
     let used = counts.bytes;
-    let found = find_string(string, bytes, entries, n);
+    let found = find_string(string, bytes, &Flat { numbers: entries }, n);
     let entry_room = room_of(entries.len() / 2);
     let byte_room = room_of(bytes.len());
     let answer = place(string.len(), found, counts, entry_room, byte_room);

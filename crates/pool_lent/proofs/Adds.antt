@@ -1,6 +1,6 @@
 -- What the calls of `is_pool_fit`, of `add_to_fit_row` and of `add_row` come to, over lists and numbers.
 --     no_entries, no_bytes, fit_is       the tests of the row are those of the flat pool
---     in_bytes, in_row                   what `add_to_fit` and `find_string` ask of a fit pool
+--     in_bytes                           what `add_to_fit` asks of a fit pool
 --     is_free                            where a new index is handed out, an entry is free and the string's length is a number of 32 bits
 --     fit_old, fit_new                   a return: nothing is written to the entries, or the new one
 --     fine_fit                           where nothing is refused, the pool is fit
@@ -62,9 +62,6 @@ module _ (bytes : List ℕ) (es : List Entry) (counts : Counts) (fit : fit_pool 
 
   pub in_bytes : counts.bytes ≤ byte_room bytes
   in_bytes = within.1
-
-  pub in_row : counts.entries ≤ length es
-  in_row = omega (arith, within.0, (room_within (length es)).0)
 
   module _ (string : List ℕ) (found : ℕ) (found_as : found ≡ index_of string (strings_of bytes (numbers_of es) counts.entries))
       (r : Result Added AddError) (r-as : r ≡ placed (length string) found counts (room_of (length es)) (byte_room bytes)) where

@@ -1,9 +1,8 @@
 -- What the functions below the public ones decide on numbers. No public contract cites it.
 -- Assumes nothing.
-use Rattle.std.specs.Prelude.{ℕ, List, Bool, false, ◌+◌, ◌≤◌, ◌≡◌, eqb, ltb, Result, Ok, Err}
+use Rattle.std.specs.Prelude.{ℕ, List, Bool, false, Result, Ok, Err}
 use Rattle.utf8.specs.Chars.{check_from}
 use Rattle.utf8.specs.declared.Utf8Error.{Utf8Error}
-use Rattle.utf8.specs.declared.Utf8Error.TheVariants as utf8
 
 -- nothing is refused before an addition, by what is said of the string's bytes and of the pool
 abbrev pub fine_by : Result (Unit {0}) Utf8Error → Bool → Bool

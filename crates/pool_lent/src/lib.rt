@@ -2,14 +2,14 @@
 // the numbers of the entries are those of the flat pool (constant_pool.rs, `add_string`).
 #![tactic(auto)]
 
-ghost use Rattle.std.specs.Prelude.{◌≡◌, true, ◌≤◌, ◌<◌, length, set, take, drop};
-ghost use Rattle.pool_rows.specs.Rows.{same, index_of, strings_of, room_of, byte_room, runs_to, fit_pool};
+ghost use Rattle.std.specs.Prelude.{◌≡◌, true, ◌≤◌, ◌<◌, length, set};
+ghost use Rattle.pool_rows.specs.Rows.{room_of, byte_room, fit_pool};
 ghost use Rattle.pool.specs.Pool.{placed, bytes_after, counts_after, AddsToFit, AddsString};
 ghost use Rattle.pool_lent.specs.Entries.{numbers_of, entry_of, AddsEntry};
 ghost use Rattle.pool_lent.specs.Decided.{fine_at};
 
 use pool::{AddError, Added};
-use pool_rows::Counts;
+use pool_rows::{Counts, Entries, find_string, runs_to};
 
 // An entry: where its string starts in the row of bytes, and how long it is. C may hold a row of them.
 #[repr(C)]
@@ -19,16 +19,25 @@ pub struct Entry {
     pub len: u32,
 }
 
-// ---- on bytes and numbers
-
-// Whether the string of an entry is this one. Of an entry that lies outside the row of bytes only what lies inside counts.
-fn is_string(string: &[u8], bytes: &[u8], start: u32, len: u32) -> bool
-    ensures { result ≡ same (take len (drop start bytes.now)) string.now }
-{
-    let first = (start as usize).min(bytes.len());
-    let end = (first + len as usize).min(bytes.len());
-    pool_rows::is_same(&bytes[first..end], string)
+// A row of them, for the check and the search of `pool_rows`.
+#[derive(Clone, Copy)]
+struct Records<'a> {
+    entries: &'a [Entry],
 }
+
+impl<'a> Entries for Records<'a> {
+    ghost numbers = { λ s. numbers_of s.entries.now };
+
+    fn start(&self, i: usize) -> u32 {
+        self.entries[i].start
+    }
+
+    fn len(&self, i: usize) -> u32 {
+        self.entries[i].len
+    }
+}
+
+// ---- on bytes and numbers
 
 // The answer for a well-formed string in a fit pool with a row of so many entries, where the search found it at an index. A new string's
 // bytes are copied in.
@@ -75,34 +84,6 @@ fn counts_after(counts: Counts, answer: Result<Added, AddError>) -> Counts
 
 // ---- over entries, and lent counts
 
-// Whether the first n entries run end to end from byte 0 to the byte `end`.
-fn runs_to(entries: &[Entry], n: usize, end: usize) -> bool
-    requires { n ≤ length entries.now }
-    ensures { result ≡ runs_to (numbers_of entries.now) 0 n 0 end }
-{
-    let mut next = 0;
-    for e in &entries[..n] {
-        if e.start as usize != next {
-            return false;
-        }
-        next = e.start as usize + e.len as usize;
-    }
-    next == end
-}
-
-// The index of the first of the n entries that has this string; n where none has it.
-fn find_string(string: &[u8], bytes: &[u8], entries: &[Entry], n: usize) -> usize
-    requires { n ≤ length entries.now }
-    ensures { result ≡ index_of string.now (strings_of bytes.now (numbers_of entries.now) n) }
-{
-    for (i, e) in entries[..n].iter().enumerate() {
-        if is_string(string, bytes, e.start, e.len) {
-            return i;
-        }
-    }
-    n
-}
-
 // Writes entry n.
 fn put_entry(entries: &mut [Entry], n: usize, start: u32, len: u32)
     requires { n < length entries.old }
@@ -121,7 +102,11 @@ pub fn is_pool_fit(bytes: &[u8], entries: &[Entry], counts: Counts) -> bool
     if pool_rows::room_of(bytes.len()) < counts.bytes {
         return false;
     }
-    runs_to(entries, counts.entries as usize, counts.bytes as usize)
+    runs_to(
+        &Records { entries },
+        counts.entries as usize,
+        counts.bytes as usize,
+    )
 }
 
 // Adds a well-formed string to a fit pool, and asks neither: whoever knows both calls this. It answers and writes as `pool::add_to_fit` does.
@@ -136,7 +121,7 @@ pub fn add_to_fit_row(
         bytes.new (numbers_of entries.new) result }
 {
     let n = counts.entries as usize;
-    let found = find_string(string, bytes, entries, n);
+    let found = find_string(string, bytes, &Records { entries }, n);
     let answer = add_to_fit(string, bytes, entries.len(), counts, found);
     if pool::is_new(counts, answer) {
         put_entry(entries, n, counts.bytes, string.len() as u32);

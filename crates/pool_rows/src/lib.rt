@@ -3,8 +3,8 @@
 // string, which stands for the `HashMap` of constant_pool.rs. Nothing is added here.
 #![tactic(auto)]
 
-ghost use Rattle.std.specs.Prelude.{◌≡◌, ◌+◌, ◌*◌, ◌≤◌, length, take, drop};
-ghost use Rattle.pool_rows.specs.Rows.{same, index_of, strings_of, room_of, runs_to, Within, fit_in, fit_pool};
+ghost use Rattle.std.specs.Prelude.{◌≡◌, ℕ, List, ◌+◌, ◌*◌, ◌<◌, ◌≤◌, length, take, drop};
+ghost use Rattle.pool_rows.specs.Rows.{start_of, length_of, same, index_of, strings_of, room_of, runs_to, Within, fit_in, fit_pool};
 
 // How many entries and how many bytes of a pool are in use. C may hold it.
 #[repr(C)]
@@ -27,18 +27,49 @@ pub fn room_of(most: usize) -> u32
     most as u32
 }
 
+// A row of entries, in whatever form: where the string of each starts, and how long it is.
+pub trait Entries {
+    ghost numbers: { Self → List ℕ };
+
+    fn start(&self, i: usize) -> u32
+        requires { 2 * i + 1 < length (numbers self.now) }
+        ensures { result ≡ start_of (numbers self.now) i };
+
+    fn len(&self, i: usize) -> u32
+        requires { 2 * i + 1 < length (numbers self.now) }
+        ensures { result ≡ length_of (numbers self.now) i };
+}
+
+// The flat row: two numbers for each entry.
+#[derive(Clone, Copy)]
+pub struct Flat<'a> {
+    pub numbers: &'a [u32],
+}
+
+impl<'a> Entries for Flat<'a> {
+    ghost numbers = { λ s. s.numbers.now };
+
+    fn start(&self, i: usize) -> u32 {
+        self.numbers[2 * i]
+    }
+
+    fn len(&self, i: usize) -> u32 {
+        self.numbers[2 * i + 1]
+    }
+}
+
 // Whether the first n entries run end to end from byte 0 to the byte `end`.
-fn runs_to(entries: &[u32], n: usize, end: usize) -> bool
-    requires { 2 * n ≤ length entries.now }
-    ensures { result ≡ runs_to entries.now 0 n 0 end }
+pub fn runs_to<E: Entries>(entries: &E, n: usize, end: usize) -> bool
+    requires { 2 * n ≤ length (E.numbers entries.now) }
+    ensures { result ≡ runs_to (E.numbers entries.now) 0 n 0 end }
 {
     let mut next = 0;
     for i in 0..n {
-        let start = entries[2 * i] as usize;
+        let start = entries.start(i) as usize;
         if start != next {
             return false;
         }
-        next = start + entries[2 * i + 1] as usize;
+        next = start + entries.len(i) as usize;
     }
     next == end
 }
@@ -54,7 +85,11 @@ fn is_fit(entries: &[u32], counts: Counts, entry_room: u32, byte_room: u32) -> b
     if byte_room < counts.bytes {
         return false;
     }
-    runs_to(entries, counts.entries as usize, counts.bytes as usize)
+    runs_to(
+        &Flat { numbers: entries },
+        counts.entries as usize,
+        counts.bytes as usize,
+    )
 }
 
 // Whether a pool is fit: no count exceeds its row, and the entries in use run end to end from byte 0 to the byte count.
@@ -84,12 +119,12 @@ fn is_at(string: &[u8], bytes: &[u8], start: u32, long: u32) -> bool
 }
 
 // The index of the first of the n entries that has this string; n where none has it.
-pub fn find_string(string: &[u8], bytes: &[u8], entries: &[u32], n: usize) -> usize
-    requires { Within entries.now n (length bytes.now) × (2 * n ≤ length entries.now) }
-    ensures { result ≡ index_of string.now (strings_of bytes.now entries.now n) }
+pub fn find_string<E: Entries>(string: &[u8], bytes: &[u8], entries: &E, n: usize) -> usize
+    requires { Within (E.numbers entries.now) n (length bytes.now) × (2 * n ≤ length (E.numbers entries.now)) }
+    ensures { result ≡ index_of string.now (strings_of bytes.now (E.numbers entries.now) n) }
 {
     for i in 0..n {
-        if is_at(string, bytes, entries[2 * i], entries[2 * i + 1]) {
+        if is_at(string, bytes, entries.start(i), entries.len(i)) {
             return i;
         }
     }

@@ -1,6 +1,8 @@
 -- `pool_lent::add_to_fit_row` meets its contract; `Adds.antt` has what the calls come to. Assumes nothing.
 use Rattle.std.proofs.Common.{◌≡◌, true, ◌<◌, ◌^◌, length, sym, ◌∙◌, arith}
-use Rattle.pool_lent.proofs.Adds.{in_bytes, in_row, is_free, fit_old, fit_new}
+use Rattle.pool_rows.specs.FitLaws.{searchable}
+use Rattle.pool_lent.specs.Entries.{numbers_of}
+use Rattle.pool_lent.proofs.Adds.{in_bytes, is_free, fit_old, fit_new}
 use Rattle.pool_lent.proofs.add_to_fit_row.Goals as goal
 use Rattle.pool_lent.proofs.add_to_fit_row.Goals.{After-is_new}
 
@@ -12,7 +14,8 @@ free d e =
     is_free a.bytes.now a.entries.now a.counts d.requires a.string.now _ d.find_string-found.ensures _ d.add_to_fit-answer.ensures.0 (sym d.is_new.ensures ∙ e)
 
 pub find_string-found-requires : goal.find_string-found-requires
-find_string-found-requires c = in_row c.args.bytes.now c.args.entries.now c.args.counts c.requires
+find_string-found-requires c =
+    searchable c.args.bytes.now (numbers_of c.args.entries.now) c.args.counts c.requires
 
 pub add_to_fit-answer-requires : goal.add_to_fit-answer-requires
 add_to_fit-answer-requires c = in_bytes c.args.bytes.now c.args.entries.now c.args.counts c.requires

@@ -1,6 +1,7 @@
 -- `pool_lent::is_pool_fit` meets its contract: it takes the tests of the flat pool in their order. Assumes nothing.
 use Rattle.std.proofs.Common.{sym, ◌∙◌, arith, length}
 use Rattle.pool_rows.specs.FitLaws.{room_within}
+use Rattle.pool_lent.specs.EntriesLaws.{numbers_long}
 use Rattle.pool_lent.proofs.Adds.{no_entries, no_bytes, fit_is}
 use Rattle.pool_lent.proofs.is_pool_fit.Goals as goal
 
@@ -14,7 +15,8 @@ returns-then-room_of-counts-2 c =
     (omega (arith, c.room_of-2.ensures)))
 
 pub runs_to-requires : goal.runs_to-requires
-runs_to-requires c = omega (arith, c.room_of.ensures, (room_within (length c.args.entries.now)).0)
+runs_to-requires c =
+    omega (arith, c.room_of.ensures, (room_within (length c.args.entries.now)).0, numbers_long c.args.entries.now)
 
 pub returns : goal.returns
 returns c =

@@ -3,4 +3,4 @@ use Rattle.pool_rows.proofs.Loops.{Searching}
 use Rattle.pool_rows.proofs.find_string.Given as goal
 
 abbrev pub invariant-loop-i : goal.invariant-loop-i
-invariant-loop-i l = Searching l.string l.bytes l.entries l.n l.i
+invariant-loop-i g l = Searching l.string l.bytes (g.E.Entries.numbers l.entries) l.n l.i

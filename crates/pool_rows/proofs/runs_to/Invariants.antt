@@ -5,4 +5,4 @@ use Rattle.pool_rows.proofs.Loops.{Running}
 use Rattle.pool_rows.proofs.runs_to.Given as goal
 
 abbrev pub invariant-loop-i : goal.invariant-loop-i
-invariant-loop-i l = (l.next ≤ 8589934590) × Running l.entries l.n l.end l.next l.i
+invariant-loop-i g l = (l.next ≤ 8589934590) × Running (g.E.Entries.numbers l.entries) l.n l.end l.next l.i
