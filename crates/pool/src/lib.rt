@@ -9,12 +9,8 @@ ghost use Rattle.std.specs.Prelude.{◌≡◌, true, ◌+◌, ◌*◌, ◌≤◌
 ghost use Rattle.pool_rows.specs.Rows.{fit_pool};
 ghost use Rattle.pool.specs.Pool.{of_utf8, placed, refusal_at, is_new, written, entered, AddsToFit, AddsString};
 
-<<<<<<< HEAD
-use pool_rows::{Counts, find_string, is_pool_fit, room_of};
-use utf8::Utf8Error;
-=======
 use pool_rows::{Counts, Flat, find_string, is_pool_fit, room_of};
->>>>>>> F2
+use utf8::Utf8Error;
 
 // What adding a string answers where nothing is refused: the string's index, and the counts after the addition. Those are as before where the
 // string was there.
