@@ -5,8 +5,8 @@ use std::io::{Cursor, Read, Write};
 use std::rt::Files;
 use std::{fs, io};
 
-// The most bytes that a data file or standard input may have.
-const TEXT_MOST: usize = 524_287;
+// The most bytes that a file of cases or standard input may have.
+pub const TEXT_MOST: usize = 524_287;
 
 // 4,096 zeros. Their length is what lending them as a slice asks.
 pub fn buffer() -> [u8; 4096]
@@ -22,17 +22,20 @@ pub fn large_buffer() -> [u8; 65536]
     [0; 65536]
 }
 
-// Reads all of an open file. One of too many bytes counts as empty, which is said by this name.
+// Reads all of an open file. One of more bytes than most counts as empty, which is said by this name.
 fn read_all<R: Print + AllocGlobal>(
     rt: &R,
     input: &mut impl Read,
     name: &str,
+    most: usize,
 ) -> io::Result<Vec<u8>>
-    ensures { IfOk result (λ text. vec_len text ≤ 524287) }
+    ensures { IfOk result (λ text. vec_len text ≤ most) }
 {
     let mut text = Vec::new(rt.alloc());
-    input.take(TEXT_MOST as u64 + 1).read_to_end(&mut text)?;
-    if TEXT_MOST < text.len() {
+    input
+        .take((most as u64).saturating_add(1))
+        .read_to_end(&mut text)?;
+    if most < text.len() {
         println!(rt; "{name}: does not fit")?;
         return Ok(Vec::new(rt.alloc()));
     }
@@ -51,16 +54,17 @@ fn print_failure(rt: &impl Eprint, name: &str, error: io::Error) -> io::Result<(
     }
 }
 
-// Reads the file of that name. One that can't be opened or has too many bytes counts as empty, which is said. Where a read fails, that is the
-// answer.
+// Reads the file of that name. One that can't be opened or has more bytes than most counts as empty, which is said. Where a read fails, that is
+// the answer.
 pub fn read_file(
     rt: &(impl Files + Print + Eprint + AllocGlobal),
     name: &str,
+    most: usize,
 ) -> io::Result<Vec<u8>>
-    ensures { IfOk result (λ text. vec_len text ≤ 524287) }
+    ensures { IfOk result (λ text. vec_len text ≤ most) }
 {
     match fs::open(rt, name) {
-        Ok(mut file) => read_all(rt, &mut file, name),
+        Ok(mut file) => read_all(rt, &mut file, name, most),
         Err(error) => {
             print_failure(rt, name, error)?;
             Ok(Vec::new(rt.alloc()))
@@ -72,7 +76,7 @@ pub fn read_file(
 pub fn read_input(rt: &(impl Input + Print + AllocGlobal)) -> io::Result<Vec<u8>>
     ensures { IfOk result (λ text. vec_len text ≤ 524287) }
 {
-    read_all(rt, &mut rt.reader(), "standard input")
+    read_all(rt, &mut rt.reader(), "standard input", TEXT_MOST)
 }
 
 // The first bytes of an input, at most so many.

@@ -3,7 +3,7 @@
 ghost use Rattle.std.specs.Prelude.{◌≡◌, length, IfOk};
 
 use crate::fields::past;
-use crate::files;
+use crate::files::{self, TEXT_MOST};
 use std::io;
 use std::rt::Files;
 
@@ -41,7 +41,7 @@ impl Tally {
     }
 }
 
-// Asks of each line of the file of that name whether its case agrees, and says what came of it.
+// Asks of each line of the file of that name whether its case agrees, and says what came of it. The line is lent with all lines after it.
 pub fn replay<F: FnMut(&[u8]) -> bool>(
     rt: &(impl Files + Print + Eprint + AllocGlobal),
     name: &str,
@@ -50,13 +50,15 @@ pub fn replay<F: FnMut(&[u8]) -> bool>(
     requires { F.IsAlwaysCallable agrees }
     ensures { IfOk result (λ r. r ≡ tt) }
 {
-    let text = files::read_file(rt, name)?;
+    let text = files::read_file(rt, name, TEXT_MOST)?;
     let mut tally = Tally {
         agreed: 0,
         differ: 0,
     };
-    for line in text.split_inclusive(|b| *b == b'\n') {
-        tally.count(rt, name, agrees(line))?;
+    let mut at = 0;
+    while at < text.len() {
+        tally.count(rt, name, agrees(&text[at..]))?;
+        at = past(&text, at, b'\n');
     }
     tally.print(rt, name)
 }

@@ -13,6 +13,9 @@ use table_file::answer;
 // As many numbers as the longest table has.
 const TABLE_MOST: usize = 8000;
 
+// The most bytes that a table file may have.
+const FILE_MOST: usize = 65_535;
+
 // Reads a table file into the start of the row, and answers how many numbers it has; 0 where it is refused.
 fn table_in(file: &[u8], row: &mut [u32]) -> usize
     ensures prefix_len { IsPrefixLen result row.new }
@@ -28,7 +31,7 @@ pub fn full_table(
 ) -> io::Result<Option<Vec<u32>>>
     ensures { IfOk result (λ table. IfSome table (λ row. FitTable row.items)) }
 {
-    let file = lines::read_file(rt, name)?;
+    let file = lines::read_file(rt, name, FILE_MOST)?;
     let mut row = vec![in rt.alloc(); 0; TABLE_MOST]?;
     let count = table_in(&file, &mut row);
     if count == 0 {
