@@ -1,6 +1,6 @@
 // The fields of a text: one case a line, fields separated by one space, bytes in hex and numbers in decimal (tools/README.md). What is read is
 // compared by running, so the contracts say no more than what a caller needs to be safe and to end.
-ghost use Rattle.std.specs.Prelude.{◌≡◌, ◌+◌, ◌<◌, ◌≤◌, length, IfSome};
+ghost use Rattle.std.specs.Prelude.{◌≡◌, true, ◌+◌, ◌<◌, ◌≤◌, length, IfSome};
 
 // The place after the first `mark` from `at` on: with a space the next field, with a newline the next line. Where there is none it is the end
 // of the text, or `at` where that is past the end. So within the text it is further on.
@@ -66,22 +66,28 @@ pub fn hex<'a>(text: &[u8], out: &'a mut [u8]) -> &'a [u8]
 // number 0.
 #[derive(Clone, Copy)]
 pub struct Fields<'a> {
-    rest: &'a [u8],
+    pub rest: &'a [u8],
 }
 
 impl<'a> Fields<'a> {
     // All fields of a text.
-    pub fn of(text: &'a [u8]) -> Fields<'a> {
+    pub fn of(text: &'a [u8]) -> Fields<'a>
+        ensures { result.rest.now ≡ text.now }
+    {
         Fields { rest: text }
     }
 
     // Whether the next field is there, and no `-`.
-    pub fn is_given(&self) -> bool {
+    pub fn is_given(&self) -> bool
+        ensures { result ≡ true → 0 < length self.now.rest.now }
+    {
         self.rest.first().is_some_and(|b| *b != b'-')
     }
 
     // The next field.
-    pub fn word(&mut self) -> &'a [u8] {
+    pub fn word(&mut self) -> &'a [u8]
+        ensures { length result.now ≤ length self.old.rest.now }
+    {
         let rest = self.rest;
         match rest.iter().position(|b| *b == b' ') {
             Some(i) => {
@@ -110,12 +116,16 @@ impl<'a> Fields<'a> {
     }
 
     // Whether the next field has this number.
-    pub fn same(&mut self, value: usize) -> bool {
+    pub fn same(&mut self, value: usize) -> bool
+        ensures { result ≡ true → value < 10000000000000000000 }
+    {
         self.number() == value
     }
 
     // Whether the next fields have these numbers.
-    pub fn all_same(&mut self, values: &[u32]) -> bool {
+    pub fn all_same(&mut self, values: &[u32]) -> bool
+        ensures { length values.now ≡ 0 → result ≡ true }
+    {
         values.iter().all(|value| self.same(*value as usize))
     }
 }

@@ -1,7 +1,8 @@
 // A data file or standard input, whole. No contract can say what stands there.
-ghost use Rattle.std.specs.Prelude.{◌≡◌, ◌≤◌, length, vec_len, IfOk};
+ghost use Rattle.std.specs.Prelude.{◌≡◌, ◌≢◌, ◌≤◌, length, vec_len, IfOk, IfErr};
+ghost use Rattle.std.specs.IoError.{error_kind};
 
-use std::io::{Cursor, Read, Write};
+use std::io::{Cursor, ErrorKind, Read, Write};
 use std::rt::Files;
 use std::{fs, io};
 
@@ -79,8 +80,10 @@ pub fn read_input(rt: &(impl Input + Print + AllocGlobal)) -> io::Result<Vec<u8>
     read_all(rt, &mut rt.reader(), "standard input", TEXT_MOST)
 }
 
-// The first bytes of an input, at most so many.
-pub fn read_most(rt: &impl AllocGlobal, input: &mut impl Read, most: u64) -> io::Result<Vec<u8>> {
+// The first bytes of an input, at most so many. A read that is interrupted is tried again.
+pub fn read_most(rt: &impl AllocGlobal, input: &mut impl Read, most: u64) -> io::Result<Vec<u8>>
+    ensures { IfErr result (λ e. error_kind e ≢ ErrorKind.Interrupted) }
+{
     let mut text = Vec::new(rt.alloc());
     input.take(most).read_to_end(&mut text)?;
     Ok(text)

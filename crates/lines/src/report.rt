@@ -69,6 +69,7 @@ pub fn print_each<F: FnMut(&[u8]) -> io::Result<()>>(
     mut print: F,
 ) -> io::Result<()>
     requires { F.IsAlwaysCallable print }
+    ensures { IfOk result (λ r. r ≡ tt) }
 {
     let text = files::read_input(rt)?;
     let mut at = 0;

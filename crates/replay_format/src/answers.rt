@@ -1,6 +1,9 @@
 // Whether an answer of the parse is that of a line: `0 A W P R I FILL`, or the number of a refusal and its place or value. A is the alignment;
 // the width, the precision, the representation and the fill's index are 0 for none, else one more than their number; FILL is 0 for none, else 1
 // and the fill's place and length (tools/README.md).
+ghost use Rattle.std.specs.Prelude.{◌≡◌, true, ◌<◌};
+ghost use Rattle.parse.specs.Call.{value_of};
+
 use format_options::{Options, Part, Representation};
 use lines::Fields;
 use parse::{ParseError, Parsed, answer};
@@ -42,7 +45,9 @@ fn same_options(fields: &mut Fields, options: Options, index: Option<u32>) -> bo
 }
 
 // The same of an answer: its number, and then the options, or the refusal's place or value.
-pub fn same_answer(fields: &mut Fields, parsed: Result<Parsed, ParseError>) -> bool {
+pub fn same_answer(fields: &mut Fields, parsed: Result<Parsed, ParseError>) -> bool
+    ensures { result ≡ true → value_of parsed < 10000000000000000000 }
+{
     if !fields.same(answer::number_of(parsed) as usize) {
         return false;
     }

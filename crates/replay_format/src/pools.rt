@@ -1,6 +1,6 @@
 // A pool of a line of recorded answers, `COUNT` and each string in hex, put into rows of marks; and whether the rows and counts that a parse
 // leaves are those of a line.
-ghost use Rattle.std.specs.Prelude.{◌≡◌, length};
+ghost use Rattle.std.specs.Prelude.{◌≡◌, true, length};
 
 use lines::Fields;
 use pool_rows::Counts;
@@ -57,7 +57,9 @@ pub fn load(fields: &mut Fields, bytes: &mut [u8], entries: &mut [u32]) -> Count
 }
 
 // Whether the pool in the next fields, put into rows of marks, is the pool in these rows.
-pub fn agrees(mut fields: Fields, bytes: &[u8], entries: &[u32], counts: Counts) -> bool {
+pub fn agrees(mut fields: Fields, bytes: &[u8], entries: &[u32], counts: Counts) -> bool
+    ensures { result ≡ true → 1024 ≡ length bytes.now }
+{
     let mut byte_row = byte_row();
     let mut entry_row = entry_row();
     let want = load(&mut fields, &mut byte_row, &mut entry_row);

@@ -10,7 +10,6 @@ ghost use Rattle.reading.specs.Scan.{count_of};
 use lines::Fields;
 use reading::answer::{count_of, number_of, place_of};
 use reading::{Scan, ScanError};
-use rows::Row;
 
 // What stands in a list before a scan. As a record it would have kind 112, so no scan writes it.
 const MARK: u32 = 0xa5a5_a5f0;
@@ -36,17 +35,12 @@ fn status_of(said: Result<Scan, ScanError>) -> usize {
     }
 }
 
-// Whether the next fields are the ten numbers of a record.
-pub fn same_fields(fields: &mut Fields, row: Row) -> bool {
-    fields.all_same(&printing::numbers(row))
-}
-
-// The same of record i of a list. One that may not be shown differs from every line.
+// Whether the next fields are the ten numbers of record i of a list. One that may not be shown differs from every line.
 fn same_row(fields: &mut Fields, list: &[u32], i: usize) -> bool
     requires { i < room list.now }
 {
     match rows::row_at(list, i) {
-        Some(row) => same_fields(fields, row),
+        Some(row) => fields.all_same(&printing::numbers(row)),
         None => false,
     }
 }

@@ -13,7 +13,7 @@ use walking::Refusal;
 // Whether the next fields are what is said of a call: 1 and a record, 0 for nothing, or 2 and the number and place of a refusal.
 fn same_what(fields: &mut Fields, what: Result<Option<Row>, Refusal>) -> bool {
     match what {
-        Ok(Some(row)) => fields.same(1) && replay_rows::same_fields(fields, row),
+        Ok(Some(row)) => fields.same(1) && fields.all_same(&printing::numbers(row)),
         Ok(None) => fields.same(0),
         Err(refused) => {
             fields.same(2) && fields.same(refused.number as usize) && fields.same(refused.place)
