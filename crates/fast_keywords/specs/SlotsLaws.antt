@@ -1,7 +1,7 @@
 -- Numbers whose bytes are a name's, and what a name that is compared by its number is.
 --     same_number     bytes of the same length and number are the same
 --     number_low      the lowest n bytes of a number are the number of the first n
---     number_next, number_both     the number of bytes at a place, by the first of them, and by four and four
+--     number_next                  the number of bytes at a place, by the first of them
 --     by_slot         a name is the keyword at its place where number and length are its, and else none
 --     by_none         no keyword has a place that the code's `match` leaves over
 --     by_word         what the code asks of a name at a place of the bytes tells which keyword it is
@@ -71,20 +71,6 @@ pub number_next : (s : List ℕ) (n i j : ℕ) → i < length s → j ≡ i + 1
     → number (take (suc n) (drop i s)) ≡ get_or s i 0 + 256 * number (take n (drop j s))
 unfolding number
 number_next s n i j h e = rw (e, add-one i, drop-cons s i 0 h)
-
-pub number_both : (s : List ℕ) (i : ℕ) → i + 8 ≤ length s
-    → number (take 8 (drop i s)) ≡ number (take 4 (drop i s)) + 4294967296 * number (take 4 (drop (i + 4) s))
-unfolding number
-number_both s i h =
-    let a = number_next s 7 i (i + 1) (omega arith) refl in
-    let b = number_next s 6 (i + 1) (i + 2) (omega arith) (omega arith) in
-    let c = number_next s 5 (i + 2) (i + 3) (omega arith) (omega arith) in
-    let d = number_next s 4 (i + 3) (i + 4) (omega arith) (omega arith) in
-    let a' = number_next s 3 i (i + 1) (omega arith) refl in
-    let b' = number_next s 2 (i + 1) (i + 2) (omega arith) (omega arith) in
-    let c' = number_next s 1 (i + 2) (i + 3) (omega arith) (omega arith) in
-    let d' = number_next s 0 (i + 3) (i + 4) (omega arith) (omega arith) in
-    omega arith
 
 -- ---- the keyword at a place
 

@@ -25,12 +25,6 @@ pub struct Slot {
     pub kind: u8,
 }
 
-fn long(b: u8) -> u64
-    ensures { (result ≡ b) × (result < 256) }
-{
-    b as u64
-}
-
 // The place of a name of `len` bytes with this first and this last byte.
 fn place(len: usize, first: u8, last: u8) -> usize
     ensures { result ≡ place_by len first last }
@@ -85,16 +79,6 @@ fn slot_at(place: usize) -> Slot
     }
 }
 
-// At most eight.
-fn least8(n: usize) -> usize
-    ensures { (result ≤ 8) × (n ≤ 8 → result ≡ n) }
-{
-    if n < 8 {
-        return n;
-    }
-    8
-}
-
 // The largest number of `len` bytes.
 fn mask(len: usize) -> u64
     requires { len ≤ 8 }
@@ -113,23 +97,21 @@ fn mask(len: usize) -> u64
     }
 }
 
-// The number of four bytes. LLVM makes one read of it.
-fn word4(source: &[u8], at: usize) -> u64
-    requires { at + 4 ≤ length source.now }
-    ensures { (result ≡ number (take 4 (drop at source.now))) × (result < 4294967296) }
-{
-    long(source[at])
-        + 256 * long(source[at + 1])
-        + 65_536 * long(source[at + 2])
-        + 16_777_216 * long(source[at + 3])
-}
-
 // The number of eight bytes.
 pub fn word8(source: &[u8], at: usize) -> u64
     requires { at + 8 ≤ length source.now }
     ensures { result ≡ number (take 8 (drop at source.now)) }
 {
-    word4(source, at) + 4_294_967_296 * word4(source, at + 4)
+    u64::from_le_bytes([
+        source[at],
+        source[at + 1],
+        source[at + 2],
+        source[at + 3],
+        source[at + 4],
+        source[at + 5],
+        source[at + 6],
+        source[at + 7],
+    ])
 }
 
 // The kind, or Id.
@@ -150,7 +132,7 @@ pub fn keyword_by(source: &[u8], at: usize, len: usize, word: u64) -> u8
 {
     let slot = slot_at(place(len, source[at], source[at + (len - 1)]));
     kind_if(
-        (word & mask(least8(len)) == slot.number) & (len == slot.len),
+        (word & mask(len.min(8)) == slot.number) & (len == slot.len),
         slot.kind,
     )
 }

@@ -55,14 +55,14 @@ fn number_16(file: &[u8], at: usize) -> u16
     requires { at + 2 ≤ length file.now }
     ensures { result ≡ number16 file.now at }
 {
-    (file[at] as u16) + 256 * (file[at + 1] as u16)
+    u16::from_le_bytes([file[at], file[at + 1]])
 }
 
 fn number_32(file: &[u8], at: usize) -> u32
     requires { at + 4 ≤ length file.now }
     ensures { result ≡ number32 file.now at }
 {
-    (number_16(file, at) as u32) + 65536 * (number_16(file, at + 2) as u32)
+    u32::from_le_bytes([file[at], file[at + 1], file[at + 2], file[at + 3]])
 }
 
 // Writes the file's numbers to the start of a row.
