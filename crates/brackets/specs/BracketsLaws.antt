@@ -18,7 +18,7 @@ use Rattle.state.specs.declared.Change.{Change}
 use Rattle.state.specs.declared.Change.TheVariants.{Push, Pop}
 use Rattle.state.specs.declared.Lexer.{Lexer}
 use Rattle.symbol_tokens.specs.ConsumeSymbol.{symbol_change}
-use Rattle.lexer.specs.GetNextToken.{one_byte, start_string, in_code}
+use Rattle.lexer.specs.GetNextToken.{one_byte, in_code}
 use Rattle.lexer.specs.NextLaws.{next_ascii}
 use Rattle.actions.specs.Actions.{action_of, arm}
 use Rattle.actions.specs.ActionsLaws.{in_code_by}

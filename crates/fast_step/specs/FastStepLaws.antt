@@ -4,17 +4,16 @@
 --     step_stands, step_by             the same where the byte is ASCII
 --     comment_of, literal_of, raw_of   what a `consume_*` took stands where it ends
 -- Assumes nothing.
-use Rattle.std.specs.Prelude.{ℕ, ◌<◌, ◌≡◌, refl, Bool, true, false, List, eqb, length, get_or, drop}
+use Rattle.std.specs.Prelude.{ℕ, ◌<◌, ◌≡◌, refl, true, false, List, eqb, length, get_or, drop}
 use Rattle.std.proofs.Common.{arith, sym, ap, subst, ◌∙◌, lt-ltb}
 use Rattle.base.specs.PickLaws.{by_test}
 use Rattle.base.specs.RangeLaws.{under}
 use Rattle.utf8.specs.Read.{is_tail}
 use Rattle.property.specs.Table.{properties_at}
-use Rattle.fitness.specs.Fit.{FitTable}
 use Rattle.token.specs.Kind.{error}
 use Rattle.text.specs.Bytes.{byte_at}
 use Rattle.text.specs.Follow.{next_is, Followed, Closed, Open, Stopped, follow}
-use Rattle.text.specs.Stands.{Stands, chars_from}
+use Rattle.text.specs.Stands.{Stands}
 use Rattle.text.specs.FollowLaws.{byte_within}
 use Rattle.position.specs.Place.{along_by}
 use Rattle.state.specs.Lexer.{reach_of, settled}

@@ -7,21 +7,19 @@
 --     run_more, run_falls, code_more    a run with the turns of one step more
 --     run_going, run_less     what holds after a run, of a loop that went on before it
 -- Assumes nothing.
-use Rattle.std.specs.Prelude.{ℕ, ◌+◌, ◌≤◌, ◌<◌, ◌≡◌, true, false, List, eqb, length, get_or, drop}
+use Rattle.std.specs.Prelude.{ℕ, ◌+◌, ◌≤◌, ◌<◌, ◌≡◌, true, false, List, eqb, length, get_or}
 use Rattle.std.proofs.Common.{arith, sym, subst, ◌∙◌, lt-ltb}
 use Rattle.std.proofs.Math.Path.{refl, ap}
 use Rattle.base.specs.Range.{inside}
 use Rattle.position.specs.Place.{line_by}
 use Rattle.property.specs.Table.{properties_at}
-use Rattle.fitness.specs.Fit.{FitTable}
 use Rattle.token.specs.Kind.{error, whitespace, new_line}
-use Rattle.token.specs.Token.{token_of}
 use Rattle.layout.specs.declared.Layout.{Layout}
 use Rattle.text.specs.Bytes.{byte_at}
 use Rattle.text.specs.Tests.{is_whitespace, is_line_end}
 use Rattle.text.specs.Count.{count_while}
 use Rattle.text.specs.Stands.{Stands, chars_from}
-use Rattle.state.specs.Lexer.{advanced_line, reach_of, settled, indented, token_to, token_along}
+use Rattle.state.specs.Lexer.{reach_of, settled, indented, token_to, token_along}
 use Rattle.state.specs.State.{state_of}
 use Rattle.state.specs.declared.Change.TheVariants.{Keep}
 use Rattle.state.specs.declared.Lexer.{Lexer}
@@ -37,7 +35,7 @@ use Rattle.plain.specs.declared.Plain.{Plain}
 use Rattle.short.specs.ShortLaws.{feed_at}
 use Rattle.brackets.specs.Brackets.{code_taken}
 use Rattle.brackets.specs.BracketsLaws.{arm_of_lem}
-use Rattle.turns.specs.Turns.{Ready, after_of, Writable, Written, Ran, TurnsIs}
+use Rattle.turns.specs.Turns.{Ready, after_of, Written, Ran, TurnsIs}
 use Rattle.turns.specs.TurnsLaws.{stands, half_is, turned_kept, ran_ran, turns_none, turns_one}
 use Rattle.turns.specs.declared.Turns.{Turns}
 use Rattle.fast_turns.specs.Steps.{Steady, CodeMode, Inside, InsideIf, CodeTurns, CodeRan}

@@ -4,7 +4,7 @@
 --     last_is, over_some    the last of them, part by part; it has bytes
 --     link_forward          a record that links does not end before it starts
 -- Assumes nothing.
-use Rattle.std.specs.Prelude.{ℕ, zero, suc, ◌+◌, ◌-◌, ◌≤◌, ◌<◌, ◌≡◌, refl, Bool, true, ◌&&◌, List, eqb, leb}
+use Rattle.std.specs.Prelude.{ℕ, zero, suc, ◌+◌, ◌≤◌, ◌<◌, ◌≡◌, refl, Bool, true, ◌&&◌, List, eqb, leb}
 use Rattle.std.proofs.Common.{arith, zero-add, sym, leb-true, eqb-true, lt-ltb, le-ltb}
 use Rattle.std.proofs.Math.Path.{subst}
 use Rattle.std.proofs.Math.Bool.{and-eq-true_iff}

@@ -2,8 +2,8 @@
 --     take_moves       of every token
 --     newline_keeps    so a NewLine leaves them
 -- Assumes nothing.
-use Rattle.std.specs.Prelude.{ℕ, ◌+◌, ◌≡◌, true, false, List, eqb, take, drop, Option, Some, None}
-use Rattle.std.proofs.Common.{arith, sym, subst, ◌∙◌, eqb-true}
+use Rattle.std.specs.Prelude.{ℕ, ◌+◌, ◌≡◌, List, eqb, take, drop, Option, Some, None}
+use Rattle.std.proofs.Common.{arith, eqb-true}
 use Rattle.std.proofs.Math.Path.{refl}
 use Rattle.std.proofs.lemmas.Bool.{eqb-false}
 use Rattle.base.specs.PickLaws.{by_test}

@@ -6,7 +6,7 @@
 --     counts_parts                   of eight bytes at a place
 -- Assumes nothing.
 use Rattle.std.specs.Prelude.{ℕ, zero, suc, ◌+◌, ◌*◌, ◌/◌, ◌%◌, ◌≤◌, ◌<◌, ◌≡◌, Bool, true, false, eqb, ltb, length, get_or, take, drop}
-use Rattle.std.proofs.Common.{arith, add-one, sym, ◌∙◌, length-drop, get_or-take, get_or-drop, length-take-le, eqb-true, ltb-true}
+use Rattle.std.proofs.Common.{arith, sym, ◌∙◌, length-drop, get_or-take, get_or-drop, length-take-le, eqb-true, ltb-true}
 use Rattle.std.proofs.Math.Path.{refl, ap}
 use mathlib.Core.List.{List, [], ◌∷◌}
 use Rattle.std.specs.Int.Bits.{bit_and, bit_or, bit_xor}

@@ -15,11 +15,9 @@ use Rattle.words.specs.Words.{is_word, else_word, r_word}
 use Rattle.keywords.specs.Keywords.{keyword_of}
 use Rattle.text.specs.Bytes.{byte_at}
 use Rattle.text.specs.Stands.{Stands, chars_from}
-use Rattle.state.specs.Lexer.{reach_of, token_along, token_to}
-use Rattle.state.specs.declared.Change.TheVariants.{Keep}
+use Rattle.state.specs.Lexer.{reach_of, token_along}
 use Rattle.state.specs.declared.Lexer.{Lexer}
-use Rattle.state.specs.declared.Taken.{Taken}
-use Rattle.names.specs.ConsumeIdOrKeyword.{name_end, keyword_or_id, name_token, consume_id_or_keyword}
+use Rattle.names.specs.ConsumeIdOrKeyword.{keyword_or_id, name_token}
 use Rattle.names.specs.NameLaws.{keyword_at, name_token_at}
 use Rattle.fast_names.specs.NameRun.{NameRun}
 use Rattle.fast_names.specs.NameRunLaws.{name_reach}

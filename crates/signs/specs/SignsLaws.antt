@@ -7,7 +7,7 @@
 --     minus_arrow, minus_equals, minus_alone, dot_alone    the symbols that it tells by the next byte
 --     opens_map, opens_format, closes, stays, closes_map, closes_none     what the symbols of a template do to its modes
 -- Assumes nothing.
-use Rattle.std.specs.Prelude.{ℕ, suc, ◌+◌, ◌≤◌, ◌<◌, ◌≡◌, refl, Bool, true, false, not, ◌&&◌, List, [], ◌∷◌, ltb, eqb, length, get_or, drop, Option, Some}
+use Rattle.std.specs.Prelude.{ℕ, suc, ◌+◌, ◌<◌, ◌≡◌, refl, Bool, true, false, not, ◌&&◌, List, [], ◌∷◌, eqb, length, get_or, drop, Option, Some}
 use Rattle.std.proofs.Common.{add-one, arith, sym, ap, subst, ◌∙◌, drop_of_length-le, drop-cons}
 use Rattle.std.proofs.Math.Bool.{and-eq-true_iff}
 use borrow.Author.Tests.{lt-ltb, le-ltb, ne_eqb, not-true}
@@ -29,9 +29,8 @@ use Rattle.state.specs.Lexer.{reach_of, advanced_line}
 use Rattle.state.specs.declared.Change.{Change}
 use Rattle.state.specs.declared.Change.TheVariants.{Keep, Push, Pop}
 use Rattle.state.specs.declared.Lexer.{Lexer}
-use Rattle.state.specs.declared.Taken.{Taken}
 use Rattle.symbol_tokens.specs.ConsumeSymbol.{symbol_change, symbol_token, consume_symbol}
-use Rattle.found.specs.Found.{Finds, found_along}
+use Rattle.found.specs.Found.{found_along}
 use Rattle.found.specs.FoundLaws.{finds_along}
 use Rattle.found.specs.declared.Found.{Found}
 use Rattle.signs.specs.Signs.{equals, Plain, Single, Alone, WithEquals, SignIs}

@@ -4,7 +4,7 @@
 --     finds_entry    the value of a row tells the symbol at the lexer's place
 -- Assumes nothing.
 use Rattle.std.specs.Prelude.{ℕ, ◌+◌, ◌*◌, ◌/◌, ◌%◌, ◌<◌, ◌≡◌, Bool, true, not, ◌&&◌, ◌||◌, length, get_or, drop, Option, Some, None}
-use Rattle.std.proofs.Common.{add-zero, arith, sym, subst, ◌∙◌, length-drop, get_or-drop, eqb-true, ne_eqb, lt-ltb, le-ltb}
+use Rattle.std.proofs.Common.{add-zero, arith, sym, ◌∙◌, length-drop, get_or-drop, eqb-true, ne_eqb, lt-ltb, le-ltb}
 use Rattle.std.proofs.Math.Path.{refl, ap}
 use Rattle.std.proofs.Math.Bool.{false, and-eq-true_iff}
 use mathlib.Core.List.{List, [], ◌∷◌}
@@ -29,7 +29,7 @@ use Rattle.plain.specs.Plain.{FindsPlain}
 use Rattle.plain.specs.PlainLaws.{plain_is}
 use Rattle.plain.specs.declared.Plain.{Plain}
 use Rattle.signs.specs.SignsLaws.{starts_byte, and_true, longer, is_plain, plain_kind, sign_taken}
-use Rattle.signs.specs.Table.{behind, entry_at, Tells, SignTable}
+use Rattle.signs.specs.Table.{behind, entry_at, SignTable}
 
 -- ---- one byte for all that symbols do not tell apart
 

@@ -1,7 +1,6 @@
 -- `fast_comments::consume_comment_multi` meets its contract. The loop's invariant is `Going`: what is found from here is what was to be found
 -- from the start; what stays is passed at once, and each arm cites its law of `Loops`. Assumes nothing.
 use native.Mathlib.Omega.{arith}
-use Prim.Native.Nat.{◌-◌}
 use mathlib.Core.Path.{sym, ap, ◌∙◌}
 use Rattle.position.specs.Place.{along_by}
 use Rattle.property.specs.Table.{properties_at}

@@ -2,7 +2,7 @@
 -- passed at once. A missing hash is the turn that passes the quote and the hashes before it, all of them the turn that closes; the other arms
 -- cite their laws of `Loops`. Assumes nothing.
 use native.Mathlib.Omega.{arith}
-use Prim.Native.Nat.{ℕ, ◌+◌, ◌-◌}
+use Prim.Native.Nat.{ℕ, ◌+◌}
 use mathlib.Core.Path.{refl, sym, ap, ◌∙◌}
 use Rattle.position.specs.declared.Reach.{Reach}
 use Rattle.property.specs.Table.{properties_at}

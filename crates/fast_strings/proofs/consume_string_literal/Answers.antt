@@ -1,7 +1,6 @@
 -- `fast_strings::consume_string_literal` meets its contract. The loop's invariant is `Going`: what is found from here is what was to be found
 -- from the start; what stays is passed at once, and each arm cites its law of `Loops`. Assumes nothing.
 use native.Mathlib.Omega.{arith}
-use Prim.Native.Nat.{◌-◌}
 use mathlib.Core.Path.{◌≡◌, refl, sym, ap, ◌∙◌}
 use lib.ListN.{drop}
 use Rattle.utf8.specs.Chars.{chars}

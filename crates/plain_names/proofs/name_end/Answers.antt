@@ -1,7 +1,7 @@
 -- `plain_names::name_end` meets its contract. The loop's invariant: all bytes so far are parts of a name; eight are passed as far as they were
 -- counted. Assumes nothing.
 use native.Mathlib.Omega.{arith}
-use Prim.Native.Nat.{◌+◌, ◌-◌, ◌≤◌}
+use Prim.Native.Nat.{◌+◌, ◌≤◌}
 use mathlib.Core.Path.{◌≡◌}
 use lib.ListN.{length}
 use Rattle.skip.specs.SkipLaws.{passes_none, passes_on, passes_count, passes_all}

@@ -1,6 +1,6 @@
 -- `short::blank` meets its contract: so many bytes of whitespace are its token, with the indent that they make. Assumes nothing.
 use native.Mathlib.Omega.{arith}
-use Prim.Native.Nat.{ℕ, ◌-◌}
+use Prim.Native.Nat.{ℕ}
 use mathlib.Core.Path.{sym, ap, subst}
 use Rattle.token.specs.Kind.{whitespace}
 use Rattle.text.specs.CountLaws.{whitespace_ascii}
