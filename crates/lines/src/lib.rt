@@ -9,6 +9,8 @@ mod report;
 mod rows;
 
 pub use fields::{Fields, hex, number, past};
-pub use files::{buffer, large_buffer, read_file, read_input, read_most};
+pub use files::{
+    buffer, large_buffer, load_file, load_input, read_file, read_full, read_input, read_most,
+};
 pub use report::{print_each, replay};
 pub use rows::within;

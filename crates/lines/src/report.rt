@@ -50,7 +50,7 @@ pub fn replay<F: FnMut(&[u8]) -> bool>(
     requires { F.IsAlwaysCallable agrees }
     ensures { IfOk result (λ r. r ≡ tt) }
 {
-    let text = files::read_file(rt, name, TEXT_MOST)?;
+    let text = files::load_file(rt, name, TEXT_MOST)?;
     let mut tally = Tally {
         agreed: 0,
         differ: 0,
@@ -71,7 +71,7 @@ pub fn print_each<F: FnMut(&[u8]) -> io::Result<()>>(
     requires { F.IsAlwaysCallable print }
     ensures { IfOk result (λ r. r ≡ tt) }
 {
-    let text = files::read_input(rt)?;
+    let text = files::load_input(rt)?;
     let mut at = 0;
     while at < text.len() {
         print(&text[at..])?;

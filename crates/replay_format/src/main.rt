@@ -39,7 +39,7 @@ fn agrees(line: &[u8], table: &[u32], edition: u32) -> bool {
 }
 
 fn main(rt: HostRuntime) -> io::Result<()> {
-    let Some(table) = tables::full_table(&rt, "full.kpt")? else {
+    let Some(table) = tables::load_table(&rt, "full.kpt")? else {
         return Ok(());
     };
     lines::replay(

@@ -1,0 +1,9 @@
+-- `lines::read_full`: each read that goes on has put a byte more in `text`, whose length stays.
+use Rattle.std.proofs.Common.{length, ◌-◌, ◌≤◌}
+use Rattle.lines.proofs.files.read_full.Given as goal
+
+abbrev pub invariant-loop-n : goal.invariant-loop-n
+invariant-loop-n g l = l.n ≤ length l.text
+
+abbrev pub decreases-loop-n : goal.decreases-loop-n
+decreases-loop-n g l = length l.initial.text - l.n
