@@ -19,12 +19,17 @@ pub struct Edit {
     pub put_in: usize,
 }
 
-// Whether n bytes of one row from index i on are those of another from index j on.
+// Whether n bytes of one row from index i on are those of another from index j on. It reads on after a difference, so that the compiler may
+// compare many bytes at once.
 fn same_run(a: &[u8], i: usize, b: &[u8], j: usize, n: usize) -> bool
     requires { (i + n ≤ length a.now) × (j + n ≤ length b.now) }
     ensures { result ≡ same_run a.now i b.now j n }
 {
-    a[i..i + n] == b[j..j + n]
+    let mut same = true;
+    for k in 0..n {
+        same &= a[i + k] == b[j + k];
+    }
+    same
 }
 
 // Whether sources of so many bytes may be the old and the new one of the edit. Nothing is added: a sum might not fit.

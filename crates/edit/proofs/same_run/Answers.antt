@@ -1,27 +1,39 @@
--- `edit::same_run` meets its contract: two slices of n bytes are equal exactly where the run is the same. Assumes nothing.
-use Prim.Native.Nat.{ℕ, ◌+◌, ◌-◌, ◌≤◌}
+-- `edit::same_run` meets its contract: `same` says so of the bytes that were compared. Assumes nothing.
+use Prim.Native.Nat.{ℕ, ◌+◌}
 use native.Mathlib.Omega.{arith}
-use mathlib.Core.Path.{◌≡◌, ◌∙◌}
+use native.Mathlib.Numerals.{add-one}
+use mathlib.Core.Path.{◌≡◌, refl, sym, ap, ◌∙◌}
+use mathlib.Core.Bool.{Bool, true, false, ◌&&◌}
 use mathlib.Core.List.{List}
 use lib.Dec.{eqb}
-use lib.ListN.{length, take, drop}
-use lib.Pointwise.{pointwise}
-use Rattle.std.proofs.lemmas.Slice.Eq.{bytes_eq-Decides}
+use lib.ListN.{get_or}
+use Rattle.base.specs.Pick.{pick}
 use Rattle.edit.specs.Edit.{same_run}
-use Rattle.edit.specs.EditLaws.{slices_same}
 use Rattle.edit.proofs.same_run.Goals as goal
 
--- what `==` says of the slices
-module _ (a : List ℕ) (i : ℕ) (b : List ℕ) (j n : ℕ) where
-  ends : (k : ℕ) → k + n - k ≡ n
-  ends k = omega arith
+also : (same here : Bool) → (same && here) ≡ pick here same false
+also true true = refl
+also true false = refl
+also false true = refl
+also false false = refl
 
-  compared : i + n ≤ length a → j + n ≤ length b → pointwise eqb (take (i + n - i) (drop i a)) (take (j + n - j) (drop j b)) ≡ same_run a i b j n
-  compared h k =
-      let d = bytes_eq-Decides (take n (drop i a)) (take n (drop j b)) in
-      (λ p. pointwise eqb (take (ends i p) (drop i a)) (take (ends j p) (drop j b))) ∙ slices_same a i b j n h k _ d.0 d.1
+-- one byte more
+one_more_lem : (a : List ℕ) (i : ℕ) (b : List ℕ) (j k : ℕ) {same : Bool} → same ≡ same_run a i b j k
+    → (same && eqb (get_or a (i + k) 0) (get_or b (j + k) 0)) ≡ same_run a i b j (k + 1)
+one_more_lem a i b j k {same} e =
+    also same (eqb (get_or a (i + k) 0) (get_or b (j + k) 0))
+    ∙ ap (λ (s : Bool). pick (eqb (get_or a (i + k) 0) (get_or b (j + k) 0)) s false) e
+    ∙ ap (same_run a i b j) (sym (add-one k))
+
+pub loop-k-init : goal.loop-k-init
+loop-k-init c = refl
+
+pub loop-k-preserved : goal.loop-k-preserved
+loop-k-preserved c =
+    let a = c.args in
+    one_more_lem a.a.now a.i a.b.now a.j c.loop-k.k c.loop-k.invariant
 
 pub returns : goal.returns
 returns c =
-    let a = c.args in
-    c.eq.ensures ∙ compared a.a.now a.i a.b.now a.j a.n c.requires.0 c.requires.1
+    let whole : c.loop-k.k ≡ c.args.n = omega arith in
+    c.loop-k.invariant ∙ ap (same_run _ _ _ _) whole
