@@ -89,12 +89,15 @@ pub fn is_new(counts: Counts, answer: Result<Added, AddError>) -> bool
     }
 }
 
-// Copies the string into a row of bytes, from index `at` on.
+// Copies the string into a row of bytes, from index `at` on. By a loop: `copy_from_slice` would have the archive for C need memmove, and it needs memcpy
+// and memset alone.
 pub fn copy_in(string: &[u8], bytes: &mut [u8], at: usize)
     requires { at + length string.now ≤ length bytes.old }
     ensures { bytes.new ≡ written bytes.old at string.now }
 {
-    bytes[at..at + string.len()].copy_from_slice(string);
+    for i in 0..string.len() {
+        bytes[at + i] = string[i];
+    }
 }
 
 // Writes entry n.
