@@ -1,5 +1,6 @@
 -- What `==` says of two rows, and what the loops over a pool's rows keep, over lists and numbers: for each loop how it starts, goes on and ends.
 --     told_same                                         `is_same`: `==` is `same`
+--     unlike, differs, goes_on                          `is_same`: what is left from i on is the same exactly where the whole is
 --     cut_out                                           the part of a row that `is_at` lends
 --     Searching: seek, found_here, not_here, none_left  `find_string`: the index among what is left, counted from i, is the index
 --     Running: run, broken, one_run, all_run            `runs_to`: the entries from i on run to the end exactly where all do
@@ -7,14 +8,16 @@
 use Prim.Native.Nat.{ℕ, suc, ◌+◌, ◌-◌, ◌<◌, ◌≤◌}
 use native.Mathlib.Omega.{arith}
 use native.Mathlib.Numerals.{add-one}
-use mathlib.Core.Path.{◌≡◌, refl}
+use mathlib.Core.Path.{◌≡◌, refl, ap, ◌∙◌}
 use mathlib.Core.Bool.{Bool, true, false, ◌&&◌}
 use mathlib.Core.List.{List, [], ◌∷◌}
 use lib.Dec.{eqb}
-use lib.ListN.{take, drop}
+use lib.ListN.{length, get_or, take, drop}
 use lib.Pointwise.{pointwise}
+use lib.Seq.{drop-cons}
 use borrow.Author.Tests.{eq-eqb, ne_eqb}
 use Rattle.base.specs.Pick.{pick}
+use Rattle.base.specs.PickLaws.{by_test}
 use Rattle.pool_rows.specs.Rows.{start_of, length_of, string_at, strings_from, strings_of, same, index_of, runs_to}
 
 -- ---- two strings, byte by byte
@@ -29,6 +32,24 @@ told_same (x ∷ xs) (y ∷ ys) = told_head (eqb x y) _ _ (told_same xs ys)
     told_head : (t p q : Bool) → p ≡ q → (t && p) ≡ pick t q false
     told_head true p q e = e
     told_head false p q e = refl
+
+pub unlike : (a b : List ℕ) → (length a ≡ length b → ⊥) → same a b ≡ false
+unfolding same
+unlike [] [] h = absurd (h refl)
+unlike [] (y ∷ ys) h = refl
+unlike (x ∷ xs) [] h = refl
+unlike (x ∷ xs) (y ∷ ys) h = by_test (λ (t : Bool). t ≡ false) (eqb x y) (λ e. unlike xs ys (λ f. h (ap suc f))) (λ e. refl)
+
+module _ (a b : List ℕ) (i : ℕ) (ha : i < length a) (hb : i < length b) where
+  one_byte_lem : same (drop i a) (drop i b) ≡ pick (eqb (get_or a i 0) (get_or b i 0)) (same (drop (suc i) a) (drop (suc i) b)) false
+  unfolding same
+  one_byte_lem = rw (drop-cons a i 0 ha, drop-cons b i 0 hb)
+
+  pub differs : (get_or a i 0 ≡ get_or b i 0 → ⊥) → same (drop i a) (drop i b) ≡ false
+  differs h = one_byte_lem ∙ simp (ne_eqb _ _ h)
+
+  pub goes_on : get_or a i 0 ≡ get_or b i 0 → same (drop i a) (drop i b) ≡ same (drop (i + 1) a) (drop (i + 1) b)
+  goes_on e = one_byte_lem ∙ simp (eq-eqb _ _ e, add-one)
 
 pub cut_out : (bytes string : List ℕ) (start long end : ℕ) → end ≡ start + long
     → same (take (end - start) (drop start bytes)) string ≡ same (take long (drop start bytes)) string
