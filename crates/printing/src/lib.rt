@@ -38,16 +38,28 @@ pub fn numbers(row: Row) -> [u32; 10]
     ]
 }
 
-// Prints a record, by its ten numbers with one space between two of them.
+// Prints number i of a line, and the space before it.
+fn print_field(rt: &impl Print, i: usize, x: u32) -> io::Result<()> {
+    if 0 < i {
+        rt.print(" ")?;
+    }
+    rt.print(x)
+}
+
+// Prints numbers with one space between two of them. In two functions LLVM inlines more of it.
+fn print_numbers(rt: &impl Print, numbers: &[u32]) -> io::Result<()> {
+    for (i, x) in numbers.iter().enumerate() {
+        print_field(rt, i, *x)?;
+    }
+    Ok(())
+}
+
+// Prints a record, by its ten numbers.
 pub fn print_row(rt: &impl Print, row: Row) -> io::Result<()>
     ensures { IfOk result (λ r. r ≡ tt) }
 {
-    for (i, x) in numbers(row).iter().enumerate() {
-        if 0 < i {
-            rt.print(" ")?;
-        }
-        rt.print(*x)?;
-    }
+    let ten = numbers(row);
+    print_numbers(rt, &ten)?;
     rt.println("")
 }
 
@@ -75,14 +87,15 @@ pub fn print_rows(rt: &impl Print, list: &[u32], count: usize) -> io::Result<()>
 // A word with a space after it, and two numbers.
 fn print_last(rt: &impl Print, word: &[u8], first: u64, second: usize) -> io::Result<()> {
     rt.write_all(word)?;
-    println!(rt; "{first} {second}")
+    print_number(rt, first, b" ")?;
+    print_number(rt, second as u64, b"\n")
 }
 
 // Prints a refusal: its number and its place.
 pub fn print_refused(rt: &impl Print, number: u32, place: usize) -> io::Result<()>
     ensures { IfOk result (λ r. r ≡ tt) }
 {
-    println!(rt; "refused {number} {place}")
+    print_last(rt, b"refused ", number as u64, place)
 }
 
 // Prints how a scan ended: its status with the count of records and the current byte, or the number and the place of its refusal.
