@@ -18,7 +18,8 @@ fn print_line(rt: &impl Print, line: &[u8]) -> io::Result<()> {
     let mut call_buffer = walking::line_buffer();
     let calls = fields.hex(&mut call_buffer);
     let mut source_buffer = lines::buffer();
-    let source = fields.hex(&mut source_buffer);
+    // The last field: where it ends is not looked for, since with no space that is the end of the text.
+    let source = lines::hex(fields.rest, &mut source_buffer);
     print_walk(rt, calls, source)
 }
 
